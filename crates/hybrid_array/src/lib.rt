@@ -23,3 +23,7 @@ impl<const N: usize> ArraySize for Size<N> {
 
     ghost USIZE = { N };
 }
+
+/// A slice has another length than the size.
+#[derive(Clone, Copy, Debug, PartialEq, Eq)]
+pub struct TryFromSliceError;

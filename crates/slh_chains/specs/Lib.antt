@@ -1,0 +1,4 @@
+pub mod Bytes
+pub mod Address
+pub mod Suite
+pub mod Parameters

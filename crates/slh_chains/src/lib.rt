@@ -1,0 +1,8 @@
+//! Hash suites, addresses, digits and WOTS+ key pairs (FIPS 205, sections 4 and 5), over any suite.
+#![tactic(auto)]
+
+pub mod address;
+pub mod nbytes;
+pub mod params;
+pub mod steps;
+pub mod suite;
