@@ -13,13 +13,16 @@ pub record Suite : Type 0 where
   -- of the signature's randomizer, the public seed, the root and the message
   pub h_msg : List ℕ → List ℕ → List ℕ → List ℕ → List ℕ
 
--- each function gives n bytes, and the digest of a message m bytes
-pub record HasLength (S : Suite) (n m : ℕ) : Type 0 where
+-- each function but the digest gives n bytes
+pub record HasLength (S : Suite) (n : ℕ) : Type 0 where
   pub f : (s a x : List ℕ) → length (S.f s a x) ≡ n
   pub h : (s a l r : List ℕ) → length (S.h s a l r) ≡ n
   pub t : (s a x : List ℕ) → length (S.t s a x) ≡ n
   pub prf : (s a sk : List ℕ) → length (S.prf s a sk) ≡ n
   pub prf_msg : (key opt message : List ℕ) → length (S.prf_msg key opt message) ≡ n
+
+-- the digest of a message has m bytes
+pub record HasDigestLength (S : Suite) (m : ℕ) : Type 0 where
   pub h_msg : (r s root message : List ℕ) → length (S.h_msg r s root message) ≡ m
 
 -- a suite with the number of its bytes and a public seed, for which chains and trees are computed

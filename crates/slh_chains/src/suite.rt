@@ -1,6 +1,6 @@
 //! What a hash suite is.
 ghost use Rattle.std.specs.Prelude.{◌≡◌, ℕ, ◌+◌, ◌^◌, ◌≤◌, List, ◌++◌, length};
-ghost use Rattle.slh_chains.specs.Suite.{Suite, HasLength};
+ghost use Rattle.slh_chains.specs.Suite.{Suite, HasLength, HasDigestLength};
 
 use crate::address::Address;
 use crate::nbytes::NBytes;
@@ -101,6 +101,9 @@ pub trait HashSuite {
         ensures { let message = head.now ++ ctx.now ++ msg.now in
             out.new ≡ suite.h_msg rand.now pk_seed.now pk_root.now message };
 
-    /// Each function gives as many bytes as the types say.
-    ghost lengths: { Self.N.USIZE ≤ 32 → Self.M.USIZE ≤ 256 → HasLength suite Self.N.USIZE Self.M.USIZE };
+    /// Each function gives as many bytes as its type says.
+    ghost lengths: { Self.N.USIZE ≤ 32 → HasLength suite Self.N.USIZE };
+
+    /// So does the digest of a message.
+    ghost digest_length: { Self.M.USIZE ≤ 256 → HasDigestLength suite Self.M.USIZE };
 }
