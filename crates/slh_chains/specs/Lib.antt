@@ -2,3 +2,5 @@ pub mod Bytes
 pub mod Address
 pub mod Suite
 pub mod Parameters
+pub mod Digits
+pub mod Chain

@@ -61,7 +61,8 @@ impl Address for WotsHash {
 
     ghost TYPE_CONST = { 0 };
 
-    ghost bytes = { λ a. address_bytes a.layer_adrs a.tree_adrs_low 0 a.key_pair_adrs a.chain_adrs a.hash_adrs };
+    ghost bytes = { λ a. address_bytes a.layer_adrs a.tree_adrs_low 0
+        a.key_pair_adrs a.chain_adrs a.hash_adrs };
 
     #[inline]
     fn to_bytes(&self) -> [u8; 32] {
@@ -99,6 +100,20 @@ impl Default for WotsHash {
 }
 
 impl WotsHash {
+    /// The address of a step of a chain of the same key pair.
+    #[inline]
+    pub(crate) fn at_step(&self, chain: u32, step: u32) -> WotsHash
+        ensures { result ≡ record self.now { chain_adrs = chain; hash_adrs = step } }
+    {
+        WotsHash {
+            layer_adrs: self.layer_adrs,
+            tree_adrs_low: self.tree_adrs_low,
+            key_pair_adrs: self.key_pair_adrs,
+            chain_adrs: chain,
+            hash_adrs: step,
+        }
+    }
+
     /// The address of the secret of chain 0 of this key pair.
     pub fn prf_adrs(&self) -> WotsPrf
         ensures { let a = self.now in
@@ -194,7 +209,8 @@ impl Address for HashTree {
 
     ghost TYPE_CONST = { 2 };
 
-    ghost bytes = { λ a. address_bytes a.layer_adrs a.tree_adrs_low 2 0 a.tree_height a.tree_index };
+    ghost bytes = { λ a. address_bytes a.layer_adrs a.tree_adrs_low 2
+        0 a.tree_height a.tree_index };
 
     #[inline]
     fn to_bytes(&self) -> [u8; 32] {
@@ -223,7 +239,8 @@ impl Address for ForsTree {
 
     ghost TYPE_CONST = { 3 };
 
-    ghost bytes = { λ a. address_bytes 0 a.tree_adrs_low 3 a.key_pair_adrs a.tree_height a.tree_index };
+    ghost bytes = { λ a. address_bytes 0 a.tree_adrs_low 3
+        a.key_pair_adrs a.tree_height a.tree_index };
 
     #[inline]
     fn to_bytes(&self) -> [u8; 32] {
@@ -328,7 +345,8 @@ impl Address for WotsPrf {
 
     ghost TYPE_CONST = { 5 };
 
-    ghost bytes = { λ a. address_bytes a.layer_adrs a.tree_adrs_low 5 a.key_pair_adrs a.chain_adrs 0 };
+    ghost bytes = { λ a. address_bytes a.layer_adrs a.tree_adrs_low 5
+        a.key_pair_adrs a.chain_adrs 0 };
 
     #[inline]
     fn to_bytes(&self) -> [u8; 32] {
@@ -368,5 +386,27 @@ impl Address for ForsPrf {
             0,
             self.tree_index,
         )
+    }
+}
+
+#[cfg(test)]
+mod tests {
+    use super::*;
+    use std::test::Fail;
+
+    // Cut by hand from the 32 bytes (FIPS 205, section 11.2).
+    #[test]
+    fn compressed_bytes(rt: HostRuntime) {
+        let adrs = WotsHash {
+            layer_adrs: 1,
+            tree_adrs_low: 0x0203,
+            key_pair_adrs: 4,
+            chain_adrs: 5,
+            hash_adrs: 6,
+        };
+        let want = [
+            1, 0, 0, 0, 0, 0, 0, 2, 3, 0, 0, 0, 0, 4, 0, 0, 0, 5, 0, 0, 0, 6,
+        ];
+        assert_eq!(rt; adrs.compressed(), want);
     }
 }

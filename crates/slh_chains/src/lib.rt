@@ -2,7 +2,10 @@
 #![tactic(auto)]
 
 pub mod address;
+pub mod digits;
 pub mod nbytes;
 pub mod params;
+pub mod parts;
 pub mod steps;
 pub mod suite;
+pub mod wots;
