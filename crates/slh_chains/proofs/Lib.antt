@@ -1,2 +1,3 @@
 pub mod DigitSteps
 pub mod Joins
+pub mod Chains

@@ -3,6 +3,7 @@
 
 pub mod address;
 pub mod digits;
+pub mod laws;
 pub mod nbytes;
 pub mod params;
 pub mod parts;
