@@ -1,0 +1,2 @@
+pub mod Merkle
+pub mod Tree

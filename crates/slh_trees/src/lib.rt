@@ -1,0 +1,5 @@
+//! XMSS trees, the hypertree and FORS (FIPS 205, sections 6 to 8), over any hash suite.
+#![tactic(auto)]
+
+mod climb;
+pub mod xmss;

@@ -1,0 +1,144 @@
+//! XMSS: the trees of a layer (FIPS 205, section 6).
+ghost use Rattle.std.specs.Prelude.{◌≡◌, ◌+◌, ◌-◌, ◌*◌, ◌^◌, ◌≤◌, ◌<◌, ◌++◌, length, sum};
+ghost use Rattle.slh_chains.specs.Digits.{wots_digits};
+ghost use Rattle.slh_chains.specs.Suite.{seeded};
+ghost use Rattle.slh_trees.specs.Tree.{node as tree_node, node_path, signed_leaf, checked_node};
+
+use crate::climb::{climb_path, sibling};
+use hybrid_array::ArraySize;
+use slh_chains::address::{HashTree, WotsHash};
+use slh_chains::nbytes::NBytes;
+use slh_chains::params::{XmssParams, tree_sizes};
+use slh_chains::parts::put_part;
+use slh_chains::steps::Steps;
+use slh_chains::wots::{wots_pk_from_sig, wots_pk_gen, wots_sign};
+use std::sync::ledger::Ledger;
+
+/// The address of another key pair of the same tree.
+#[inline]
+fn at_leaf(adrs: &WotsHash, key_pair: u32) -> WotsHash
+    ensures { result ≡ record adrs.now { key_pair_adrs = key_pair; chain_adrs = 0; hash_adrs = 0 } }
+{
+    WotsHash {
+        layer_adrs: adrs.layer_adrs,
+        tree_adrs_low: adrs.tree_adrs_low,
+        key_pair_adrs: key_pair,
+        chain_adrs: 0,
+        hash_adrs: 0,
+    }
+}
+
+/// The node with index `node` at a height of the tree of an address (FIPS 205, algorithm 9).
+#[tactic(auto, using(crate::proofs::Powers::twice, crate::proofs::TreeSteps::merkle_above), unfolding(crate::specs::Merkle::merkle))]
+pub fn xmss_node<P: XmssParams, L: Ledger>(
+    sk_seed: &NBytes<P::N>,
+    node: u32,
+    height: u32,
+    keyed: &P::Keyed,
+    adrs: &WotsHash,
+    steps: &mut Steps<L>,
+) -> NBytes<P::N>
+    requires height { height ≤ P.HPrime.USIZE }
+    requires node { node < 2 ^ (P.HPrime.USIZE - height) }
+    ensures value { let K = seeded P.suite P.N.USIZE (P.seed_of keyed.now) in
+        let a = adrs.now in
+        result ≡ tree_node K sk_seed.now a.layer_adrs a.tree_adrs_low height node }
+    ensures cost { steps.new + 1 ≡ steps.old + 2 ^ height * (16 * P.WotsSigLen.USIZE + 2) }
+{
+    tree_sizes::<P>();
+    if height == 0 {
+        return wots_pk_gen::<P, L>(sk_seed, keyed, &at_leaf(adrs, node), steps);
+    }
+    let left = xmss_node::<P, L>(sk_seed, 2 * node, height - 1, keyed, adrs, steps);
+    let right = xmss_node::<P, L>(sk_seed, 2 * node + 1, height - 1, keyed, adrs, steps);
+    let at = HashTree {
+        tree_height: height,
+        tree_index: node,
+        ..adrs.tree_adrs()
+    };
+    P::h(keyed, &at, &left, &right, steps)
+}
+
+/// Writes the siblings on the way up from leaf `idx`.
+#[tactic(auto, using(crate::proofs::Powers::twice, crate::proofs::Powers::sibling_below), unfolding(crate::specs::Merkle::merkle_path, slh_chains::specs::Bytes::joined))]
+fn write_path<P: XmssParams, L: Ledger>(
+    sk_seed: &NBytes<P::N>,
+    keyed: &P::Keyed,
+    idx: u32,
+    adrs: &WotsHash,
+    out: &mut [u8],
+    steps: &mut Steps<L>,
+)
+    requires idx { idx < 2 ^ P.HPrime.USIZE }
+    requires room { length out.old ≡ P.HPrime.USIZE * P.N.USIZE }
+    ensures value { let K = seeded P.suite P.N.USIZE (P.seed_of keyed.now) in
+        let a = adrs.now in
+        out.new ≡ node_path K sk_seed.now a.layer_adrs a.tree_adrs_low idx P.HPrime.USIZE }
+    ensures cost { let leaf_cost = 16 * P.WotsSigLen.USIZE + 2 in
+        steps.new + P.HPrime.USIZE + leaf_cost ≡ steps.old + 2 ^ P.HPrime.USIZE * leaf_cost }
+{
+    tree_sizes::<P>();
+    let n = P::N::USIZE;
+    let height = P::HPrime::USIZE;
+    for z in 0..height {
+        let value = xmss_node::<P, L>(sk_seed, sibling(idx >> z), z as u32, keyed, adrs, steps);
+        put_part(out, n, z, value.as_slice());
+    }
+}
+
+/// Writes the signature of a message under leaf `idx`: the key pair's signature, and the siblings on
+/// the way up (FIPS 205, algorithm 10).
+pub fn xmss_sign<P: XmssParams, L: Ledger>(
+    m: &NBytes<P::N>,
+    sk_seed: &NBytes<P::N>,
+    keyed: &P::Keyed,
+    idx: u32,
+    adrs: &WotsHash,
+    out: &mut [u8],
+    steps: &mut Steps<L>,
+)
+    requires idx { idx < 2 ^ P.HPrime.USIZE }
+    requires room { length out.old ≡ (P.WotsSigLen.USIZE + P.HPrime.USIZE) * P.N.USIZE }
+    ensures value { let K = seeded P.suite P.N.USIZE (P.seed_of keyed.now) in
+        let a = adrs.now in
+        let hp = P.HPrime.USIZE in
+        out.new ≡ signed_leaf K sk_seed.now a.layer_adrs a.tree_adrs_low hp idx m.now }
+    ensures cost { let digits = wots_digits P.N.USIZE m.now in
+        let tree_cost = 2 ^ P.HPrime.USIZE * (16 * P.WotsSigLen.USIZE + 2) in
+        steps.new + P.HPrime.USIZE + (15 * P.WotsSigLen.USIZE + 2)
+        ≡ steps.old + sum digits + tree_cost }
+    ensures bound { steps.new + 1 ≤ steps.old + 2 ^ P.HPrime.USIZE * (16 * P.WotsSigLen.USIZE + 2) }
+{
+    tree_sizes::<P>();
+    let split = P::WotsSigLen::USIZE * P::N::USIZE;
+    let (chains, path) = out.split_at_mut(split);
+    wots_sign::<P, L>(m, sk_seed, keyed, &at_leaf(adrs, idx), chains, steps);
+    write_path::<P, L>(sk_seed, keyed, idx, adrs, path, steps);
+}
+
+/// The root that the signature of a message under leaf `idx` leads to (FIPS 205, algorithm 11).
+#[tactic(auto, unfolding(crate::specs::Tree::checked_node))]
+pub fn xmss_pk_from_sig<P: XmssParams, L: Ledger>(
+    idx: u32,
+    sig: &[u8],
+    m: &NBytes<P::N>,
+    keyed: &P::Keyed,
+    adrs: &WotsHash,
+    steps: &mut Steps<L>,
+) -> NBytes<P::N>
+    requires idx { idx < 2 ^ P.HPrime.USIZE }
+    requires whole { length sig.now ≡ (P.WotsSigLen.USIZE + P.HPrime.USIZE) * P.N.USIZE }
+    ensures value { let K = seeded P.suite P.N.USIZE (P.seed_of keyed.now) in
+        let a = adrs.now in
+        let hp = P.HPrime.USIZE in
+        result ≡ checked_node K a.layer_adrs a.tree_adrs_low hp idx sig.now m.now }
+    ensures cost { let digits = wots_digits P.N.USIZE m.now in
+        steps.new + sum digits ≡ steps.old + (15 * P.WotsSigLen.USIZE + 1 + P.HPrime.USIZE) }
+    ensures bound { steps.new ≤ steps.old + (15 * P.WotsSigLen.USIZE + 1 + P.HPrime.USIZE) }
+{
+    tree_sizes::<P>();
+    let height = P::HPrime::USIZE;
+    let (chains, path) = sig.split_at(P::WotsSigLen::USIZE * P::N::USIZE);
+    let leaf = wots_pk_from_sig::<P, L>(chains, m, keyed, &at_leaf(adrs, idx), steps);
+    climb_path::<P, HashTree, L>(&leaf, idx, height, path, keyed, &adrs.tree_adrs(), steps)
+}
