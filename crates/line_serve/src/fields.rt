@@ -1,0 +1,68 @@
+//! The fields of a line. One carriage return at the line's end is dropped, and what is left is cut
+//! at its spaces (0x20); parts without bytes are no fields.
+ghost use Rattle.std.specs.Prelude.{◌≡◌, ◌++◌, length, slice_get, true, false, IfOk, OnErr, MatchOption};
+ghost use Rattle.std.specs.Option.{option_copied};
+ghost use Rattle.std.specs.Str.Lines.{strip_carriage_return};
+ghost use Rattle.line_serve.specs.Fields.{fields, hex_value, is_dash};
+
+use crate::bytes::ByteString;
+use hex::FromHexError;
+use std::alloc::{AllocError, Global};
+
+// The line without one carriage return at its end.
+fn without_return(line: &[u8]) -> &[u8]
+    ensures { result.now ≡ strip_carriage_return line.now }
+{
+    match line {
+        [front @ .., b'\r'] => front,
+        _ => line,
+    }
+}
+
+/// How many fields the line has.
+pub fn count_fields(line: &[u8]) -> usize
+    ensures { result ≡ length (fields line.now) }
+{
+    without_return(line)
+        .split(|b| *b == b' ')
+        .filter(|part| !part.is_empty())
+        .count()
+}
+
+/// The field at an index from 0, `None` where the line has not so many.
+pub fn field(line: &[u8], i: usize) -> Option<&[u8]>
+    ensures { option_copied result ≡ slice_get (fields line.now) i }
+{
+    without_return(line)
+        .split(|b| *b == b' ')
+        .filter(|part| !part.is_empty())
+        .nth(i)
+}
+
+fn is_only_dash(field: &[u8]) -> bool
+    ensures { result ≡ is_dash field.now }
+{
+    field.len() == 1 && field[0] == b'-'
+}
+
+/// Puts the bytes that a field stands for at the end of `out`: none for `-`, else those of its
+/// hexadecimal digits, of either case. `false`, with `out` as it was, where the field is neither
+/// `-` nor an even number of digits.
+pub fn hex_field(alloc: Global, bytes: &[u8], out: &mut ByteString) -> Result<bool, AllocError>
+    ensures ok { IfOk result (λ found. MatchOption (hex_value bytes.now)
+        ((found ≡ false) × (out.new ≡ out.old))
+        (λ value. (found ≡ true) × (out.new ≡ out.old ++ value))) }
+    ensures err { OnErr result (out.new ≡ out.old) }
+{
+    if is_only_dash(bytes) {
+        return Ok(true);
+    }
+    match hex::decode(alloc, bytes) {
+        Ok(value) => {
+            out.push_slice(&value)?;
+            Ok(true)
+        }
+        Err(FromHexError::OutOfMemory) => Err(AllocError),
+        Err(_) => Ok(false),
+    }
+}

@@ -1,0 +1,263 @@
+//! Sources and sinks in memory. [`MemSource`] and [`MemSink`] number their calls from 0, and fail
+//! at those whose numbers they were given, so that a test can try each fault in turn.
+ghost use Rattle.std.specs.Prelude.{◌≡◌, ◌↔◌, [], ◌+◌, ◌<◌, ◌≤◌, ◌^◌, ◌++◌, None, Some, List, ℕ, length, take, drop, min, Contains, unwrap_or, IsErr, IsTrue, IsOk, IfOk, OnOk, OnErr, if◌then◌else◌, vec_len};
+ghost use Rattle.std.specs.Io.{ReadsAtMost};
+ghost use Rattle.std.specs.Io.KnownBytes.{ReadConsumes, WriteAppends};
+ghost use Rattle.line_serve.specs.Causes.{HasCause, Rose};
+
+use crate::stream::{Failed, Sink, Source};
+use std::alloc::Global;
+
+// Copies the front of `bytes` into `buf`, as much as fits, and says how much.
+fn copy_front(bytes: &[u8], buf: &mut [u8]) -> usize
+    ensures count { result ≡ min (length bytes.now) (length buf.old) }
+    ensures front { take result buf.new ≡ take result bytes.now }
+{
+    let count = bytes.len().min(buf.len());
+    buf[..count].copy_from_slice(&bytes[..count]);
+    count
+}
+
+// Whether the list has the number, of which there is none past the last of 64 bits.
+fn is_listed(numbers: &[u64], number: Option<u64>) -> bool
+    ensures { IsTrue result ↔ Contains numbers.now (unwrap_or number (2 ^ 64)) }
+{
+    match number {
+        Some(number) => numbers.contains(&number),
+        None => false,
+    }
+}
+
+// The calls that are to fail, by their numbers, and how many did.
+#[derive(Drop)]
+struct Script {
+    fails: Vec<u64>,
+    next: Option<u64>,
+    faults: u64,
+}
+
+impl Script {
+    ghost use Rattle.line_serve.specs.Memory.{number_of, one_more};
+
+    fn new(fails: Vec<u64>) -> Self
+        ensures fails { result.fails ≡ fails }
+        ensures number { number_of result ≡ 0 }
+        ensures faults { result.faults ≡ 0 }
+    {
+        Script {
+            fails,
+            next: Some(0),
+            faults: 0,
+        }
+    }
+
+    // Whether the next call is to fail, which then counts as a fault.
+    fn next_fails(&mut self) -> bool
+        ensures listed { IsTrue result ↔ Contains self.old.fails.items (number_of self.old) }
+        ensures number { number_of self.new ≡ min (number_of self.old + 1) (2 ^ 64) }
+        ensures faults { self.new.faults
+            ≡ (if result then one_more self.old.faults else self.old.faults) }
+        ensures later { self.old.faults ≤ self.new.faults }
+        ensures rose { IsTrue result → Rose self.old.faults self.new.faults }
+        ensures same { self.new.fails ≡ self.old.fails }
+    {
+        let fails = is_listed(&self.fails, self.next);
+        self.next = match self.next {
+            Some(number) => number.checked_add(1),
+            None => None,
+        };
+        if fails {
+            self.count_fault();
+        }
+        fails
+    }
+
+    fn count_fault(&mut self)
+        ensures counted { self.new ≡ record self.old { faults = one_more self.old.faults } }
+        ensures later { self.old.faults ≤ self.new.faults }
+        ensures rose { Rose self.old.faults self.new.faults }
+    {
+        self.faults = self.faults.saturating_add(1);
+    }
+}
+
+/// A source that never fails. It gives as many bytes as are asked for, while there are any.
+#[derive(Drop)]
+pub struct QuietSource {
+    bytes: Vec<u8>,
+    at: usize,
+    ghost within: { at ≤ vec_len bytes },
+}
+
+impl QuietSource {
+    ghost use Rattle.line_serve.specs.Memory.{quiet_left};
+
+    /// A source of these bytes.
+    pub fn new(bytes: Vec<u8>) -> Self
+        ensures { quiet_left result ≡ bytes.items }
+    {
+        QuietSource { bytes, at: 0 }
+    }
+}
+
+impl Source for QuietSource {
+    ghost use Rattle.line_serve.specs.Memory.{quiet_left};
+
+    ghost left = { λ s. Some (quiet_left s) };
+
+    ghost faults = { λ s. 0 };
+
+    fn read(&mut self, buf: &mut [u8]) -> Result<usize, Failed>
+        ensures bound { ReadsAtMost result buf.new }
+        ensures bytes { ReadConsumes (Some (quiet_left self.old)) (Some (quiet_left self.new))
+            result buf.new }
+        ensures cause { HasCause 0 0 result }
+        ensures ok { IsOk result }
+    {
+        let count = copy_front(&self.bytes[self.at..], buf);
+        self.at += count;
+        Ok(count)
+    }
+}
+
+/// A source of which chosen reads fail. The others give as many bytes as are asked for, while there
+/// are any.
+#[derive(Drop)]
+pub struct MemSource {
+    quiet: QuietSource,
+    script: Script,
+}
+
+impl MemSource {
+    ghost use Rattle.line_serve.specs.Memory.{source_left, source_fails, source_number, source_faults};
+
+    /// A source of these bytes, of which the reads with the numbers `fails` fail, the first read
+    /// being 0.
+    pub fn new(bytes: Vec<u8>, fails: Vec<u64>) -> Self
+        ensures left { source_left result ≡ bytes.items }
+        ensures fails { source_fails result ≡ fails.items }
+        ensures number { source_number result ≡ 0 }
+        ensures faults { source_faults result ≡ 0 }
+    {
+        MemSource {
+            quiet: QuietSource::new(bytes),
+            script: Script::new(fails),
+        }
+    }
+}
+
+impl Source for MemSource {
+    ghost use Rattle.line_serve.specs.Memory.{source_left, source_fails, source_number, source_faults};
+
+    ghost left = { λ s. Some (source_left s) };
+
+    ghost faults = { λ s. source_faults s };
+
+    fn read(&mut self, buf: &mut [u8]) -> Result<usize, Failed>
+        ensures bound { ReadsAtMost result buf.new }
+        ensures bytes { ReadConsumes (Some (source_left self.old)) (Some (source_left self.new))
+            result buf.new }
+        ensures cause { HasCause (source_faults self.old) (source_faults self.new) result }
+        ensures listed { IsErr result ↔ Contains (source_fails self.old) (source_number self.old) }
+        ensures number { source_number self.new ≡ min (source_number self.old + 1) (2 ^ 64) }
+        ensures fails { source_fails self.new ≡ source_fails self.old }
+    {
+        if self.script.next_fails() {
+            return Err(Failed);
+        }
+        self.quiet.read(buf)
+    }
+}
+
+/// A sink that keeps what is written. Chosen writes fail, and those that find no memory.
+#[derive(Drop)]
+pub struct MemSink {
+    bytes: Vec<u8>,
+    script: Script,
+    refused: u64,
+}
+
+impl MemSink {
+    ghost use Rattle.line_serve.specs.Memory.{sink_bytes, sink_fails, sink_number, sink_faults, sink_refused};
+
+    /// A sink of which the writes with the numbers `fails` fail, the first write being 0.
+    pub fn new(alloc: Global, fails: Vec<u64>) -> Self
+        ensures bytes { sink_bytes result ≡ [] }
+        ensures fails { sink_fails result ≡ fails.items }
+        ensures number { sink_number result ≡ 0 }
+        ensures faults { sink_faults result ≡ 0 }
+        ensures refused { sink_refused result ≡ 0 }
+    {
+        MemSink {
+            bytes: Vec::new(alloc),
+            script: Script::new(fails),
+            refused: 0,
+        }
+    }
+
+    /// The bytes that were written so far.
+    pub fn bytes(&self) -> &[u8]
+        ensures { result.now ≡ sink_bytes self.now }
+    {
+        &self.bytes
+    }
+
+    /// How many writes found no memory, up to 2^64 - 1. Each is a fault too.
+    pub fn refused(&self) -> u64
+        ensures { result ≡ sink_refused self.now }
+    {
+        self.refused
+    }
+}
+
+impl Sink for MemSink {
+    ghost use Rattle.line_serve.specs.Memory.{sink_bytes, sink_fails, sink_number, sink_faults, sink_refused};
+
+    ghost taken = { λ k. Some (sink_bytes k) };
+
+    ghost faults = { λ k. sink_faults k };
+
+    fn write(&mut self, piece: &[u8]) -> Result<usize, Failed>
+        ensures bound { IfOk result (λ n. n ≤ length piece.now) }
+        ensures progress { IfOk result (λ n. 0 < length piece.now → 0 < n) }
+        ensures bytes { WriteAppends (Some (sink_bytes self.old)) (Some (sink_bytes self.new))
+            result piece.now }
+        ensures cause { HasCause (sink_faults self.old) (sink_faults self.new) result }
+        ensures listed { Contains (sink_fails self.old) (sink_number self.old)
+            → IsErr result × (sink_refused self.new ≡ sink_refused self.old) }
+        ensures refused { OnErr result ((Contains (sink_fails self.old) (sink_number self.old) → ⊥)
+            → Rose (sink_refused self.old) (sink_refused self.new)) }
+        ensures kept { OnOk result (sink_refused self.new ≡ sink_refused self.old) }
+        ensures number { sink_number self.new ≡ min (sink_number self.old + 1) (2 ^ 64) }
+        ensures fails { sink_fails self.new ≡ sink_fails self.old }
+    {
+        if self.script.next_fails() {
+            return Err(Failed);
+        }
+        if self.bytes.extend_from_slice(piece).is_err() {
+            self.refused = self.refused.saturating_add(1);
+            self.script.count_fault();
+            return Err(Failed);
+        }
+        Ok(piece.len())
+    }
+}
+
+/// A sink that takes everything, and keeps and tells nothing.
+#[derive(Clone, Copy, Debug, Drop)]
+pub struct NullSink;
+
+impl Sink for NullSink {
+    ghost taken = { λ _. None };
+
+    ghost faults = { λ _. 0 };
+
+    fn write(&mut self, piece: &[u8]) -> Result<usize, Failed>
+        ensures bound { IfOk result (λ n. n ≤ length piece.now) }
+        ensures progress { IfOk result (λ n. 0 < length piece.now → 0 < n) }
+        ensures cause { HasCause 0 0 result }
+        ensures ok { IsOk result }
+    {
+        Ok(piece.len())
+    }
+}
