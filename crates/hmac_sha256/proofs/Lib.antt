@@ -1,0 +1,4 @@
+mod Words
+mod Schedule
+mod Absorbing
+pub mod Digest

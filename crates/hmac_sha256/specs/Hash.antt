@@ -1,0 +1,20 @@
+-- What a `Hash` stands for: the list of the bytes that it has absorbed.
+use Rattle.std.specs.Prelude.{◌≡◌, ℕ, ◌*◌, ◌/◌, ◌%◌, List, length, take, drop}
+use Rattle.hmac_sha256.specs.Sha256.{fold_blocks, initial_words}
+use Rattle.hmac_sha256.specs.declared.hashing.Hash.{Hash}
+
+-- the words are the hash value after m's whole blocks, the bytes are the rest of m, and the count
+-- is m's length
+pub record HasAbsorbed (words bytes : List ℕ) (count : ℕ) (m : List ℕ) : Type 0 where
+  pub folded : words ≡ fold_blocks initial_words m (length m / 64)
+  pub rest : bytes ≡ drop (64 * (length m / 64)) m
+  pub counted : count ≡ length m
+
+-- how many bytes a hash has absorbed, by its own count
+unfoldable pub absorbed_bytes : Hash → ℕ
+absorbed_bytes hash = hash.total
+
+-- The hash stands for the list m: its eight words are the hash value after m's whole blocks, the
+-- bytes that it holds are the rest of m, and the number that it keeps is m's length.
+unfoldable pub StandsFor : Hash → List ℕ → Type 0
+StandsFor hash m = HasAbsorbed hash.state (take (hash.total % 64) hash.block) hash.total m
