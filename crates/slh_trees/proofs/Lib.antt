@@ -1,2 +1,4 @@
 pub mod Powers
 pub mod TreeSteps
+pub mod Climbs
+pub mod Layers

@@ -2,4 +2,6 @@
 #![tactic(auto)]
 
 mod climb;
+pub mod hypertree;
+pub mod laws;
 pub mod xmss;
