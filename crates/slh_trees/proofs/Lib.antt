@@ -2,3 +2,4 @@ pub mod Powers
 pub mod TreeSteps
 pub mod Climbs
 pub mod Layers
+pub mod Numbers

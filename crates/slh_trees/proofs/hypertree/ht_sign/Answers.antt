@@ -1,4 +1,4 @@
-use Rattle.std.proofs.Common.{arith, ◌≡◌, ◌+◌, ◌-◌, ◌*◌, ◌≤◌, length, refl}
+use Rattle.std.proofs.Common.{arith, ◌≡◌, ◌+◌, ◌-◌, ◌*◌, ◌≤◌, [], length, refl}
 use Rattle.std.proofs.lemmas.Grind.{common_steps}
 use Rattle.std.proofs.lemmas.Slice.{take-put_mid}
 use Rattle.slh_chains.specs.Bytes.{joined}
@@ -17,7 +17,7 @@ loop-j-init g c =
       leaf = refl;
       below = c.requires.leaf;
       message = c.copy-message.ensures;
-      values = rw none refl;
+      values = rw none (refl {a = []});
       cost = omega arith;
     }
 
