@@ -1,2 +1,5 @@
 pub mod Powers
 pub mod TreeSteps
+pub mod Climbs
+pub mod Layers
+pub mod Numbers

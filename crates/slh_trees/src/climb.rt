@@ -1,11 +1,12 @@
 //! The way from a leaf to the root of its tree.
 ghost use Rattle.std.specs.Prelude.{◌≡◌, ◌+◌, ◌*◌, ◌^◌, ◌≤◌, ◌<◌, length};
 ghost use Rattle.slh_chains.specs.Suite.{seeded};
+ghost use Rattle.slh_trees.specs.Forest.{fors_place};
 ghost use Rattle.slh_trees.specs.Merkle.{Place, node_bytes, sibling_of, climb as climbed};
 ghost use Rattle.slh_trees.specs.Tree.{tree_place};
 
 use hybrid_array::ArraySize;
-use slh_chains::address::{Address, HashTree};
+use slh_chains::address::{Address, ForsTree, HashTree};
 use slh_chains::nbytes::NBytes;
 use slh_chains::params::{WotsParams, chain_sizes};
 use slh_chains::parts::part_of;
@@ -19,6 +20,20 @@ pub(crate) trait NodeAddress: Address {
     /// The address of another node of the same tree.
     fn at_node(&self, height: u32, index: u32) -> Self
         ensures { Self.bytes result ≡ node_bytes (place self.now) height index };
+}
+
+impl NodeAddress for ForsTree {
+    ghost place = { λ a. fors_place a.tree_adrs_low a.key_pair_adrs };
+
+    #[inline]
+    fn at_node(&self, height: u32, index: u32) -> ForsTree {
+        ForsTree {
+            tree_adrs_low: self.tree_adrs_low,
+            key_pair_adrs: self.key_pair_adrs,
+            tree_height: height,
+            tree_index: index,
+        }
+    }
 }
 
 impl NodeAddress for HashTree {

@@ -2,7 +2,8 @@
 ghost use Rattle.std.specs.Prelude.{◌≡◌, ◌+◌, ◌-◌, ◌*◌, ◌^◌, ◌≤◌, ◌<◌, ◌++◌, length, sum};
 ghost use Rattle.slh_chains.specs.Digits.{wots_digits};
 ghost use Rattle.slh_chains.specs.Suite.{seeded};
-ghost use Rattle.slh_trees.specs.Tree.{node as tree_node, node_path, signed_leaf, checked_node};
+ghost use Rattle.slh_trees.specs.Checking.{checked_node};
+ghost use Rattle.slh_trees.specs.Tree.{node as tree_node, node_path, signed_leaf};
 
 use crate::climb::{climb_path, sibling};
 use hybrid_array::ArraySize;
@@ -102,7 +103,7 @@ pub fn xmss_sign<P: XmssParams, L: Ledger>(
     ensures value { let K = seeded P.suite P.N.USIZE (P.seed_of keyed.now) in
         let a = adrs.now in
         let hp = P.HPrime.USIZE in
-        out.new ≡ signed_leaf K sk_seed.now a.layer_adrs a.tree_adrs_low hp idx m.now }
+        out.new ≡ signed_leaf K sk_seed.now a.layer_adrs a.tree_adrs_low idx m.now hp }
     ensures cost { let digits = wots_digits P.N.USIZE m.now in
         let tree_cost = 2 ^ P.HPrime.USIZE * (16 * P.WotsSigLen.USIZE + 2) in
         steps.new + P.HPrime.USIZE + (15 * P.WotsSigLen.USIZE + 2)
@@ -117,7 +118,7 @@ pub fn xmss_sign<P: XmssParams, L: Ledger>(
 }
 
 /// The root that the signature of a message under leaf `idx` leads to (FIPS 205, algorithm 11).
-#[tactic(auto, unfolding(crate::specs::Tree::checked_node))]
+#[tactic(auto, unfolding(crate::specs::Checking::checked_node))]
 pub fn xmss_pk_from_sig<P: XmssParams, L: Ledger>(
     idx: u32,
     sig: &[u8],
@@ -131,7 +132,7 @@ pub fn xmss_pk_from_sig<P: XmssParams, L: Ledger>(
     ensures value { let K = seeded P.suite P.N.USIZE (P.seed_of keyed.now) in
         let a = adrs.now in
         let hp = P.HPrime.USIZE in
-        result ≡ checked_node K a.layer_adrs a.tree_adrs_low hp idx sig.now m.now }
+        result ≡ checked_node K a.layer_adrs a.tree_adrs_low idx sig.now m.now hp }
     ensures cost { let digits = wots_digits P.N.USIZE m.now in
         steps.new + sum digits ≡ steps.old + (15 * P.WotsSigLen.USIZE + 1 + P.HPrime.USIZE) }
     ensures bound { steps.new ≤ steps.old + (15 * P.WotsSigLen.USIZE + 1 + P.HPrime.USIZE) }

@@ -1,0 +1,20 @@
+use Rattle.std.proofs.Common.{arith, ◌≡◌, ◌+◌, ◌-◌, ◌*◌, ◌≤◌, length, refl}
+use Rattle.std.proofs.lemmas.Grind.{common_steps}
+use Rattle.std.proofs.lemmas.Slice.{take-put_mid}
+use Rattle.slh_chains.proofs.Joins.{joined_more}
+use Rattle.slh_trees.specs.Forest.{fors_opened}
+use Rattle.slh_trees.proofs.Layers.{part_fits}
+use Rattle.slh_trees.proofs.fors.open_all.Goals as goal
+
+pub loop-i-preserved : goal.loop-i-preserved
+unfolding fors_opened
+loop-i-preserved g c =
+    let i = c.loop-i.invariant in
+    let size = c.opened_len-size.result in
+    let whole : length c.args.out.now ≡ g.P.K.ArraySize.USIZE * size = rw c.opened_len-size.ensures.value c.requires.room in
+    let fits : (c.loop-i.i + 1) * size ≤ length c.args.out.now = part_fits c.loop-i.i g.P.K.ArraySize.USIZE size (length c.args.out.now) (omega arith) whole in
+    let next : (c.loop-i.i + 1) * size ≡ c.loop-i.i * size + length c.open_secret.new.out = omega arith in
+    record {
+      values = rw (take-put_mid (c.loop-i.i * size) ((c.loop-i.i + 1) * size - c.loop-i.i * size) c.loop-i.out c.open_secret.new.out ((c.loop-i.i + 1) * size) next (omega arith), i.values, joined_more, c.open_secret.ensures.value, c.index_of-y.ensures.value) refl;
+      cost = grind (arith, common_steps);
+    }

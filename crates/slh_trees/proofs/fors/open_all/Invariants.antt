@@ -1,0 +1,16 @@
+use Rattle.std.proofs.Common.{◌≡◌, ◌+◌, ◌*◌, ◌^◌, take}
+use Rattle.slh_chains.specs.Bytes.{joined}
+use Rattle.slh_chains.specs.Suite.{seeded}
+use Rattle.slh_trees.specs.Forest.{fors_opened}
+use Rattle.slh_trees.proofs.fors.open_all.Given as goal
+
+-- the trees so far
+abbrev pub invariant-loop-i : goal.invariant-loop-i
+invariant-loop-i g l =
+    let K = seeded g.P.HashSuite.suite g.P.N.ArraySize.USIZE (g.P.HashSuite.seed_of l.keyed) in
+    let a = g.P.A.ArraySize.USIZE in
+    record {
+      values : take (l.i * l.size) l.out
+          ≡ joined (fors_opened K l.sk_seed l.adrs.tree_adrs_low l.adrs.key_pair_adrs a l.digits) l.i;
+      cost : l.steps + l.i * (a + 2) ≡ l.initial.steps + l.i * (3 * 2 ^ a);
+    }

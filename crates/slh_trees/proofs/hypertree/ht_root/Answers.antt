@@ -1,0 +1,30 @@
+use Rattle.std.proofs.Common.{arith, refl}
+use Rattle.std.proofs.lemmas.Grind.{common_steps}
+use Rattle.slh_chains.specs.Suite.{seeded}
+use Rattle.slh_trees.specs.Checking.{checked_message}
+use Rattle.slh_trees.proofs.Layers.{tree_at-zero, tree_at-more, leaf_at-more, checked_message-more}
+use Rattle.slh_trees.proofs.hypertree.ht_root.Goals as goal
+
+pub loop-j-init : goal.loop-j-init
+unfolding checked_message
+loop-j-init g c =
+    record {
+      tree = tree_at-zero _ _;
+      leaf = refl;
+      below = c.requires.leaf;
+      message = c.copy-message.ensures;
+      cost = omega arith;
+    }
+
+pub loop-j-preserved : goal.loop-j-preserved
+loop-j-preserved g c =
+    let K = seeded g.P.HashSuite.suite g.P.N.ArraySize.USIZE (g.P.HashSuite.seed_of c.args.keyed.now) in
+    let hp = g.P.HPrime.ArraySize.USIZE in
+    let i = c.loop-j.invariant in
+    record {
+      tree = rw (c.next_place.ensures.tree, c.USIZE-height.ensures, i.tree) (tree_at-more _ _ _);
+      leaf = rw (c.next_place.ensures.leaf, c.USIZE-height.ensures, i.tree) (leaf_at-more hp c.args.idx_tree c.args.idx_leaf c.loop-j.j);
+      below = rw (← c.USIZE-height.ensures) c.next_place.ensures.below;
+      message = rw (c.xmss_pk_from_sig-message.ensures.value, c.tree_adrs_of-at.ensures, i.tree, i.leaf, i.message, c.layer_len-size.ensures.value) (checked_message-more K hp c.args.idx_tree c.args.idx_leaf c.args.sig.now c.args.m.now c.loop-j.j);
+      cost = grind (arith, common_steps);
+    }

@@ -1,0 +1,18 @@
+use Rattle.std.proofs.Common.{◌≡◌, ◌+◌, ◌*◌, ◌^◌, ◌<◌, ◌≤◌}
+use Rattle.slh_chains.specs.Suite.{seeded}
+use Rattle.slh_trees.specs.Checking.{checked_message}
+use Rattle.slh_trees.specs.Layers.{leaf_at, tree_at}
+use Rattle.slh_trees.proofs.hypertree.ht_root.Given as goal
+
+-- the root so far, and the place of the next layer
+abbrev pub invariant-loop-j : goal.invariant-loop-j
+invariant-loop-j g l =
+    let K = seeded g.P.HashSuite.suite g.P.N.ArraySize.USIZE (g.P.HashSuite.seed_of l.keyed) in
+    let hp = g.P.HPrime.ArraySize.USIZE in
+    record {
+      tree : l.tree ≡ tree_at hp l.idx_tree l.j;
+      leaf : l.leaf ≡ leaf_at hp l.idx_tree l.idx_leaf l.j;
+      below : l.leaf < 2 ^ hp;
+      message : l.message ≡ checked_message K hp l.idx_tree l.idx_leaf l.sig l.fn.m l.j;
+      cost : l.steps ≤ l.initial.steps + l.j * (15 * g.P.WotsSigLen.ArraySize.USIZE + 1 + hp);
+    }

@@ -1,0 +1,41 @@
+use Rattle.std.proofs.Common.{arith, ◌≡◌, ◌+◌, ◌-◌, ◌*◌, ◌≤◌, [], length, refl}
+use Rattle.std.proofs.lemmas.Grind.{common_steps}
+use Rattle.std.proofs.lemmas.Slice.{take-put_mid}
+use Rattle.slh_chains.specs.Bytes.{joined}
+use Rattle.slh_chains.specs.Suite.{seeded}
+use Rattle.slh_chains.proofs.Joins.{joined_more}
+use Rattle.slh_trees.specs.Layers.{layer_signature}
+use Rattle.slh_trees.proofs.Layers.{tree_at-zero, tree_at-more, leaf_at-more, layer_message-more, part_fits}
+use Rattle.slh_trees.proofs.hypertree.ht_sign.Goals as goal
+
+pub loop-j-init : goal.loop-j-init
+unfolding joined
+loop-j-init g c =
+    let none : 0 * c.layer_len-size.result ≡ 0 = omega arith in
+    record {
+      tree = tree_at-zero _ _;
+      leaf = refl;
+      below = c.requires.leaf;
+      message = c.copy-message.ensures;
+      values = rw none (refl {a = []});
+      cost = omega arith;
+    }
+
+pub loop-j-preserved : goal.loop-j-preserved
+unfolding layer_signature
+loop-j-preserved g c =
+    let K = seeded g.P.HashSuite.suite g.P.N.ArraySize.USIZE (g.P.HashSuite.seed_of c.args.keyed.now) in
+    let hp = g.P.HPrime.ArraySize.USIZE in
+    let i = c.loop-j.invariant in
+    let size = c.layer_len-size.result in
+    let whole : length c.args.out.now ≡ g.P.D.ArraySize.USIZE * size = rw c.layer_len-size.ensures.value c.requires.room in
+    let fits : (c.loop-j.j + 1) * size ≤ length c.args.out.now = part_fits c.loop-j.j g.P.D.ArraySize.USIZE size (length c.args.out.now) (omega arith) whole in
+    let next : (c.loop-j.j + 1) * size ≡ c.loop-j.j * size + length c.sign_layer-message.new.out = omega arith in
+    record {
+      tree = rw (c.next_place.ensures.tree, c.USIZE-height.ensures, i.tree) (tree_at-more _ _ _);
+      leaf = rw (c.next_place.ensures.leaf, c.USIZE-height.ensures, i.tree) (leaf_at-more hp c.args.idx_tree c.args.idx_leaf c.loop-j.j);
+      below = rw (← c.USIZE-height.ensures) c.next_place.ensures.below;
+      message = rw (c.sign_layer-message.ensures.root, c.tree_adrs_of-at.ensures, i.tree) (layer_message-more K hp c.args.sk_seed.now c.args.idx_tree c.args.idx_leaf c.args.m.now c.loop-j.j);
+      values = rw (take-put_mid (c.loop-j.j * size) ((c.loop-j.j + 1) * size - c.loop-j.j * size) c.loop-j.out c.sign_layer-message.new.out ((c.loop-j.j + 1) * size) next (omega arith), i.values, joined_more, c.sign_layer-message.ensures.value, c.tree_adrs_of-at.ensures, i.tree, i.leaf, i.message) refl;
+      cost = grind (arith, common_steps);
+    }

@@ -1,0 +1,19 @@
+use Rattle.std.proofs.Common.{◌≡◌, ◌+◌, ◌*◌, ◌^◌, ◌<◌, take}
+use Rattle.slh_chains.specs.Bytes.{joined}
+use Rattle.slh_chains.specs.Suite.{seeded}
+use Rattle.slh_trees.specs.Layers.{layer_signature, layer_message, leaf_at, tree_at}
+use Rattle.slh_trees.proofs.hypertree.ht_sign.Given as goal
+
+-- the layers so far, and the place of the next one
+abbrev pub invariant-loop-j : goal.invariant-loop-j
+invariant-loop-j g l =
+    let K = seeded g.P.HashSuite.suite g.P.N.ArraySize.USIZE (g.P.HashSuite.seed_of l.keyed) in
+    let hp = g.P.HPrime.ArraySize.USIZE in
+    record {
+      tree : l.tree ≡ tree_at hp l.idx_tree l.j;
+      leaf : l.leaf ≡ leaf_at hp l.idx_tree l.idx_leaf l.j;
+      below : l.leaf < 2 ^ hp;
+      message : l.message ≡ layer_message K hp l.sk_seed l.idx_tree l.idx_leaf l.fn.m l.j;
+      values : take (l.j * l.size) l.out ≡ joined (layer_signature K hp l.sk_seed l.idx_tree l.idx_leaf l.fn.m) l.j;
+      cost : l.steps + l.j ≡ l.initial.steps + l.j * (2 ^ hp * (16 * g.P.WotsSigLen.ArraySize.USIZE + 2));
+    }

@@ -1,0 +1,65 @@
+-- What a signature leads to, by its bytes and public values alone (FIPS 205, algorithms 11, 13, 17 and 20).
+-- K is the suite with its public seed.
+use Rattle.std.specs.Prelude.{ℕ, zero, suc, ◌+◌, ◌*◌, List, take, drop, slice_range}
+use Rattle.slh_chains.specs.Address.{address_bytes}
+use Rattle.slh_chains.specs.Bytes.{joined, part}
+use Rattle.slh_chains.specs.Chain.{checked_leaf}
+use Rattle.slh_chains.specs.Digits.{digits}
+use Rattle.slh_chains.specs.Parameters.{Scheme, chain_count}
+use Rattle.slh_chains.specs.Suite.{Seeded, seeded}
+use Rattle.slh_trees.specs.Forest.{fors_place, leaf_index}
+use Rattle.slh_trees.specs.Layers.{tree_at, leaf_at, layer_size}
+use Rattle.slh_trees.specs.Merkle.{node_bytes, climb}
+use Rattle.slh_trees.specs.MessageDigest.{split_digest}
+use Rattle.slh_trees.specs.Tree.{tree_place}
+
+-- in tree t of layer j, the node at height z above leaf y, by the signature of a message
+unfoldable pub checked_node : Seeded → ℕ → ℕ → ℕ → List ℕ → List ℕ → ℕ → List ℕ
+checked_node K j t y sig m z =
+    let chains = chain_count K.n * K.n in
+    climb K (tree_place j t) (checked_leaf K j t y (take chains sig) m) y (drop chains sig) z
+
+module _ (K : Seeded) (hp t l : ℕ) (sig m : List ℕ) where
+  -- the message below layer j: m, and then the root that the layer below leads to
+  unfoldable pub checked_message : ℕ → List ℕ
+  checked_message zero = m
+  checked_message (suc j) =
+      let layer = part (layer_size K.n hp) sig j in
+      checked_node K j (tree_at hp t j) (leaf_at hp t l j) layer (checked_message j) hp
+
+module _ (K : Seeded) (t l a : ℕ) (sig x : List ℕ) where
+  -- in tree i of the forest, the node at height z above the opened secret
+  unfoldable pub checked_fors_node : ℕ → ℕ → List ℕ
+  checked_fors_node i z =
+      let opened = part ((1 + a) * K.n) sig i in
+      let y = leaf_index a x i in
+      let leaf = K.suite.f K.seed (node_bytes (fors_place t l) 0 y) (take K.n opened) in
+      climb K (fors_place t l) leaf y (drop K.n opened) z
+
+-- the public key of the forest that the signature of the digest's first part leads to
+unfoldable pub checked_fors_key : Seeded → ℕ → ℕ → ℕ → ℕ → List ℕ → List ℕ → List ℕ
+checked_fors_key K t l k a sig md =
+    let roots : ℕ → List ℕ = λ i. checked_fors_node K t l a sig (digits md a k) i a in
+    K.suite.t K.seed (address_bytes 0 t 4 l 0 0) (joined roots k)
+
+-- how many bytes the forest's part of a signature has
+abbrev pub forest_size : ℕ → ℕ → ℕ → ℕ
+forest_size n k a = k * ((1 + a) * n)
+
+-- how many bytes a signature has
+abbrev pub signature_size : Scheme → ℕ
+signature_size Z = Z.n + forest_size Z.n Z.k Z.a + Z.d * layer_size Z.n Z.hp
+
+-- the root that a signature leads to, for a digest and a public seed s
+unfoldable pub digest_root : Scheme → List ℕ → List ℕ → List ℕ → List ℕ
+digest_root Z s digest sig =
+    let K = seeded Z.suite Z.n s in
+    let parts = split_digest Z digest in
+    let upper = Z.n + forest_size Z.n Z.k Z.a in
+    let key = checked_fors_key K parts.tree parts.leaf Z.k Z.a (slice_range sig Z.n upper) parts.md in
+    checked_message K Z.hp parts.tree parts.leaf (drop upper sig) key Z.d
+
+-- the root that a signature of a message leads to, under a public seed s and a key's root
+abbrev pub checked_root : Scheme → List ℕ → List ℕ → List ℕ → List ℕ → List ℕ
+checked_root Z s root message sig =
+    digest_root Z s (Z.suite.h_msg (take Z.n sig) s root message) sig

@@ -1,0 +1,64 @@
+//! What a signature leads to.
+ghost use Rattle.std.specs.Prelude.{◌≡◌, ◌+◌, ◌*◌, ◌^◌, ◌≤◌, ◌++◌, length};
+ghost use Rattle.slh_trees.specs.Checking.{checked_root, digest_root, signature_size};
+
+use crate::digest::split_digest;
+use crate::fors::fors_pk_from_sig;
+use crate::hypertree::ht_root;
+use hybrid_array::ArraySize;
+use slh_chains::address::ForsTree;
+use slh_chains::nbytes::NBytes;
+use slh_chains::params::{ForsParams, forest_sizes, layer_sizes};
+use slh_chains::steps::Steps;
+use std::sync::ledger::Ledger;
+
+/// The root that the bytes of a signature lead to, for a digest.
+#[tactic(auto, unfolding(crate::specs::Checking::digest_root))]
+fn root_for_digest<P: ForsParams, L: Ledger>(
+    pk_seed: &NBytes<P::N>,
+    digest: &[u8],
+    sig: &[u8],
+    steps: &mut Steps<L>,
+) -> NBytes<P::N>
+    requires digest { length digest.now ≡ P.M.USIZE }
+    requires whole { length sig.now ≡ signature_size P.scheme }
+    ensures value { result ≡ digest_root P.scheme pk_seed.now digest.now sig.now }
+    ensures bound { let layer_cost = 15 * P.WotsSigLen.USIZE + 1 + P.HPrime.USIZE in
+        steps.new ≤ steps.old + P.K.USIZE * (1 + P.A.USIZE) + 1 + P.D.USIZE * layer_cost }
+{
+    layer_sizes::<P>();
+    forest_sizes::<P>();
+    let n = P::N::USIZE;
+    let upper = n + P::K::USIZE * ((1 + P::A::USIZE) * n);
+    let (md, tree, leaf) = split_digest::<P>(digest);
+    let keyed = P::keyed(pk_seed);
+    let adrs = ForsTree::new(tree, leaf);
+    let key = fors_pk_from_sig::<P, L>(&sig[n..upper], md, &keyed, &adrs, steps);
+    ht_root::<P, L>(&key, &sig[upper..], &keyed, tree, leaf, steps)
+}
+
+/// The root that the bytes of a signature lead to, for the message that the three slices joined are
+/// (FIPS 205, algorithm 20). The signature is valid where it is the key's root.
+pub fn check_root<P: ForsParams, L: Ledger>(
+    pk_seed: &NBytes<P::N>,
+    pk_root: &NBytes<P::N>,
+    head: &[u8],
+    ctx: &[u8],
+    msg: &[u8],
+    sig: &[u8],
+    steps: &mut Steps<L>,
+) -> NBytes<P::N>
+    requires message { length head.now + length ctx.now + length msg.now ≤ 2 ^ 60 + 512 }
+    requires whole { length sig.now ≡ signature_size P.scheme }
+    ensures value { let message = head.now ++ ctx.now ++ msg.now in
+        result ≡ checked_root P.scheme pk_seed.now pk_root.now message sig.now }
+    ensures bound { let layer_cost = 15 * P.WotsSigLen.USIZE + 1 + P.HPrime.USIZE in
+        steps.new ≤ steps.old + P.K.USIZE * (1 + P.A.USIZE) + 1 + P.D.USIZE * layer_cost }
+{
+    forest_sizes::<P>();
+    let rand = NBytes::<P::N>::exact(&sig[..P::N::USIZE]);
+    let mut store = [0u8; 256];
+    let digest = &mut store[..P::M::USIZE];
+    P::h_msg(&rand, pk_seed, pk_root, head, ctx, msg, digest);
+    root_for_digest::<P, L>(pk_seed, digest, sig, steps)
+}

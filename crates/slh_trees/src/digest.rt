@@ -1,0 +1,64 @@
+//! The parts of a message's digest.
+ghost use Rattle.std.specs.Prelude.{◌≡◌, ◌+◌, ◌-◌, ◌%◌, ◌^◌, ◌≤◌, ◌<◌, length};
+ghost use Rattle.slh_chains.specs.Bytes.{number_of};
+ghost use Rattle.slh_chains.specs.Parameters.{bytes_for};
+ghost use Rattle.slh_trees.specs.MessageDigest.{digest_number, split_digest as digest_parts};
+
+use hybrid_array::ArraySize;
+use slh_chains::params::{ForsParams, forest_sizes, layer_sizes};
+
+/// The number of a byte string, the highest byte first.
+fn number(bytes: &[u8]) -> u64
+    requires { length bytes.now ≤ 8 }
+    ensures { result ≡ number_of bytes.now }
+{
+    let mut total = 0u64;
+    for byte in bytes {
+        total = total * 256 + u64::from(*byte);
+    }
+    total
+}
+
+/// The last bits of a number.
+fn last_bits(value: u64, bits: usize) -> u64
+    requires { bits ≤ 64 }
+    ensures { result ≡ value % 2 ^ bits }
+{
+    if bits == 64 {
+        value
+    } else {
+        value % (1 << bits)
+    }
+}
+
+/// The number of bytes of a digest from a place on, of which the last bits count.
+#[tactic(auto, unfolding(crate::specs::MessageDigest::digest_number))]
+fn number_at(digest: &[u8], from: usize, bits: usize) -> u64
+    requires bits { bits ≤ 64 }
+    requires fits { from + bytes_for bits ≤ length digest.now }
+    ensures value { result ≡ digest_number digest.now from bits }
+    ensures below { result < 2 ^ bits }
+{
+    let len = bits.div_ceil(8);
+    last_bits(number(&digest[from..from + len]), bits)
+}
+
+/// Cuts a digest into the bytes that name a leaf in each tree of the forest, the tree and the leaf of
+/// the lowest layer (FIPS 205, algorithms 19 and 20).
+pub fn split_digest<P: ForsParams>(digest: &[u8]) -> (&[u8], u64, u32)
+    requires { length digest.now ≡ P.M.USIZE }
+    ensures md { result.0.now ≡ (digest_parts P.scheme digest.now).md }
+    ensures tree { result.1 ≡ (digest_parts P.scheme digest.now).tree }
+    ensures leaf { result.2 ≡ (digest_parts P.scheme digest.now).leaf }
+    ensures md_len { length result.0.now ≡ P.MD.USIZE }
+    ensures tree_below { result.1 < 2 ^ (P.H.USIZE - P.HPrime.USIZE) }
+    ensures leaf_below { result.2 < 2 ^ P.HPrime.USIZE }
+{
+    layer_sizes::<P>();
+    forest_sizes::<P>();
+    let md = P::MD::USIZE;
+    let tree_bits = P::H::USIZE - P::HPrime::USIZE;
+    let tree = number_at(digest, md, tree_bits);
+    let leaf = number_at(digest, md + tree_bits.div_ceil(8), P::HPrime::USIZE);
+    (&digest[..md], tree, leaf as u32)
+}

@@ -1,0 +1,270 @@
+//! FORS: the forest below a leaf of the lowest layer (FIPS 205, section 8).
+ghost use Rattle.std.specs.Prelude.{◌≡◌, ◌+◌, ◌-◌, ◌*◌, ◌^◌, ◌≤◌, ◌<◌, ◌++◌, length, take, drop};
+ghost use Rattle.std.specs.Prelude.{slice_index, EachIndex};
+ghost use Rattle.slh_chains.specs.Bytes.{joined};
+ghost use Rattle.slh_chains.specs.Suite.{seeded};
+ghost use Rattle.slh_trees.specs.Checking.{checked_fors_node, checked_fors_key};
+ghost use Rattle.slh_trees.specs.Forest.{fors_place, fors_secret, fors_node as forest_node};
+ghost use Rattle.slh_trees.specs.Forest.{fors_path, opened_leaves, fors_signature};
+ghost use Rattle.slh_trees.specs.Merkle.{node_bytes, climb as climbed};
+
+use crate::climb::{NodeAddress, climb_path, sibling};
+use hybrid_array::ArraySize;
+use slh_chains::address::{ForsPrf, ForsTree};
+use slh_chains::digits::base_2b;
+use slh_chains::nbytes::NBytes;
+use slh_chains::params::{ForsParams, forest_sizes};
+use slh_chains::parts::put_part;
+use slh_chains::steps::Steps;
+use std::sync::ledger::Ledger;
+
+/// The secret with an index, which runs through all trees of the forest (FIPS 205, algorithm 14).
+#[tactic(auto, unfolding(crate::specs::Forest::fors_secret))]
+pub fn fors_sk_gen<P: ForsParams, L: Ledger>(
+    sk_seed: &NBytes<P::N>,
+    keyed: &P::Keyed,
+    adrs: &ForsTree,
+    idx: u32,
+    steps: &mut Steps<L>,
+) -> NBytes<P::N>
+    requires { idx < P.K.USIZE * 2 ^ P.A.USIZE }
+    ensures value { let K = seeded P.suite P.N.USIZE (P.seed_of keyed.now) in
+        let a = adrs.now in
+        result ≡ fors_secret K sk_seed.now a.tree_adrs_low a.key_pair_adrs idx }
+    ensures cost { steps.new ≡ steps.old + 1 }
+{
+    let at = ForsPrf {
+        tree_index: idx,
+        ..adrs.prf_adrs()
+    };
+    P::prf_sk(keyed, sk_seed, &at, steps)
+}
+
+/// The node with index `i` at height `z` (FIPS 205, algorithm 15).
+#[tactic(auto, using(crate::proofs::Powers::twice, crate::proofs::TreeSteps::merkle_above), unfolding(crate::specs::Merkle::merkle, crate::specs::Forest::fors_leaf))]
+pub fn fors_node<P: ForsParams, L: Ledger>(
+    sk_seed: &NBytes<P::N>,
+    i: u32,
+    z: u32,
+    keyed: &P::Keyed,
+    adrs: &ForsTree,
+    steps: &mut Steps<L>,
+) -> NBytes<P::N>
+    requires height { z ≤ P.A.USIZE }
+    requires node { i < P.K.USIZE * 2 ^ (P.A.USIZE - z) }
+    ensures value { let K = seeded P.suite P.N.USIZE (P.seed_of keyed.now) in
+        let a = adrs.now in
+        result ≡ forest_node K sk_seed.now a.tree_adrs_low a.key_pair_adrs z i }
+    ensures cost { steps.new + 1 ≡ steps.old + 3 * 2 ^ z }
+{
+    forest_sizes::<P>();
+    if z == 0 {
+        let secret = fors_sk_gen::<P, L>(sk_seed, keyed, adrs, i, steps);
+        return P::f(keyed, &adrs.at_node(0, i), &secret, steps);
+    }
+    let left = fors_node::<P, L>(sk_seed, 2 * i, z - 1, keyed, adrs, steps);
+    let right = fors_node::<P, L>(sk_seed, 2 * i + 1, z - 1, keyed, adrs, steps);
+    P::h(keyed, &adrs.at_node(z, i), &left, &right, steps)
+}
+
+/// Writes the siblings on the way up from leaf `y`.
+#[tactic(auto, unfolding(crate::specs::Merkle::merkle_path, slh_chains::specs::Bytes::joined))]
+fn write_fors_path<P: ForsParams, L: Ledger>(
+    sk_seed: &NBytes<P::N>,
+    keyed: &P::Keyed,
+    y: u32,
+    adrs: &ForsTree,
+    out: &mut [u8],
+    steps: &mut Steps<L>,
+)
+    requires leaf { y < P.K.USIZE * 2 ^ P.A.USIZE }
+    requires room { length out.old ≡ P.A.USIZE * P.N.USIZE }
+    ensures value { let K = seeded P.suite P.N.USIZE (P.seed_of keyed.now) in
+        let a = adrs.now in
+        out.new ≡ fors_path K sk_seed.now a.tree_adrs_low a.key_pair_adrs y P.A.USIZE }
+    ensures cost { steps.new + P.A.USIZE + 3 ≡ steps.old + 3 * 2 ^ P.A.USIZE }
+{
+    forest_sizes::<P>();
+    let n = P::N::USIZE;
+    for z in 0..P::A::USIZE {
+        let value = fors_node::<P, L>(sk_seed, sibling(y >> z), z as u32, keyed, adrs, steps);
+        put_part(out, n, z, value.as_slice());
+    }
+}
+
+/// Opens the secret with index `y`: writes it, and the siblings on the way up from it.
+#[tactic(auto, unfolding(crate::specs::Forest::fors_leaf))]
+fn open_secret<P: ForsParams, L: Ledger>(
+    sk_seed: &NBytes<P::N>,
+    keyed: &P::Keyed,
+    y: u32,
+    adrs: &ForsTree,
+    out: &mut [u8],
+    steps: &mut Steps<L>,
+)
+    requires leaf { y < P.K.USIZE * 2 ^ P.A.USIZE }
+    requires room { length out.old ≡ (1 + P.A.USIZE) * P.N.USIZE }
+    ensures value { let K = seeded P.suite P.N.USIZE (P.seed_of keyed.now) in
+        let a = adrs.now in
+        out.new ≡ fors_secret K sk_seed.now a.tree_adrs_low a.key_pair_adrs y
+        ++ fors_path K sk_seed.now a.tree_adrs_low a.key_pair_adrs y P.A.USIZE }
+    ensures cost { steps.new + P.A.USIZE + 2 ≡ steps.old + 3 * 2 ^ P.A.USIZE }
+{
+    forest_sizes::<P>();
+    let (secret, path) = out.split_at_mut(P::N::USIZE);
+    secret.copy_from_slice(fors_sk_gen::<P, L>(sk_seed, keyed, adrs, y, steps).as_slice());
+    write_fors_path::<P, L>(sk_seed, keyed, y, adrs, path, steps);
+}
+
+/// How many bytes are opened in one tree.
+fn opened_len<P: ForsParams>() -> usize
+    ensures value { result ≡ (1 + P.A.USIZE) * P.N.USIZE }
+    ensures small { result ≤ 544 }
+{
+    forest_sizes::<P>();
+    (1 + P::A::USIZE) * P::N::USIZE
+}
+
+/// Writes the signature of the digest's first part: it opens one secret in each tree, which the part's
+/// digits name (FIPS 205, algorithm 16).
+pub fn fors_sign<P: ForsParams, L: Ledger>(
+    md: &[u8],
+    sk_seed: &NBytes<P::N>,
+    keyed: &P::Keyed,
+    adrs: &ForsTree,
+    out: &mut [u8],
+    steps: &mut Steps<L>,
+)
+    requires digest { length md.now ≡ P.MD.USIZE }
+    requires room { length out.old ≡ P.K.USIZE * ((1 + P.A.USIZE) * P.N.USIZE) }
+    ensures value { let K = seeded P.suite P.N.USIZE (P.seed_of keyed.now) in
+        let t = adrs.now.tree_adrs_low in
+        let l = adrs.now.key_pair_adrs in
+        out.new ≡ fors_signature K sk_seed.now t l P.K.USIZE P.A.USIZE md.now }
+    ensures cost { steps.new + P.K.USIZE * (P.A.USIZE + 2) ≡ steps.old + P.K.USIZE * (3 * 2 ^ P.A.USIZE) }
+{
+    forest_sizes::<P>();
+    let k = P::K::USIZE;
+    let mut digits = [0u16; 64];
+    base_2b(md, P::A::USIZE as u32, &mut digits[..k]);
+    open_all::<P, L>(&digits[..k], sk_seed, keyed, adrs, out, steps);
+}
+
+/// Opens one secret in each tree, by its digit.
+#[tactic(auto, unfolding(crate::specs::Forest::opened_leaves, slh_chains::specs::Bytes::joined))]
+fn open_all<P: ForsParams, L: Ledger>(
+    digits: &[u16],
+    sk_seed: &NBytes<P::N>,
+    keyed: &P::Keyed,
+    adrs: &ForsTree,
+    out: &mut [u8],
+    steps: &mut Steps<L>,
+)
+    requires count { length digits.now ≡ P.K.USIZE }
+    requires below { EachIndex digits.now (λ i. slice_index digits.now i < 2 ^ P.A.USIZE) }
+    requires room { length out.old ≡ P.K.USIZE * ((1 + P.A.USIZE) * P.N.USIZE) }
+    ensures value { let K = seeded P.suite P.N.USIZE (P.seed_of keyed.now) in
+        let t = adrs.now.tree_adrs_low in
+        let l = adrs.now.key_pair_adrs in
+        out.new ≡ opened_leaves K sk_seed.now t l P.K.USIZE P.A.USIZE digits.now }
+    ensures cost { steps.new + P.K.USIZE * (P.A.USIZE + 2) ≡ steps.old + P.K.USIZE * (3 * 2 ^ P.A.USIZE) }
+{
+    let size = opened_len::<P>();
+    for (i, digit) in digits.iter().enumerate() {
+        let y = index_of::<P>(i, *digit);
+        let opened = &mut out[i * size..(i + 1) * size];
+        open_secret::<P, L>(sk_seed, keyed, y, adrs, opened, steps);
+    }
+}
+
+/// The index of the leaf that a digit names in tree `i`.
+fn index_of<P: ForsParams>(i: usize, digit: u16) -> u32
+    requires tree { i < P.K.USIZE }
+    requires digit { digit < 2 ^ P.A.USIZE }
+    ensures value { result ≡ i * 2 ^ P.A.USIZE + digit }
+    ensures below { result < P.K.USIZE * 2 ^ P.A.USIZE }
+{
+    forest_sizes::<P>();
+    i as u32 * (1u32 << P::A::USIZE) + u32::from(digit)
+}
+
+/// The forest's public key that the signature of the digest's first part leads to (FIPS 205, algorithm
+/// 17).
+#[tactic(auto, unfolding(crate::specs::Checking::checked_fors_key))]
+pub fn fors_pk_from_sig<P: ForsParams, L: Ledger>(
+    sig: &[u8],
+    md: &[u8],
+    keyed: &P::Keyed,
+    adrs: &ForsTree,
+    steps: &mut Steps<L>,
+) -> NBytes<P::N>
+    requires digest { length md.now ≡ P.MD.USIZE }
+    requires whole { length sig.now ≡ P.K.USIZE * ((1 + P.A.USIZE) * P.N.USIZE) }
+    ensures value { let K = seeded P.suite P.N.USIZE (P.seed_of keyed.now) in
+        let t = adrs.now.tree_adrs_low in
+        let l = adrs.now.key_pair_adrs in
+        result ≡ checked_fors_key K t l P.K.USIZE P.A.USIZE sig.now md.now }
+    ensures cost { steps.new ≡ steps.old + (P.K.USIZE * (1 + P.A.USIZE) + 1) }
+{
+    forest_sizes::<P>();
+    let k = P::K::USIZE;
+    let len = k * P::N::USIZE;
+    let mut digits = [0u16; 64];
+    base_2b(md, P::A::USIZE as u32, &mut digits[..k]);
+    let mut roots = [0u8; 2048];
+    climb_all::<P, L>(&digits[..k], sig, keyed, adrs, &mut roots[..len], steps);
+    P::t(keyed, &adrs.fors_roots(), &roots[..len], steps)
+}
+
+/// Climbs from each opened secret to the root of its tree.
+#[tactic(auto, unfolding(slh_chains::specs::Bytes::joined))]
+fn climb_all<P: ForsParams, L: Ledger>(
+    digits: &[u16],
+    sig: &[u8],
+    keyed: &P::Keyed,
+    adrs: &ForsTree,
+    out: &mut [u8],
+    steps: &mut Steps<L>,
+)
+    requires count { length digits.now ≡ P.K.USIZE }
+    requires below { EachIndex digits.now (λ i. slice_index digits.now i < 2 ^ P.A.USIZE) }
+    requires whole { length sig.now ≡ P.K.USIZE * ((1 + P.A.USIZE) * P.N.USIZE) }
+    requires room { length out.old ≡ P.K.USIZE * P.N.USIZE }
+    ensures value { let K = seeded P.suite P.N.USIZE (P.seed_of keyed.now) in
+        let t = adrs.now.tree_adrs_low in
+        let l = adrs.now.key_pair_adrs in
+        let a = P.A.USIZE in
+        out.new ≡ joined (λ i. checked_fors_node K t l a sig.now digits.now i a) P.K.USIZE }
+    ensures cost { steps.new ≡ steps.old + P.K.USIZE * (1 + P.A.USIZE) }
+{
+    let n = P::N::USIZE;
+    let size = opened_len::<P>();
+    for (i, digit) in digits.iter().enumerate() {
+        let y = index_of::<P>(i, *digit);
+        let root = climb_opened::<P, L>(&sig[i * size..(i + 1) * size], y, keyed, adrs, steps);
+        put_part(out, n, i, root.as_slice());
+    }
+}
+
+/// Climbs from the opened secret with index `y` to the root of its tree.
+fn climb_opened<P: ForsParams, L: Ledger>(
+    opened: &[u8],
+    y: u32,
+    keyed: &P::Keyed,
+    adrs: &ForsTree,
+    steps: &mut Steps<L>,
+) -> NBytes<P::N>
+    requires leaf { y < P.K.USIZE * 2 ^ P.A.USIZE }
+    requires whole { length opened.now ≡ (1 + P.A.USIZE) * P.N.USIZE }
+    ensures value { let K = seeded P.suite P.N.USIZE (P.seed_of keyed.now) in
+        let B = fors_place adrs.now.tree_adrs_low adrs.now.key_pair_adrs in
+        let leaf = K.suite.f K.seed (node_bytes B 0 y) (take P.N.USIZE opened.now) in
+        result ≡ climbed K B leaf y (drop P.N.USIZE opened.now) P.A.USIZE }
+    ensures cost { steps.new ≡ steps.old + (1 + P.A.USIZE) }
+{
+    forest_sizes::<P>();
+    let (first, path) = opened.split_at(P::N::USIZE);
+    let secret = NBytes::<P::N>::exact(first);
+    let leaf = P::f(keyed, &adrs.at_node(0, y), &secret, steps);
+    climb_path::<P, ForsTree, L>(&leaf, y, P::A::USIZE, path, keyed, adrs, steps)
+}

@@ -1,0 +1,173 @@
+//! The hypertree: layers of trees, each of which signs the root below (FIPS 205, section 7).
+ghost use Rattle.std.specs.Prelude.{◌≡◌, ◌↔◌, ◌+◌, ◌-◌, ◌*◌, ◌/◌, ◌%◌, ◌^◌, ◌≤◌, ◌<◌, length, IsTrue};
+ghost use Rattle.slh_chains.specs.Suite.{seeded};
+ghost use Rattle.slh_trees.specs.Checking.{checked_message};
+ghost use Rattle.slh_trees.specs.Layers.{hypertree_signature, layer_size};
+ghost use Rattle.slh_trees.specs.Tree.{node, signed_leaf};
+
+use crate::laws::signature_leads_to_root;
+use crate::xmss::{xmss_pk_from_sig, xmss_sign};
+use hybrid_array::ArraySize;
+use slh_chains::address::WotsHash;
+use slh_chains::nbytes::NBytes;
+use slh_chains::params::{HypertreeParams, XmssParams, layer_sizes, tree_sizes};
+use slh_chains::steps::Steps;
+use std::sync::ledger::Ledger;
+
+/// Signs under a leaf, and takes the root from the signature just made.
+fn sign_layer<P: XmssParams, L: Ledger>(
+    m: &NBytes<P::N>,
+    sk_seed: &NBytes<P::N>,
+    keyed: &P::Keyed,
+    idx: u32,
+    adrs: &WotsHash,
+    out: &mut [u8],
+    steps: &mut Steps<L>,
+) -> NBytes<P::N>
+    requires idx { idx < 2 ^ P.HPrime.USIZE }
+    requires room { length out.old ≡ layer_size P.N.USIZE P.HPrime.USIZE }
+    ensures root { let K = seeded P.suite P.N.USIZE (P.seed_of keyed.now) in
+        let a = adrs.now in
+        result ≡ node K sk_seed.now a.layer_adrs a.tree_adrs_low P.HPrime.USIZE 0 }
+    ensures value { let K = seeded P.suite P.N.USIZE (P.seed_of keyed.now) in
+        let a = adrs.now in
+        let hp = P.HPrime.USIZE in
+        out.new ≡ signed_leaf K sk_seed.now a.layer_adrs a.tree_adrs_low idx m.now hp }
+    ensures cost { steps.new + 1 ≡ steps.old + 2 ^ P.HPrime.USIZE * (16 * P.WotsSigLen.USIZE + 2) }
+{
+    tree_sizes::<P>();
+    signature_leads_to_root::<P>();
+    xmss_sign::<P, L>(m, sk_seed, keyed, idx, adrs, out, steps);
+    xmss_pk_from_sig::<P, L>(idx, out, m, keyed, adrs, steps)
+}
+
+/// How many bytes a layer's signature has.
+pub(crate) fn layer_len<P: XmssParams>() -> usize
+    ensures value { result ≡ layer_size P.N.USIZE P.HPrime.USIZE }
+    ensures small { result ≤ 4096 }
+{
+    tree_sizes::<P>();
+    (P::WotsSigLen::USIZE + P::HPrime::USIZE) * P::N::USIZE
+}
+
+/// The tree and the leaf of the next layer.
+fn next_place(tree: u64, height: usize) -> (u64, u32)
+    requires { height ≤ 31 }
+    ensures tree { result.0 ≡ tree / 2 ^ height }
+    ensures leaf { result.1 ≡ tree % 2 ^ height }
+    ensures below { result.1 < 2 ^ height }
+{
+    (tree >> height, (tree % (1 << height)) as u32)
+}
+
+/// The address of a tree of a layer.
+#[inline]
+fn tree_adrs_of(layer: u32, tree: u64) -> WotsHash
+    ensures { result ≡ record {
+      layer_adrs = layer;
+      tree_adrs_low = tree;
+      key_pair_adrs = 0;
+      chain_adrs = 0;
+      hash_adrs = 0;
+    } }
+{
+    WotsHash {
+        layer_adrs: layer,
+        tree_adrs_low: tree,
+        key_pair_adrs: 0,
+        chain_adrs: 0,
+        hash_adrs: 0,
+    }
+}
+
+/// Writes the signature of a message under a leaf of a tree of the lowest layer: the signatures of all
+/// layers, from the lowest up (FIPS 205, algorithm 12).
+#[tactic(auto, unfolding(crate::specs::Layers::hypertree_signature, slh_chains::specs::Bytes::joined))]
+pub fn ht_sign<P: HypertreeParams, L: Ledger>(
+    m: &NBytes<P::N>,
+    sk_seed: &NBytes<P::N>,
+    keyed: &P::Keyed,
+    idx_tree: u64,
+    idx_leaf: u32,
+    out: &mut [u8],
+    steps: &mut Steps<L>,
+)
+    requires tree { idx_tree < 2 ^ (P.H.USIZE - P.HPrime.USIZE) }
+    requires leaf { idx_leaf < 2 ^ P.HPrime.USIZE }
+    requires room { length out.old ≡ P.D.USIZE * layer_size P.N.USIZE P.HPrime.USIZE }
+    ensures value { let K = seeded P.suite P.N.USIZE (P.seed_of keyed.now) in
+        let hp = P.HPrime.USIZE in
+        out.new ≡ hypertree_signature K hp sk_seed.now idx_tree idx_leaf m.now P.D.USIZE }
+    ensures cost { let tree_cost = 2 ^ P.HPrime.USIZE * (16 * P.WotsSigLen.USIZE + 2) in
+        steps.new + P.D.USIZE ≡ steps.old + P.D.USIZE * tree_cost }
+{
+    layer_sizes::<P>();
+    let height = P::HPrime::USIZE;
+    let size = layer_len::<P>();
+    let mut message = m.copy();
+    let mut tree = idx_tree;
+    let mut leaf = idx_leaf;
+    for j in 0..P::D::USIZE {
+        let at = tree_adrs_of(j as u32, tree);
+        let layer = &mut out[j * size..(j + 1) * size];
+        message = sign_layer::<P, L>(&message, sk_seed, keyed, leaf, &at, layer, steps);
+        (tree, leaf) = next_place(tree, height);
+    }
+}
+
+/// The root that the signatures of all layers lead to.
+pub(crate) fn ht_root<P: HypertreeParams, L: Ledger>(
+    m: &NBytes<P::N>,
+    sig: &[u8],
+    keyed: &P::Keyed,
+    idx_tree: u64,
+    idx_leaf: u32,
+    steps: &mut Steps<L>,
+) -> NBytes<P::N>
+    requires tree { idx_tree < 2 ^ (P.H.USIZE - P.HPrime.USIZE) }
+    requires leaf { idx_leaf < 2 ^ P.HPrime.USIZE }
+    requires whole { length sig.now ≡ P.D.USIZE * layer_size P.N.USIZE P.HPrime.USIZE }
+    ensures value { let K = seeded P.suite P.N.USIZE (P.seed_of keyed.now) in
+        let hp = P.HPrime.USIZE in
+        result ≡ checked_message K hp idx_tree idx_leaf sig.now m.now P.D.USIZE }
+    ensures bound { let layer_cost = 15 * P.WotsSigLen.USIZE + 1 + P.HPrime.USIZE in
+        steps.new ≤ steps.old + P.D.USIZE * layer_cost }
+{
+    layer_sizes::<P>();
+    let height = P::HPrime::USIZE;
+    let size = layer_len::<P>();
+    let mut message = m.copy();
+    let mut tree = idx_tree;
+    let mut leaf = idx_leaf;
+    for j in 0..P::D::USIZE {
+        let at = tree_adrs_of(j as u32, tree);
+        let layer = &sig[j * size..(j + 1) * size];
+        message = xmss_pk_from_sig::<P, L>(leaf, layer, &message, keyed, &at, steps);
+        (tree, leaf) = next_place(tree, height);
+    }
+    message
+}
+
+/// Whether the signature of a message leads to a root (FIPS 205, algorithm 13).
+pub fn ht_verify<P: HypertreeParams, L: Ledger>(
+    m: &NBytes<P::N>,
+    sig: &[u8],
+    keyed: &P::Keyed,
+    idx_tree: u64,
+    idx_leaf: u32,
+    pk_root: &NBytes<P::N>,
+    steps: &mut Steps<L>,
+) -> bool
+    requires tree { idx_tree < 2 ^ (P.H.USIZE - P.HPrime.USIZE) }
+    requires leaf { idx_leaf < 2 ^ P.HPrime.USIZE }
+    requires whole { length sig.now ≡ P.D.USIZE * layer_size P.N.USIZE P.HPrime.USIZE }
+    ensures value { let K = seeded P.suite P.N.USIZE (P.seed_of keyed.now) in
+        let hp = P.HPrime.USIZE in
+        let root = checked_message K hp idx_tree idx_leaf sig.now m.now P.D.USIZE in
+        IsTrue result ↔ (root ≡ pk_root.now) }
+    ensures bound { let layer_cost = 15 * P.WotsSigLen.USIZE + 1 + P.HPrime.USIZE in
+        steps.new ≤ steps.old + P.D.USIZE * layer_cost }
+{
+    let root = ht_root::<P, L>(m, sig, keyed, idx_tree, idx_leaf, steps);
+    root.as_slice() == pk_root.as_slice()
+}
