@@ -106,12 +106,17 @@ sha256-HasAbsorbed words bytes count m x held whole =
 
 -- ---- the padding
 
--- a block that takes the last bytes of a message and the byte after them
-pub ended_block_is : (bytes zeros written : List ℕ) (v : ℕ) → zeros ≡ replicate (64 - length bytes) 0 → length bytes < 64 → written ≡ bytes
-    → slice_set (written ++ zeros) (length bytes) v ≡ bytes ++ v ∷ replicate (63 - length bytes) 0
-ended_block_is bytes zeros written v all short same =
+-- bytes written at the front of zeros
+pub zero_padded_is : (bytes written zeros : List ℕ) → written ≡ bytes → zeros ≡ replicate (64 - length bytes) 0
+    → written ++ zeros ≡ bytes ++ replicate (64 - length bytes) 0
+zero_padded_is bytes written zeros same all = rw (same, all) refl
+
+-- the byte after a message's last bytes
+pub ended_block_is : (bytes block : List ℕ) (v : ℕ) → block ≡ bytes ++ replicate (64 - length bytes) 0 → length bytes < 64
+    → slice_set block (length bytes) v ≡ bytes ++ v ∷ replicate (63 - length bytes) 0
+ended_block_is bytes block v padded short =
     let count : 64 - length bytes ≡ suc (63 - length bytes) = omega arith in
-    rw (same, all, count) (set-append_seam bytes 0 (replicate (63 - length bytes) 0) v)
+    rw (padded, count) (set-append_seam bytes 0 (replicate (63 - length bytes) 0) v)
 
 length-ended : (bytes ending : List ℕ) (k : ℕ) → length ((bytes ++ 0x80 ∷ replicate k 0) ++ ending) ≡ length bytes + (suc k + length ending)
 length-ended bytes ending k =

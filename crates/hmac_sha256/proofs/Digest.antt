@@ -1,6 +1,7 @@
--- A digest's length.
-use Rattle.std.proofs.Common.{◌≡◌, ℕ, zero, suc, ◌*◌, ◌/◌, List, [], ◌∷◌, length, take, drop, refl, arith, length-append}
+-- How long a digest and an authentication code are.
+use Rattle.std.proofs.Common.{◌≡◌, ℕ, zero, suc, ◌*◌, ◌/◌, List, [], ◌∷◌, ◌++◌, length, take, drop, refl, arith, length-append}
 use Rattle.std.specs.Int.{to_be_bytes, w32}
+use Rattle.hmac_sha256.specs.Hmac.{hmac_sha256, inner_block, outer_block}
 use Rattle.hmac_sha256.specs.Sha256.{compress, fold_blocks, initial_words, pad, sha256, word_bytes}
 
 length-compress : (h b : List ℕ) → length (compress h b) ≡ 8
@@ -24,3 +25,8 @@ unfolding sha256
 length-sha256 m =
     let words = length-fold_blocks initial_words (pad m) (length (pad m) / 64) refl in
     omega (arith, length-word_bytes (fold_blocks initial_words (pad m) (length (pad m) / 64)), words)
+
+-- an authentication code has 32 bytes
+pub length-hmac_sha256 : (key m : List ℕ) → length (hmac_sha256 key m) ≡ 32
+unfolding hmac_sha256
+length-hmac_sha256 key m = length-sha256 (outer_block key ++ sha256 (inner_block key ++ m))

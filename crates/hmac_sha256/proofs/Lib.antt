@@ -1,4 +1,5 @@
 mod Words
 mod Schedule
 mod Absorbing
+mod Keys
 pub mod Digest

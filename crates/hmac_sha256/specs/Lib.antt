@@ -1,3 +1,5 @@
 pub mod Sha256
 pub mod Rounds
 pub mod Hash
+pub mod Hmac
+pub mod Mac

@@ -1,11 +1,15 @@
-//! SHA-256 (FIPS 180-4) on messages that come piece by piece, small and with no allocation.
+//! SHA-256 (FIPS 180-4) and HMAC with it (RFC 2104), on messages that come piece by piece. No call
+//! takes memory.
 //!
 //! A port of the Rust crate `hmac-sha256` 1.1.15.
 #![tactic(auto)]
 
+mod comparison;
 mod compression;
 mod hashing;
+mod mac;
 #[cfg(test)]
 mod tests;
 
 pub use hashing::{Hash, MAX_BYTES};
+pub use mac::HMAC;
