@@ -1,5 +1,6 @@
 -- What a `Hash` stands for: the list of the bytes that it has absorbed.
 use Rattle.std.specs.Prelude.{◌≡◌, ℕ, ◌*◌, ◌/◌, ◌%◌, List, length, take, drop}
+use Rattle.std.specs.Coded.{Coded-set, coded_list, coded_ℕ}
 use Rattle.hmac_sha256.specs.Sha256.{fold_blocks, initial_words}
 use Rattle.hmac_sha256.specs.declared.hashing.Hash.{Hash}
 
@@ -18,3 +19,8 @@ absorbed_bytes hash = hash.total
 -- bytes that it holds are the rest of m, and the number that it keeps is m's length.
 unfoldable pub StandsFor : Hash → List ℕ → Type 0
 StandsFor hash m = HasAbsorbed hash.state (take (hash.total % 64) hash.block) hash.total m
+
+-- for one hash and one list this is one fact
+pub StandsFor-prop : (hash : Hash) (m : List ℕ) → IsProp (StandsFor hash m)
+unfolding StandsFor
+StandsFor-prop hash m = hlevel (Coded-set (coded_list coded_ℕ), Coded-set coded_ℕ)
