@@ -5,3 +5,4 @@ pub mod Forest
 pub mod MessageDigest
 pub mod Checking
 pub mod ToySuite
+pub mod Signing
