@@ -4,14 +4,16 @@ use Rattle.std.specs.Prelude.{slice_range}
 use Rattle.std.proofs.lemmas.List.{append_assoc}
 use Rattle.std.proofs.lemmas.Nat.{mod_below, pow_pos}
 use Rattle.std.proofs.Math.Nat.{div-eq_of_lt}
+use Rattle.slh_chains.specs.Bytes.{part}
 use Rattle.slh_chains.specs.Parameters.{Scheme, bytes_for}
 use Rattle.slh_chains.specs.Suite.{HasLength, Seeded, seeded}
-use Rattle.slh_chains.proofs.Joins.{range_left, range_right, drop_front}
+use Rattle.slh_chains.proofs.Joins.{range_left, range_right, take_front, drop_front}
 use Rattle.slh_trees.specs.Checking.{checked_fors_key, checked_message, checked_root, digest_root, forest_size}
 use Rattle.slh_trees.specs.Forest.{fors_key, fors_signature}
 use Rattle.slh_trees.specs.Layers.{hypertree_signature, layer_message, tree_at}
 use Rattle.slh_trees.specs.MessageDigest.{digest_number}
-use Rattle.slh_trees.specs.Signing.{digest_signature, top_root}
+use Rattle.slh_trees.specs.Keys.{top_root}
+use Rattle.slh_trees.specs.Signing.{digest_signature, signature_with}
 use Rattle.slh_trees.specs.Tree.{node}
 use Rattle.slh_trees.proofs.Forests.{checked_fors_key-signature, length-fors_signature}
 use Rattle.slh_trees.proofs.Layers.{checked_message-signature}
@@ -41,3 +43,16 @@ unfolding digest_root digest_signature top_root digest_number
 digest_root-signature Z s sk rand digest law layers size =
     composed (seeded Z.suite Z.n s) Z.hp Z.d Z.a Z.k sk rand _ _ (take (bytes_for (Z.k * Z.a)) digest) law layers size
     (mod_below _ _ (pow_pos _)) (mod_below _ _ (pow_pos _))
+
+-- the randomizer is the front of the signature
+front_of_signature : (Z : Scheme) (s sk rand digest : List ℕ) → length rand ≡ Z.n → take Z.n (digest_signature Z s sk rand digest) ≡ rand
+unfolding digest_signature
+front_of_signature Z s sk rand digest size =
+    rw append_assoc (take_front Z.n rand _ size)
+
+pub checked_root-signature : (Z : Scheme) (key rand message : List ℕ) → HasLength Z.suite Z.n → 1 ≤ Z.d → length rand ≡ Z.n → checked_root Z (part Z.n key 2) (part Z.n key 3) message (signature_with Z key rand message) ≡ top_root Z (part Z.n key 2) (part Z.n key 0)
+checked_root-signature Z key rand message law layers size =
+    let s = part Z.n key 2 in
+    let sk = part Z.n key 0 in
+    let digest = Z.suite.h_msg rand s (part Z.n key 3) message in
+    rw (front_of_signature Z s sk rand digest size) (digest_root-signature Z s sk rand digest law layers size)

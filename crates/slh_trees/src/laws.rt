@@ -1,11 +1,13 @@
 //! Laws of trees, layers and forests, each the contract of a function that does nothing.
 ghost use Rattle.std.specs.Prelude.{◌≡◌, ℕ, suc, ◌/◌, ◌*◌, ◌^◌, ◌<◌, ◌≤◌, List, length};
+ghost use Rattle.slh_chains.specs.Bytes.{part};
 ghost use Rattle.slh_chains.specs.Suite.{seeded};
 ghost use Rattle.slh_trees.specs.Checking.{checked_fors_key, checked_message, checked_node};
-ghost use Rattle.slh_trees.specs.Checking.{digest_root};
+ghost use Rattle.slh_trees.specs.Checking.{checked_root, digest_root};
 ghost use Rattle.slh_trees.specs.Forest.{fors_key, fors_signature};
+ghost use Rattle.slh_trees.specs.Keys.{top_root};
 ghost use Rattle.slh_trees.specs.Layers.{hypertree_signature, layer_message};
-ghost use Rattle.slh_trees.specs.Signing.{digest_signature, top_root};
+ghost use Rattle.slh_trees.specs.Signing.{digest_signature, signature_with};
 ghost use Rattle.slh_trees.specs.Tree.{node, signed_leaf};
 
 use hybrid_array::ArraySize;
@@ -53,4 +55,15 @@ pub fn signature_leads_to_top<P: ForsParams>()
         → length rand ≡ P.N.USIZE
         → let sig = digest_signature P.scheme s sk rand digest in
         digest_root P.scheme s digest sig ≡ top_root P.scheme s sk }
+{}
+
+/// What a signing key makes of a message with any randomizer leads to the root of the key's top tree,
+/// whatever root the key has.
+pub fn made_leads_to_top<P: ForsParams>()
+    ensures { (key rand message : List ℕ)
+        → length rand ≡ P.N.USIZE
+        → let Z = P.scheme in
+        let s = part Z.n key 2 in
+        let sig = signature_with Z key rand message in
+        checked_root Z s (part Z.n key 3) message sig ≡ top_root Z s (part Z.n key 0) }
 {}
