@@ -1,10 +1,10 @@
 -- Parts that are joined, and found again.
-use Rattle.std.proofs.Common.{◌≡◌, ℕ, zero, suc, ◌+◌, ◌-◌, ◌*◌, ◌<◌, ◌≤◌, List, ◌++◌, length, drop, arith, refl, ◌∙◌, add-one, length-append, inl, inr}
+use Rattle.std.proofs.Common.{◌≡◌, ℕ, zero, suc, ◌+◌, ◌-◌, ◌*◌, ◌<◌, ◌≤◌, List, ◌++◌, length, take, drop, arith, refl, ◌∙◌, add-one, length-append, inl, inr}
 use Rattle.std.specs.Prelude.{slice_range}
 use Rattle.std.proofs.lemmas.List.{drop-append-le, take-append-le, length-drop}
 use Rattle.std.proofs.lemmas.Bool.{cases_lt}
 use Rattle.std.proofs.lemmas.Nat.{mul-le}
-use Rattle.std.proofs.Math.Seq.{drop-append_seam, take-length}
+use Rattle.std.proofs.Math.Seq.{drop-append_seam, take-append_seam, take-length}
 use Rattle.slh_chains.specs.Bytes.{joined, part}
 
 pub joined_more : (f : ℕ → List ℕ) (k : ℕ) → joined f (k + 1) ≡ joined f k ++ f k
@@ -48,3 +48,10 @@ part-joined f n (suc k) c h below =
       | inr past ↦ (let last : c ≡ k = omega arith in
           rw last (range_right (joined f k) (f k) (k * n) ((k + 1) * n) size (rw (h k) (omega arith))))
     ]
+
+-- the front of a known length, and what follows it
+pub take_front : (n : ℕ) (xs ys : List ℕ) → length xs ≡ n → take n (xs ++ ys) ≡ xs
+take_front n xs ys size = rw (← size) (take-append_seam xs ys)
+
+pub drop_front : (n : ℕ) (xs ys : List ℕ) → length xs ≡ n → drop n (xs ++ ys) ≡ ys
+drop_front n xs ys size = rw (← size) (drop-append_seam xs ys)

@@ -101,7 +101,5 @@ pub fn forest_sizes<P: ForsParams>()
     ensures digest_len { let tree_bits = P.H.USIZE - P.HPrime.USIZE in
         P.M.USIZE ≡ P.MD.USIZE + bytes_for tree_bits + bytes_for P.HPrime.USIZE }
     ensures digest_small { P.M.USIZE ≤ 140 }
-    ensures scheme {
-        P.scheme ≡ scheme_of P.suite P.N.USIZE P.HPrime.USIZE P.D.USIZE P.A.USIZE P.K.USIZE
-    }
+    ensures scheme { P.scheme ≡ scheme_of P.suite P.N.USIZE P.HPrime.USIZE P.D.USIZE P.A.USIZE P.K.USIZE }
 {}

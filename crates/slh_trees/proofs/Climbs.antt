@@ -3,13 +3,12 @@ use Rattle.std.proofs.Common.{◌≡◌, ℕ, zero, suc, ◌+◌, ◌*◌, ◌/�
 use Rattle.std.specs.Prelude.{Bool, true, false, ◌==◌, if◌then◌else◌}
 use Rattle.std.proofs.lemmas.Bool.Decides.{nat_tests}
 use Rattle.std.proofs.Math.Nat.{pow-suc, div-div-eq-div-mul, div-eq_of_lt}
-use Rattle.std.proofs.Math.Seq.{drop-append_seam, take-append_seam}
 use Rattle.slh_chains.specs.Bytes.{part}
 use Rattle.slh_chains.specs.Chain.{leaf, signed_chains}
 use Rattle.slh_chains.specs.Parameters.{chain_count}
 use Rattle.slh_chains.specs.Suite.{HasLength, Seeded}
 use Rattle.slh_chains.proofs.Chains.{checked_leaf-signed_chains, length-leaf, length-signed_chains}
-use Rattle.slh_chains.proofs.Joins.{part-joined, length-joined}
+use Rattle.slh_chains.proofs.Joins.{part-joined, length-joined, take_front, drop_front}
 use Rattle.slh_trees.specs.Checking.{checked_node}
 use Rattle.slh_trees.specs.Merkle.{Place, node_bytes, sibling_of, merkle, merkle_path, climb}
 use Rattle.slh_trees.specs.Tree.{tree_place, node, node_path, signed_leaf}
@@ -63,4 +62,4 @@ checked_node-signed_leaf K sk hp j t y m law below =
     let path = node_path K sk j t y hp in
     let size : length chains ≡ chain_count K.n * K.n = length-signed_chains K sk j t y m law in
     let top : y / 2 ^ hp ≡ 0 = div-eq_of_lt below in
-    rw (← size, take-append_seam chains path, drop-append_seam chains path, checked_leaf-signed_chains K sk j t y m law, climb-merkle_path K (tree_place j t) (leaf K sk j t) y hp hp law (λ i. length-leaf K sk j t i law) (omega arith), top) refl
+    rw (take_front _ chains path size, drop_front _ chains path size, checked_leaf-signed_chains K sk j t y m law, climb-merkle_path K (tree_place j t) (leaf K sk j t) y hp hp law (λ i. length-leaf K sk j t i law) (omega arith), top) refl

@@ -5,3 +5,5 @@ pub mod Forest
 pub mod MessageDigest
 pub mod Checking
 pub mod ToySuite
+pub mod Keys
+pub mod Signing

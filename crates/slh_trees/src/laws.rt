@@ -1,12 +1,18 @@
 //! Laws of trees, layers and forests, each the contract of a function that does nothing.
-ghost use Rattle.std.specs.Prelude.{◌≡◌, ℕ, ◌^◌, ◌<◌, List};
+ghost use Rattle.std.specs.Prelude.{◌≡◌, ℕ, suc, ◌/◌, ◌*◌, ◌^◌, ◌<◌, ◌≤◌, List, length};
+ghost use Rattle.slh_chains.specs.Bytes.{part};
 ghost use Rattle.slh_chains.specs.Suite.{seeded};
-ghost use Rattle.slh_trees.specs.Checking.{checked_node};
+ghost use Rattle.slh_trees.specs.Checking.{checked_fors_key, checked_message, checked_node};
+ghost use Rattle.slh_trees.specs.Checking.{checked_root, digest_root};
+ghost use Rattle.slh_trees.specs.Forest.{fors_key, fors_signature};
+ghost use Rattle.slh_trees.specs.Keys.{top_root};
+ghost use Rattle.slh_trees.specs.Layers.{hypertree_signature, layer_message};
+ghost use Rattle.slh_trees.specs.Signing.{digest_signature, signature_with};
 ghost use Rattle.slh_trees.specs.Tree.{node, signed_leaf};
 
 use hybrid_array::ArraySize;
 pub use slh_chains::laws::{chain_continues, signature_leads_to_leaf};
-use slh_chains::params::XmssParams;
+use slh_chains::params::{ForsParams, HypertreeParams, XmssParams};
 
 /// The signature of a message under a leaf of a tree leads to the tree's root.
 pub fn signature_leads_to_root<P: XmssParams>()
@@ -15,4 +21,49 @@ pub fn signature_leads_to_root<P: XmssParams>()
         → let K = seeded P.suite P.N.USIZE s in
         let hp = P.HPrime.USIZE in
         checked_node K j t y (signed_leaf K sk j t y m hp) m hp ≡ node K sk j t hp 0 }
+{}
+
+/// What the layers of a signature lead to, below any layer, is the message that this layer signs, and
+/// that is the root of the tree below.
+pub fn layers_sign_roots<P: HypertreeParams>()
+    ensures below { (s sk m : List ℕ) (t l d j : ℕ)
+        → l < 2 ^ P.HPrime.USIZE
+        → j ≤ d
+        → let K = seeded P.suite P.N.USIZE s in
+        let hp = P.HPrime.USIZE in
+        let sig = hypertree_signature K hp sk t l m d in
+        checked_message K hp t l sig m j ≡ layer_message K hp sk t l m j }
+    ensures root { (s sk m : List ℕ) (t l j : ℕ)
+        → let K = seeded P.suite P.N.USIZE s in
+        let hp = P.HPrime.USIZE in
+        layer_message K hp sk t l m (suc j) ≡ node K sk j (t / 2 ^ (j * hp)) hp 0 }
+{}
+
+/// The signature of the digest's first part leads to the forest's own public key.
+pub fn forest_leads_to_key<P: ForsParams>()
+    ensures { (s sk md : List ℕ) (t l : ℕ)
+        → let K = seeded P.suite P.N.USIZE s in
+        let k = P.K.USIZE in
+        let a = P.A.USIZE in
+        let sig = fors_signature K sk t l k a md in
+        checked_fors_key K t l k a sig md ≡ fors_key K sk t l k a }
+{}
+
+/// The signature of a digest with any randomizer leads to the root of the key's top tree.
+pub fn signature_leads_to_top<P: ForsParams>()
+    ensures { (s sk rand digest : List ℕ)
+        → length rand ≡ P.N.USIZE
+        → let sig = digest_signature P.scheme s sk rand digest in
+        digest_root P.scheme s digest sig ≡ top_root P.scheme s sk }
+{}
+
+/// What a signing key makes of a message with any randomizer leads to the root of the key's top tree,
+/// whatever root the key has.
+pub fn made_leads_to_top<P: ForsParams>()
+    ensures { (key rand message : List ℕ)
+        → length rand ≡ P.N.USIZE
+        → let Z = P.scheme in
+        let s = part Z.n key 2 in
+        let sig = signature_with Z key rand message in
+        checked_root Z s (part Z.n key 3) message sig ≡ top_root Z s (part Z.n key 0) }
 {}

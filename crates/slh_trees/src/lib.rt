@@ -7,5 +7,7 @@ pub mod digest;
 pub mod fors;
 pub mod hypertree;
 pub mod laws;
+#[cfg(test)]
+mod tests;
 pub mod toy;
 pub mod xmss;

@@ -1,0 +1,58 @@
+-- What is made leads to the root of the top tree.
+use Rattle.std.proofs.Common.{◌≡◌, ℕ, suc, ◌+◌, ◌-◌, ◌*◌, ◌^◌, ◌<◌, ◌≤◌, List, ◌++◌, length, take, drop, arith, refl, ap, ◌∙◌, length-append}
+use Rattle.std.specs.Prelude.{slice_range}
+use Rattle.std.proofs.lemmas.List.{append_assoc}
+use Rattle.std.proofs.lemmas.Nat.{mod_below, pow_pos}
+use Rattle.std.proofs.Math.Nat.{div-eq_of_lt}
+use Rattle.slh_chains.specs.Bytes.{part}
+use Rattle.slh_chains.specs.Parameters.{Scheme, bytes_for}
+use Rattle.slh_chains.specs.Suite.{HasLength, Seeded, seeded}
+use Rattle.slh_chains.proofs.Joins.{range_left, range_right, take_front, drop_front}
+use Rattle.slh_trees.specs.Checking.{checked_fors_key, checked_message, checked_root, digest_root, forest_size}
+use Rattle.slh_trees.specs.Forest.{fors_key, fors_signature}
+use Rattle.slh_trees.specs.Layers.{hypertree_signature, layer_message, tree_at}
+use Rattle.slh_trees.specs.MessageDigest.{digest_number}
+use Rattle.slh_trees.specs.Keys.{top_root}
+use Rattle.slh_trees.specs.Signing.{digest_signature, signature_with}
+use Rattle.slh_trees.specs.Tree.{node}
+use Rattle.slh_trees.proofs.Forests.{checked_fors_key-signature, length-fors_signature}
+use Rattle.slh_trees.proofs.Layers.{checked_message-signature}
+
+-- over any tree, leaf and bytes that name leaves of the forest
+composed : (K : Seeded) (hp d a k : ℕ) (sk rand : List ℕ) (t l : ℕ) (md : List ℕ) → HasLength K.suite K.n → 1 ≤ d → length rand ≡ K.n → t < 2 ^ ((d - 1) * hp) → l < 2 ^ hp →
+    checked_message K hp t l (drop (K.n + forest_size K.n k a) (rand ++ fors_signature K sk t l k a md ++ hypertree_signature K hp sk t l (fors_key K sk t l k a) d))
+    (checked_fors_key K t l k a (slice_range (rand ++ fors_signature K sk t l k a md ++ hypertree_signature K hp sk t l (fors_key K sk t l k a) d) K.n (K.n + forest_size K.n k a)) md) d
+    ≡ node K sk (d - 1) 0 hp 0
+composed K hp d a k sk rand t l md law layers size tree leaf =
+    let forest = fors_signature K sk t l k a md in
+    let key = fors_key K sk t l k a in
+    let upper = hypertree_signature K hp sk t l key d in
+    let split = K.n + forest_size K.n k a in
+    let forest_len : length forest ≡ forest_size K.n k a = length-fors_signature K sk t l k a md law in
+    let front_len : length (rand ++ forest) ≡ split = rw (length-append rand forest, size, forest_len) refl in
+    let rest : drop split (rand ++ forest ++ upper) ≡ upper = drop_front split (rand ++ forest) upper front_len in
+    let middle : slice_range (rand ++ forest ++ upper) K.n split ≡ forest
+    = range_left (rand ++ forest) upper K.n split (omega arith) (omega arith) ∙ range_right rand forest K.n split size (rw forest_len refl) in
+    let last : d ≡ suc (d - 1) = omega arith in
+    let top : tree_at hp t (d - 1) ≡ 0 = div-eq_of_lt tree in
+    rw (rest, middle, checked_fors_key-signature K sk t l k a md law, checked_message-signature K hp sk t l key d d law leaf (omega arith))
+    (ap (λ e. layer_message K hp sk t l key e) last ∙ ap (λ e. node K sk (d - 1) e hp 0) top)
+
+pub digest_root-signature : (Z : Scheme) (s sk rand digest : List ℕ) → HasLength Z.suite Z.n → 1 ≤ Z.d → length rand ≡ Z.n → digest_root Z s digest (digest_signature Z s sk rand digest) ≡ top_root Z s sk
+unfolding digest_root digest_signature top_root digest_number
+digest_root-signature Z s sk rand digest law layers size =
+    composed (seeded Z.suite Z.n s) Z.hp Z.d Z.a Z.k sk rand _ _ (take (bytes_for (Z.k * Z.a)) digest) law layers size
+    (mod_below _ _ (pow_pos _)) (mod_below _ _ (pow_pos _))
+
+-- the randomizer is the front of the signature
+front_of_signature : (Z : Scheme) (s sk rand digest : List ℕ) → length rand ≡ Z.n → take Z.n (digest_signature Z s sk rand digest) ≡ rand
+unfolding digest_signature
+front_of_signature Z s sk rand digest size =
+    rw append_assoc (take_front Z.n rand _ size)
+
+pub checked_root-signature : (Z : Scheme) (key rand message : List ℕ) → HasLength Z.suite Z.n → 1 ≤ Z.d → length rand ≡ Z.n → checked_root Z (part Z.n key 2) (part Z.n key 3) message (signature_with Z key rand message) ≡ top_root Z (part Z.n key 2) (part Z.n key 0)
+checked_root-signature Z key rand message law layers size =
+    let s = part Z.n key 2 in
+    let sk = part Z.n key 0 in
+    let digest = Z.suite.h_msg rand s (part Z.n key 3) message in
+    rw (front_of_signature Z s sk rand digest size) (digest_root-signature Z s sk rand digest law layers size)

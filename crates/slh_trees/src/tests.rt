@@ -1,0 +1,143 @@
+// A key of the toy suite with secret seed 5, PRF key 7 and public seed 3, and its signature of the message
+// 48 under an empty context without a randomizer. The values were worked by hand from the definitions.
+ghost use Rattle.std.specs.Prelude.{◌≡◌, ◌+◌, ◌<◌, length};
+
+use crate::check::check_root;
+use crate::digest::split_digest;
+use crate::fors::{fors_pk_from_sig, fors_sign};
+use crate::hypertree::{ht_sign, ht_verify};
+use crate::toy::Toy;
+use crate::xmss::xmss_node;
+use hybrid_array::sizes::U1;
+use slh_chains::address::{ForsTree, WotsHash};
+use slh_chains::nbytes::NBytes;
+use slh_chains::steps::Steps;
+use slh_chains::suite::HashSuite;
+use std::marker::Brand;
+use std::sync::ledger::{Blank, Ledger};
+use std::test::Fail;
+
+// The randomizer, the forest's part, and the two layers' parts.
+const SIGNATURE: [u8; 21] = [
+    0x52, 0x52, 0x34, 0x89, 0x73, 0x3b, 0x15, 0x14, 0x1a, 0x49, 0x2b, 0x57, 0xa3, 0x3e, 0x1e, 0x17,
+    0x2f, 0x36, 0x20, 0xa3, 0x3e,
+];
+
+fn byte(value: u8) -> NBytes<U1> {
+    NBytes::exact(&[value])
+}
+
+fn top() -> WotsHash {
+    WotsHash {
+        layer_adrs: 1,
+        tree_adrs_low: 0,
+        key_pair_adrs: 0,
+        chain_adrs: 0,
+        hash_adrs: 0,
+    }
+}
+
+// The whole top tree.
+fn top_root<L: Ledger>(steps: &mut Steps<L>) -> NBytes<U1>
+    ensures { steps.new ≡ steps.old + 327 }
+{
+    xmss_node::<Toy, L>(&byte(5), 0, 2, &Toy::keyed(&byte(3)), &top(), steps)
+}
+
+fn root_of_key<L: Ledger>(blank: Blank) -> NBytes<U1>
+    requires name { blank.name ≡ L.name }
+    requires parts { blank.parts ≡ L.parts }
+    requires some { 0 < blank.parts }
+{
+    let mut steps = Steps::<L>::new(blank);
+    top_root(&mut steps)
+}
+
+#[test]
+fn root_of_the_key(rt: HostRuntime) {
+    let root = root_of_key::<Brand>(Blank::new(1));
+    assert_eq!(rt; root.as_slice(), [225].as_slice());
+}
+
+#[test]
+fn digest_of_the_message(rt: HostRuntime) {
+    let rand = Toy::prf_msg(&byte(7), &byte(3), &[0, 0], &[], &[0x48]);
+    assert_eq!(rt; rand.as_slice(), [82].as_slice());
+    let mut digest = [0; 3];
+    Toy::h_msg(
+        &rand,
+        &byte(3),
+        &byte(225),
+        &[0, 0],
+        &[],
+        &[0x48],
+        &mut digest,
+    );
+    assert_eq!(rt; digest, [157, 194, 231]);
+    let (md, tree, leaf) = split_digest::<Toy>(&digest);
+    assert_eq!(rt; md, [0x9d].as_slice());
+    assert_eq!(rt; tree, 2);
+    assert_eq!(rt; leaf, 3);
+}
+
+// Both parts of the signature, the forest's key, and whether the upper part leads to the root.
+fn sign<L: Ledger>(blank: Blank) -> ([u8; 6], [u8; 14], NBytes<U1>, bool)
+    requires name { blank.name ≡ L.name }
+    requires parts { blank.parts ≡ L.parts }
+    requires some { 0 < blank.parts }
+{
+    let mut steps = Steps::<L>::new(blank);
+    let keyed = Toy::keyed(&byte(3));
+    let adrs = ForsTree::new(2, 3);
+    let mut forest = [0; 6];
+    fors_sign::<Toy, L>(&[0x9d], &byte(5), &keyed, &adrs, &mut forest, &mut steps);
+    let key = fors_pk_from_sig::<Toy, L>(&forest, &[0x9d], &keyed, &adrs, &mut steps);
+    let mut layers = [0; 14];
+    ht_sign::<Toy, L>(&key, &byte(5), &keyed, 2, 3, &mut layers, &mut steps);
+    let accepted = ht_verify::<Toy, L>(&key, &layers, &keyed, 2, 3, &byte(225), &mut steps);
+    (forest, layers, key, accepted)
+}
+
+#[test]
+fn parts_of_the_signature(rt: HostRuntime) {
+    let (forest, layers, key, accepted) = sign::<Brand>(Blank::new(1));
+    assert_eq!(rt; forest[..], SIGNATURE[1..7]);
+    assert_eq!(rt; layers[..], SIGNATURE[7..21]);
+    assert_eq!(rt; key.as_slice(), [44].as_slice());
+    assert!(rt; accepted);
+}
+
+fn root_for<L: Ledger>(sig: &[u8], blank: Blank) -> NBytes<U1>
+    requires whole { length sig.now ≡ 21 }
+    requires name { blank.name ≡ L.name }
+    requires parts { blank.parts ≡ L.parts }
+    requires some { 0 < blank.parts }
+{
+    let mut steps = Steps::<L>::new(blank);
+    check_root::<Toy, L>(&byte(3), &byte(225), &[0, 0], &[], &[0x48], sig, &mut steps)
+}
+
+// The signature, changes of it whose hashes meet those of the signature, and one whose hashes don't.
+#[test]
+fn roots_of_changed_bytes(rt: HostRuntime) {
+    let rows: [(&[(usize, u8)], u8); 9] = [
+        (&[], 225),
+        (&[(1, 0x53)], 225),
+        (&[(1, 0x54)], 225),
+        (&[(3, 0x8f), (6, 0x14)], 225),
+        (&[(9, 0x48)], 225),
+        (&[(14, 0x1c), (18, 0x21)], 225),
+        (&[(20, 0x3f)], 225),
+        (&[(6, 0x14), (8, 0x14), (11, 0x12)], 225),
+        (&[(18, 0x21)], 228),
+    ];
+    for (changes, want) in rows {
+        let mut sig = SIGNATURE;
+        for (place, value) in changes {
+            assert!(rt; *place < 21);
+            sig[*place] = *value;
+        }
+        let root = root_for::<Brand>(&sig, Blank::new(1));
+        assert_eq!(rt; root.as_slice(), [want].as_slice(), "after {changes:?}");
+    }
+}
