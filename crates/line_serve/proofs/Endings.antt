@@ -8,6 +8,7 @@ use Rattle.line_serve.specs.Lines.{line_limit, closed_lines, unfinished, ended_l
 use Rattle.line_serve.specs.Engine.{TakesFront, GoesOn, Stops, Progress}
 use Rattle.line_serve.specs.Served.{BeginsWith, Served, input_limit}
 use Rattle.line_serve.specs.declared.pending.Pending.{Pending}
+use Rattle.line_serve.proofs.Fronts.{all_taken, front_taken}
 use Rattle.line_serve.proofs.Runs.{replies_to-append}
 
 begins_all : (xs : List ℕ) → BeginsWith xs xs
@@ -40,7 +41,7 @@ module _ (reply : List ℕ → List ℕ) where
       p = so_far.p;
       out = replies_to reply (closed_lines so_far.p);
       consumed = Consumes-kept left left' left'' so_far.p so_far.consumed same;
-      appended = so_far.answered.replied;
+      appended = all_taken start taken _ so_far.answered.replied;
       within = size;
       answered = λ s. absurd (omega arith);
       prefix = record {
@@ -56,7 +57,7 @@ module _ (reply : List ℕ → List ℕ) where
       p = so_far.p;
       out = replies_to reply (closed_lines so_far.p);
       consumed = so_far.consumed;
-      appended = so_far.answered.replied;
+      appended = all_taken start taken _ so_far.answered.replied;
       within = size;
       answered = λ s. absurd (omega arith);
       prefix = record {
@@ -100,9 +101,9 @@ module _ (reply : List ℕ → List ℕ) where
         limit = (λ s. absurd (omega arith), λ r. absurd (⊎_elim r.2 r.3 is));
       }
 
-      pub cut_within : (status : ℕ) → (status ≡ 4) ⊎ (status ≡ 6) → n ≤ input_limit - count → Stops reply taken pending taken' (take n buffer) → Served reply left left'' start taken' status
+      pub cut_within : (status : ℕ) → (status ≡ 4) ⊎ (status ≡ 6) → n ≤ input_limit - count → Stops reply taken [] pending taken' [] (take n buffer) → Served reply left left'' start taken' status
       cut_within status is few stops =
-          let took = stops so_far.p start so_far.answered in
+          let took = front_taken start taken' _ (stops so_far.p start so_far.answered) in
           let q = so_far.p ++ take n buffer in
           record {
             p = q;
@@ -120,7 +121,7 @@ module _ (reply : List ℕ → List ℕ) where
           }
 
       -- the engine has gone on by what was read
-      pub progressed : (new : Pending) → n ≤ length buffer → GoesOn reply taken pending taken' new (take n buffer) → Progress reply left left'' start taken' new (count + n)
+      pub progressed : (new : Pending) → n ≤ length buffer → GoesOn reply taken [] pending taken' [] new (take n buffer) → Progress reply left left'' start taken' new (count + n)
       progressed new within on = record {
         p = so_far.p ++ take n buffer;
         consumed = Consumes-trans left left' left'' so_far.p _ so_far.consumed read;

@@ -8,15 +8,19 @@
 //! - [`count_fields`], [`field`] and [`hex_field`] take a line apart.
 #![tactic(auto)]
 
+mod answer;
 mod bytes;
 mod fields;
 mod lines;
 mod memory;
 mod pending;
 mod stream;
+mod write;
 
+pub use answer::Replier;
 pub use bytes::{ByteString, Words};
 pub use fields::{count_fields, field, hex_field};
-pub use lines::{Replier, serve_lines, write_all};
+pub use lines::serve_lines;
 pub use memory::{MemSink, MemSource, NullSink, QuietSource};
 pub use stream::{Failed, Sink, Source};
+pub use write::write_all;
