@@ -19,5 +19,6 @@ IsBeforeRound b h w v t = IsRing b w t × (v ≡ rounds_until h b t)
 -- the word that comes to a place of the ring, from the words that stand in it
 abbrev pub ring_word : List ℕ → ℕ → ℕ
 ring_word w place =
-    sum32 (sum32 (sum32 (lower_sigma1 (slice_index w ((place + 14) % 16))) (slice_index w ((place + 9) % 16)))
+    sum32 (sum32 (sum32 (lower_sigma1 (slice_index w ((place + 14) % 16)))
+    (slice_index w ((place + 9) % 16)))
     (lower_sigma0 (slice_index w ((place + 1) % 16)))) (slice_index w (place % 16))

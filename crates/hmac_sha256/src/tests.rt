@@ -1,15 +1,158 @@
-//! Messages against the standard's examples.
+//! Digests and authentication codes against published ones, and against Python's `hashlib` and
+//! `hmac`.
 
-use crate::Hash;
+use crate::{HMAC, Hash};
+use std::test::Fail;
+
+// A digest in hexadecimal.
+fn hex(digest: &[u8; 32]) -> [u8; 64] {
+    let mut text = [0u8; 64];
+    for i in 0..32 {
+        text[2 * i] = b"0123456789abcdef"[(digest[i] / 16) as usize];
+        text[2 * i + 1] = b"0123456789abcdef"[(digest[i] % 16) as usize];
+    }
+    text
+}
+
+fn first_bytes(digest: &[u8; 32]) -> &[u8] {
+    &digest[..31]
+}
+
+// FIPS 180-4's examples, and the digest of nothing.
+#[test]
+fn digests_of_the_standard(rt: HostRuntime) {
+    assert_eq!(rt;
+        hex(&Hash::hash(b"abc")),
+        *b"ba7816bf8f01cfea414140de5dae2223b00361a396177a9cb410ff61f20015ad"
+    );
+    assert_eq!(rt;
+        hex(&Hash::hash(b"")),
+        *b"e3b0c44298fc1c149afbf4c8996fb92427ae41e4649b934ca495991b7852b855"
+    );
+    let two_blocks = b"abcdbcdecdefdefgefghfghighijhijkijkljklmklmnlmnomnopnopq";
+    assert_eq!(rt;
+        hex(&Hash::hash(two_blocks)),
+        *b"248d6a61d20638b8e5c026930c3e6039a33ce45964ff2167f6ecedd419db06c1"
+    );
+}
+
+// Byte `i` of the message is `7 * i + 3`, and each digest is that of the one before it and a
+// longer piece of the message. The last is from Python's `hashlib`.
+#[test]
+fn digests_of_all_lengths(rt: HostRuntime) {
+    let mut message = [0u8; 300];
+    for i in 0..300usize {
+        message[i] = ((7 * i + 3) % 256) as u8;
+    }
+    let mut digest = [0u8; 32];
+    for n in 0..301usize {
+        let mut hash = Hash::new();
+        hash.update(&digest);
+        hash.update(&message[..n / 3]);
+        digest = hash.finalize_with(&message[n / 3..n]);
+    }
+    assert_eq!(rt;
+        hex(&digest),
+        *b"ba6f82458402eac3a7efe79237fa695b92dc91244efde7f934c5b707acac8974"
+    );
+}
 
 #[test]
-fn abc_has_the_digest_of_the_standard(rt: HostRuntime) {
+fn copies_go_on_apart(rt: HostRuntime) -> Result<(), Fail> {
+    let mut hash: Hash = Default::default();
+    hash.update(&[0x61; 64]);
+    let mut other = hash.clone()?;
+    other.update(b"tail");
+    assert_eq!(rt; other.absorbed(), 68);
+    assert_eq!(rt; hash.absorbed(), 64);
+    assert_eq!(rt; hash.finalize_with(b"tail"), other.finalize());
+    let mac = HMAC::new(b"key");
+    let mut other = mac.clone()?;
+    other.update(b"tail");
+    assert_eq!(rt; other.finalize(), HMAC::mac(b"tail", b"key"));
+    assert_eq!(rt; mac.finalize(), HMAC::mac(b"", b"key"));
+    Ok(())
+}
+
+// The cases 1, 2 and 6 of RFC 4231.
+#[test]
+fn codes_of_the_rfc(rt: HostRuntime) {
     assert_eq!(rt;
-        Hash::hash(b"abc"),
-        [
-            0xba, 0x78, 0x16, 0xbf, 0x8f, 0x01, 0xcf, 0xea, 0x41, 0x41, 0x40, 0xde, 0x5d, 0xae,
-            0x22, 0x23, 0xb0, 0x03, 0x61, 0xa3, 0x96, 0x17, 0x7a, 0x9c, 0xb4, 0x10, 0xff, 0x61,
-            0xf2, 0x00, 0x15, 0xad,
-        ]
+        hex(&HMAC::mac(b"Hi There", &[0x0b; 20])),
+        *b"b0344c61d8db38535ca8afceaf0bf12b881dc200c9833da726e9376c2e32cff7"
     );
+    assert_eq!(rt;
+        hex(&HMAC::mac(b"what do ya want for nothing?", b"Jefe")),
+        *b"5bdcc146bf60754e6a042426089575c75a003f089d2739839dec58b964ec3843"
+    );
+    let long = b"Test Using Larger Than Block-Size Key - Hash Key First";
+    assert_eq!(rt;
+        hex(&HMAC::mac(long, &[0xaa; 131])),
+        *b"60e431591ee0b67f0d8a26aacbf5b77f8e0bc6213728c5140546040f0ee37f54"
+    );
+}
+
+// The codes of the Rust crate's own test.
+#[test]
+fn codes_of_the_crate(rt: HostRuntime) {
+    let code = *b"709c78d856194fd29bc120787486ed0ec60140297cc4675b6dd8248504eadae4";
+    assert_eq!(rt; hex(&HMAC::mac(&[0x45; 250], &[0x2a; 50])), code);
+    let mut mac = HMAC::new(&[0x2a; 50]);
+    mac.update(&[0x45; 150]);
+    mac.update(&[0x45; 100]);
+    assert_eq!(rt; mac.absorbed(), 64 + 250);
+    assert_eq!(rt; hex(&mac.finalize()), code);
+    assert_eq!(rt;
+        hex(&HMAC::mac(b"", &[0; 32])),
+        *b"b613679a0814d9ec772f95d778c35fc5ff1697c493715653c6c712144292c5ad"
+    );
+    assert_eq!(rt;
+        hex(&HMAC::mac(&[0x2a; 69], b"")),
+        *b"e15823084eb9a506eb7c1cfa707c9f779f58b83d0725a6e5479a539997b5b648"
+    );
+}
+
+// Byte `i` of the key is `5 * i + 1`, and each code is that of the one before it under a longer
+// piece of the key. The last is from Python's `hmac`.
+#[test]
+fn codes_of_all_key_lengths(rt: HostRuntime) {
+    let mut key = [0u8; 131];
+    for i in 0..131usize {
+        key[i] = ((5 * i + 1) % 256) as u8;
+    }
+    let mut code = [0u8; 32];
+    for n in 0..132usize {
+        code = HMAC::mac(&code, &key[..n]);
+    }
+    assert_eq!(rt;
+        hex(&code),
+        *b"fa0801af4e06a6b58fb0711aef5fdfc8f7cb108a450bdb2324f8e69cc994cfbe"
+    );
+}
+
+#[test]
+fn expected_digests(rt: HostRuntime) {
+    let digest = Hash::hash(&[0x2a; 123]);
+    assert!(rt; Hash::verify(&[0x2a; 123], &digest));
+    assert!(rt; !Hash::verify(&[0x2a; 124], &digest));
+    let mut hash = Hash::new();
+    hash.update(&[0x2a; 123]);
+    assert!(rt; hash.copy().finalize_verify(&digest));
+    assert!(rt; hash.copy().verify_with_ref(&digest));
+    assert!(rt; !hash.copy().verify_with_ref(first_bytes(&digest)));
+    hash.update(&[0x2a]);
+    assert!(rt; !hash.copy().finalize_verify(&digest));
+    assert!(rt; !hash.verify_with_ref(&digest));
+}
+
+#[test]
+fn expected_codes(rt: HostRuntime) {
+    let code = HMAC::mac(&[0x45; 250], &[0x2a; 50]);
+    assert!(rt; HMAC::verify(&[0x45; 250], &[0x2a; 50], &code));
+    assert!(rt; !HMAC::verify(&[0x45; 251], &[0x2a; 50], &code));
+    let mut mac = HMAC::new(&[0x2a; 50]);
+    mac.update(&[0x45; 250]);
+    assert!(rt; mac.copy().finalize_verify(&code));
+    mac.update(&[0x45]);
+    assert!(rt; !mac.finalize_verify(&code));
 }
