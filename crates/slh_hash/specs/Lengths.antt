@@ -1,0 +1,38 @@
+-- How many bytes the functions of the SHA-2 parameter sets give.
+use Rattle.std.proofs.Common.{◌≡◌, ℕ, zero, suc, ◌+◌, ◌*◌, ◌/◌, ◌≤◌, List, [], ◌++◌, length, take, refl, arith, length-append}
+use Rattle.std.proofs.lemmas.List.{length-take-le}
+use Rattle.hmac_sha256.specs.Sha256.{sha256}
+use Rattle.hmac_sha256.specs.Hmac.{hmac_sha256}
+use Rattle.hmac_sha256.proofs.Digest.{length-sha256, length-hmac_sha256}
+use Rattle.slh_chains.proofs.Joins.{length-joined}
+use Rattle.slh_chains.specs.Address.{compressed_address}
+use Rattle.slh_chains.specs.Bytes.{big_endian, joined}
+use Rattle.slh_chains.specs.Suite.{HasLength, HasDigestLength}
+use Rattle.slh_hash.specs.Sha2.{seed_block, mgf1_sha256, message_digest, sha2_category_1, tweaked_hash}
+
+pub length-tweaked_hash : (n : ℕ) (s a x : List ℕ) → n ≤ 32 → length (tweaked_hash n s a x) ≡ n
+unfolding tweaked_hash
+length-tweaked_hash n s a x small =
+    let m : List ℕ = seed_block n s ++ (compressed_address a ++ x) in
+    length-take-le n (sha256 m) (omega (arith, length-sha256 m))
+
+pub length-mgf1_sha256 : (seed : List ℕ) (len : ℕ) → length (mgf1_sha256 seed len) ≡ len
+unfolding mgf1_sha256
+length-mgf1_sha256 seed len =
+    let count = (len + 31) / 32 in
+    let all = length-joined (λ i. sha256 (seed ++ big_endian i 4)) 32 count (λ i. length-sha256 _) in
+    length-take-le len (joined (λ i. sha256 (seed ++ big_endian i 4)) count) (omega (arith, all))
+
+pub sha2_category_1_lengths : (n m : ℕ) → n ≤ 32 → HasLength (sha2_category_1 n m) n
+sha2_category_1_lengths n m small = record {
+  f = λ s a x. length-tweaked_hash n s a x small;
+  h = λ s a l r. length-tweaked_hash n s a (l ++ r) small;
+  t = λ s a x. length-tweaked_hash n s a x small;
+  prf = λ s a sk. length-tweaked_hash n s a sk small;
+  prf_msg = λ key opt message.
+      length-take-le n (hmac_sha256 key (opt ++ message)) (omega (arith, length-hmac_sha256 key (opt ++ message)));
+}
+
+pub sha2_category_1_digest_length : (n m : ℕ) → HasDigestLength (sha2_category_1 n m) m
+unfolding message_digest
+sha2_category_1_digest_length n m = record { h_msg = λ r s root message. length-mgf1_sha256 _ m }

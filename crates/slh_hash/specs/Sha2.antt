@@ -1,0 +1,34 @@
+-- The functions of the SHA-2 parameter sets (FIPS 205, sections 11.2.1 and 11.2.2).
+use Rattle.std.specs.Prelude.{ℕ, ◌+◌, ◌-◌, ◌*◌, ◌/◌, List, ◌++◌, take, replicate}
+use Rattle.hmac_sha256.specs.Sha256.{sha256}
+use Rattle.hmac_sha256.specs.Hmac.{hmac_sha256}
+use Rattle.slh_chains.specs.Bytes.{big_endian, joined}
+use Rattle.slh_chains.specs.Address.{compressed_address}
+use Rattle.slh_chains.specs.Suite.{Suite}
+
+-- the public seed, followed by as many zeros as make it a block of SHA-256
+abbrev pub seed_block : ℕ → List ℕ → List ℕ
+seed_block n s = s ++ replicate (64 - n) 0
+
+-- n bytes of the hash of the seed's block, the compressed address and an input
+unfoldable pub tweaked_hash : ℕ → List ℕ → List ℕ → List ℕ → List ℕ
+tweaked_hash n s a x = take n (sha256 (seed_block n s ++ (compressed_address a ++ x)))
+
+-- the first bytes of the hashes of a seed and a counter of four bytes, from 0 on
+unfoldable pub mgf1_sha256 : List ℕ → ℕ → List ℕ
+mgf1_sha256 seed len = take len (joined (λ i. sha256 (seed ++ big_endian i 4)) ((len + 31) / 32))
+
+-- the digest of a message: MGF1 over the randomizer, the public seed and a hash, cut to m bytes
+unfoldable pub message_digest : ℕ → List ℕ → List ℕ → List ℕ → List ℕ → List ℕ
+message_digest m r s root message = mgf1_sha256 (r ++ s ++ sha256 (r ++ s ++ root ++ message)) m
+
+-- the suite of security category 1, whose values have n bytes and whose digests m
+abbrev pub sha2_category_1 : ℕ → ℕ → Suite
+sha2_category_1 n m = record {
+  f = tweaked_hash n;
+  h = λ s a l r. tweaked_hash n s a (l ++ r);
+  t = tweaked_hash n;
+  prf = tweaked_hash n;
+  prf_msg = λ key opt message. take n (hmac_sha256 key (opt ++ message));
+  h_msg = message_digest m;
+}

@@ -1,0 +1,144 @@
+//! The suite of security category 1 (FIPS 205, section 11.2.1).
+ghost use Rattle.std.specs.Prelude.{◌≡◌, ◌+◌, ◌^◌, ◌≤◌, ◌++◌, length};
+ghost use Rattle.hmac_sha256.specs.Sha256.{sha256};
+ghost use Rattle.slh_hash.specs.Sha2.{sha2_category_1};
+ghost use Rattle.slh_hash.specs.Lengths.{sha2_category_1_lengths, sha2_category_1_digest_length};
+
+use crate::join::{put_three, put_two};
+use crate::keyed::Sha2Keyed;
+use crate::mgf1::mgf1_256;
+use crate::tweaked::{long_hash, short_hash, start};
+use hmac_sha256::{HMAC, Hash};
+use hybrid_array::ArraySize;
+use slh_chains::address::Address;
+use slh_chains::nbytes::NBytes;
+use slh_chains::steps::Steps;
+use slh_chains::suite::HashSuite;
+use std::marker::PhantomData;
+use std::sync::ledger::Ledger;
+
+/// SHA-256 throughout, with values of `N::USIZE` bytes and digests of `M::USIZE`.
+pub struct Sha2L1<N: ArraySize, M: ArraySize> {
+    value: PhantomData<N>,
+    digest: PhantomData<M>,
+}
+
+#[tactic(auto, unfolding(crate::specs::Sha2::message_digest))]
+impl<N: ArraySize, M: ArraySize> HashSuite for Sha2L1<N, M> {
+    type N = N;
+
+    type M = M;
+
+    type Keyed = Sha2Keyed<N>;
+
+    ghost suite = { sha2_category_1 N.USIZE M.USIZE };
+
+    ghost seed_of = { λ keyed. keyed.pk_seed };
+
+    fn keyed(pk_seed: &NBytes<N>) -> Sha2Keyed<N> {
+        start(pk_seed)
+    }
+
+    #[inline]
+    fn f<A: Address, L: Ledger>(
+        keyed: &Sha2Keyed<N>,
+        adrs: &A,
+        m: &NBytes<N>,
+        steps: &mut Steps<L>,
+    ) -> NBytes<N> {
+        steps.tick();
+        short_hash(keyed, adrs, m.as_slice())
+    }
+
+    #[inline]
+    fn h<A: Address, L: Ledger>(
+        keyed: &Sha2Keyed<N>,
+        adrs: &A,
+        m1: &NBytes<N>,
+        m2: &NBytes<N>,
+        steps: &mut Steps<L>,
+    ) -> NBytes<N> {
+        steps.tick();
+        let mut both = [0u8; 64];
+        let end = put_two(m1.as_slice(), m2.as_slice(), &mut both);
+        short_hash(keyed, adrs, &both[..end])
+    }
+
+    fn t<A: Address, L: Ledger>(
+        keyed: &Sha2Keyed<N>,
+        adrs: &A,
+        m: &[u8],
+        steps: &mut Steps<L>,
+    ) -> NBytes<N> {
+        steps.tick();
+        long_hash(keyed, adrs, m)
+    }
+
+    #[inline]
+    fn prf_sk<A: Address, L: Ledger>(
+        keyed: &Sha2Keyed<N>,
+        sk_seed: &NBytes<N>,
+        adrs: &A,
+        steps: &mut Steps<L>,
+    ) -> NBytes<N> {
+        steps.tick();
+        short_hash(keyed, adrs, sk_seed.as_slice())
+    }
+
+    fn prf_msg(
+        sk_prf: &NBytes<N>,
+        opt_rand: &NBytes<N>,
+        head: &[u8],
+        ctx: &[u8],
+        msg: &[u8],
+    ) -> NBytes<N> {
+        let mut mac = HMAC::new(sk_prf.as_slice());
+        mac.update(opt_rand.as_slice());
+        mac.update(head);
+        mac.update(ctx);
+        mac.update(msg);
+        NBytes::first_of(mac.finalize())
+    }
+
+    fn h_msg(
+        rand: &NBytes<N>,
+        pk_seed: &NBytes<N>,
+        pk_root: &NBytes<N>,
+        head: &[u8],
+        ctx: &[u8],
+        msg: &[u8],
+        out: &mut [u8],
+    ) {
+        let digest = message_hash(rand, pk_seed, pk_root, head, ctx, msg);
+        let mut seed = [0u8; 96];
+        let end = put_three(rand.as_slice(), pk_seed.as_slice(), &digest, &mut seed);
+        mgf1_256(&seed[..end], out);
+    }
+
+    ghost lengths = { sha2_category_1_lengths N.USIZE M.USIZE };
+
+    ghost digest_length = { λ _. sha2_category_1_digest_length N.USIZE M.USIZE };
+}
+
+// The hash of a signature's randomizer, the public seed, the root and the message.
+fn message_hash<N: ArraySize>(
+    rand: &NBytes<N>,
+    pk_seed: &NBytes<N>,
+    pk_root: &NBytes<N>,
+    head: &[u8],
+    ctx: &[u8],
+    msg: &[u8],
+) -> [u8; 32]
+    requires { length head.now + length ctx.now + length msg.now ≤ 2 ^ 60 + 512 }
+    ensures { result ≡ sha256 (rand.now ++ pk_seed.now ++ pk_root.now
+        ++ (head.now ++ ctx.now ++ msg.now)) }
+{
+    let mut hash = Hash::new();
+    hash.update(rand.as_slice());
+    hash.update(pk_seed.as_slice());
+    hash.update(pk_root.as_slice());
+    hash.update(head);
+    hash.update(ctx);
+    hash.update(msg);
+    hash.finalize()
+}
