@@ -7,3 +7,4 @@ pub mod Checking
 pub mod ToySuite
 pub mod Keys
 pub mod Signing
+pub mod Frame

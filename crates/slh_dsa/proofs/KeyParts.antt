@@ -1,0 +1,55 @@
+-- The parts of a key, from its bytes.
+use Rattle.std.proofs.Common.{◌≡◌, ℕ, zero, suc, ◌+◌, ◌-◌, ◌*◌, List, [], ◌++◌, length, take, drop, Option, unwrap_or, refl, sym, ◌∙◌, ap, arith, append_assoc, append-nil}
+use Rattle.std.proofs.Math.Seq.{take-append_seam, take-append-add, drop-append-add}
+use Rattle.slh_chains.specs.Bytes.{part}
+use Rattle.slh_chains.specs.Parameters.{Scheme}
+use Rattle.slh_trees.specs.Frame.{frame, frame_head}
+use Rattle.slh_trees.specs.Signing.{digest_signature, signature_of}
+
+-- the first part
+part_first : (n : ℕ) (a rest : List ℕ) → length a ≡ n → part n (a ++ rest) 0 ≡ a
+part_first n a rest len =
+    let width : (0 + 1) * n - 0 * n ≡ length a = omega arith in
+    let from : 0 * n ≡ 0 = omega arith in
+    rw (width, from) (take-append_seam a rest)
+
+-- the parts after the first
+part_later : (n c : ℕ) (a rest : List ℕ) → length a ≡ n → part n (a ++ rest) (suc c) ≡ part n rest c
+part_later n c a rest len =
+    let width : (suc c + 1) * n - suc c * n ≡ (c + 1) * n - c * n = omega arith in
+    let from : suc c * n ≡ length a + c * n = omega arith in
+    rw (width, from, drop-append-add a rest (c * n)) refl
+
+-- the four parts of a signing key
+record HasParts (n : ℕ) (key a b c d : List ℕ) : Type 0 where
+  p0 : part n key 0 ≡ a
+  p1 : part n key 1 ≡ b
+  p2 : part n key 2 ≡ c
+  p3 : part n key 3 ≡ d
+
+part_only : (n : ℕ) (a : List ℕ) → length a ≡ n → part n a 0 ≡ a
+part_only n a len = let e : part n (a ++ []) 0 ≡ a = part_first n a [] len in rw append-nil at e
+
+key_parts : (n : ℕ) (key a b c d : List ℕ) → a ++ b ++ c ++ d ≡ key
+    → length a ≡ n → length b ≡ n → length c ≡ n → length d ≡ n → HasParts n key a b c d
+key_parts n key a b c d is_key la lb lc ld =
+    let whole : key ≡ a ++ (b ++ (c ++ d)) = sym is_key ∙ simp append_assoc in
+    rw whole record {
+      p0 = part_first n a (b ++ (c ++ d)) la;
+      p1 = part_later n 0 a (b ++ (c ++ d)) la ∙ part_first n b (c ++ d) lb;
+      p2 = part_later n 1 a (b ++ (c ++ d)) la ∙ part_later n 0 b (c ++ d) lb ∙ part_first n c d lc;
+      p3 = part_later n 2 a (b ++ (c ++ d)) la ∙ part_later n 1 b (c ++ d) lb ∙ part_later n 0 c d lc ∙ part_only n d ld;
+    }
+
+-- What is signed by the parts of a key is signed by the key.
+pub signature_by_parts : (Z : Scheme) (n : ℕ) (key a b c d : List ℕ) (opt : Option (List ℕ)) (fresh head ctx msg out : List ℕ)
+    → Z.n ≡ n → a ++ b ++ c ++ d ≡ key → length a ≡ n → length b ≡ n → length c ≡ n → length d ≡ n
+    → fresh ≡ unwrap_or opt (part n key 2) → head ≡ frame_head ctx
+    → (let message = head ++ ctx ++ msg in
+    let rand = Z.suite.prf_msg b fresh message in
+    out ≡ digest_signature Z c a rand (Z.suite.h_msg rand c d message))
+    → out ≡ signature_of Z key opt (frame ctx msg)
+signature_by_parts Z n key a b c d opt fresh head ctx msg out size is_key la lb lc ld is_fresh is_head is_out =
+    let near = key_parts n key a b c d is_key la lb lc ld in
+    let parts = key_parts Z.n key a b c d is_key (la ∙ sym size) (lb ∙ sym size) (lc ∙ sym size) (ld ∙ sym size) in
+    rw (parts.p0, parts.p1, parts.p2, parts.p3) (rw (is_head, is_fresh, near.p2) at is_out)

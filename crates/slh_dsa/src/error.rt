@@ -1,0 +1,19 @@
+//! Why a call was refused.
+
+/// Why a call was refused. Each call names those that it may answer; where several causes stand
+/// together, it answers the first in this order.
+#[derive(Clone, Copy, Debug, PartialEq, Eq)]
+pub enum Error {
+    /// A seed doesn't have n bytes, a signing key 4n, a verifying key 2n, or a signature its own number.
+    Length,
+    /// The context has more than 255 bytes.
+    ContextTooLong,
+    /// A randomizer was given that doesn't have n bytes.
+    RandomizerLength,
+    /// The message has more than 2^60 bytes.
+    MessageTooLong,
+    /// The root that the signature leads to isn't the key's root.
+    Invalid,
+    /// There was no memory.
+    Memory,
+}

@@ -1,0 +1,82 @@
+//! Signatures of digests.
+ghost use Rattle.std.specs.Prelude.{◌≡◌, ◌≤◌, ◌+◌, ◌-◌, ◌*◌, ◌^◌, ◌++◌, length};
+ghost use Rattle.slh_trees.specs.Checking.{signature_size};
+ghost use Rattle.slh_trees.specs.Signing.{digest_signature};
+
+use hybrid_array::ArraySize;
+use slh_chains::address::ForsTree;
+use slh_chains::nbytes::NBytes;
+use slh_chains::params::{ForsParams, forest_sizes, layer_sizes};
+use slh_chains::steps::Steps;
+use slh_trees::digest::split_digest;
+use slh_trees::fors::{fors_pk_from_sig, fors_sign};
+use slh_trees::hypertree::ht_sign;
+use slh_trees::laws::forest_leads_to_key;
+use std::sync::ledger::Ledger;
+
+/// Writes the signature of a digest: the randomizer, the forest's part and the layers' parts
+/// (FIPS 205, algorithm 19, from line 5 on).
+#[tactic(auto, unfolding(slh_trees::specs::Signing::digest_signature))]
+pub(crate) fn sign_digest<P: ForsParams, L: Ledger>(
+    sk_seed: &NBytes<P::N>,
+    pk_seed: &NBytes<P::N>,
+    rand: &NBytes<P::N>,
+    digest: &[u8],
+    out: &mut [u8],
+    steps: &mut Steps<L>,
+)
+    requires digest { length digest.now ≡ P.M.USIZE }
+    requires room { length out.old ≡ signature_size P.scheme }
+    ensures value { out.new
+        ≡ digest_signature P.scheme pk_seed.now sk_seed.now rand.now digest.now }
+    ensures cost { let tree_cost = 2 ^ P.HPrime.USIZE * (16 * P.WotsSigLen.USIZE + 2) in
+        steps.new + P.K.USIZE + P.D.USIZE
+        ≡ steps.old + P.K.USIZE * (3 * 2 ^ P.A.USIZE) + 1 + P.D.USIZE * tree_cost }
+{
+    layer_sizes::<P>();
+    forest_sizes::<P>();
+    forest_leads_to_key::<P>();
+    let n = P::N::USIZE;
+    let (md, tree, leaf) = split_digest::<P>(digest);
+    let (first, rest) = out.split_at_mut(n);
+    let (forest, layers) = rest.split_at_mut(P::K::USIZE * ((1 + P::A::USIZE) * n));
+    first.copy_from_slice(rand.as_slice());
+    let keyed = P::keyed(pk_seed);
+    let adrs = ForsTree::new(tree, leaf);
+    fors_sign::<P, L>(md, sk_seed, &keyed, &adrs, forest, steps);
+    let key = fors_pk_from_sig::<P, L>(forest, md, &keyed, &adrs, steps);
+    ht_sign::<P, L>(&key, sk_seed, &keyed, tree, leaf, layers, steps);
+}
+
+/// Writes the signature of the message that the three slices joined are, by the parts of a key and n
+/// bytes for the randomizer (FIPS 205, algorithm 19).
+pub(crate) fn sign_message<P: ForsParams, L: Ledger>(
+    sk_seed: &NBytes<P::N>,
+    sk_prf: &NBytes<P::N>,
+    pk_seed: &NBytes<P::N>,
+    pk_root: &NBytes<P::N>,
+    opt: &NBytes<P::N>,
+    head: &[u8],
+    ctx: &[u8],
+    msg: &[u8],
+    out: &mut [u8],
+    steps: &mut Steps<L>,
+)
+    requires message { length head.now + length ctx.now + length msg.now ≤ 2 ^ 60 + 512 }
+    requires room { length out.old ≡ signature_size P.scheme }
+    ensures value { let Z = P.scheme in
+        let message = head.now ++ ctx.now ++ msg.now in
+        let rand = Z.suite.prf_msg sk_prf.now opt.now message in
+        let digest = Z.suite.h_msg rand pk_seed.now pk_root.now message in
+        out.new ≡ digest_signature Z pk_seed.now sk_seed.now rand digest }
+    ensures cost { let tree_cost = 2 ^ P.HPrime.USIZE * (16 * P.WotsSigLen.USIZE + 2) in
+        steps.new + P.K.USIZE + P.D.USIZE
+        ≡ steps.old + P.K.USIZE * (3 * 2 ^ P.A.USIZE) + 1 + P.D.USIZE * tree_cost }
+{
+    forest_sizes::<P>();
+    let rand = P::prf_msg(sk_prf, opt, head, ctx, msg);
+    let mut store = [0u8; 256];
+    let digest = &mut store[..P::M::USIZE];
+    P::h_msg(&rand, pk_seed, pk_root, head, ctx, msg, digest);
+    sign_digest::<P, L>(sk_seed, pk_seed, &rand, digest, out, steps);
+}

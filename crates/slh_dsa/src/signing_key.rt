@@ -1,0 +1,266 @@
+//! Signing keys (FIPS 205, section 9.1).
+ghost use Rattle.std.specs.Prelude.{◌≡◌, ◌↔◌, ◌+◌, ◌*◌, ◌^◌, ◌<◌, length, drop, None, Some, unwrap_or, IsOk, IfOk, IfErr, OnOk, OnErr, MatchResult};
+ghost use Rattle.std.specs.Option.{option_copied, ForSome};
+ghost use Rattle.slh_chains.specs.Bytes.{part};
+ghost use Rattle.slh_trees.specs.Frame.{frame};
+ghost use Rattle.slh_trees.specs.Keys.{signing_key_bytes};
+ghost use Rattle.slh_trees.specs.Signing.{signature_of};
+ghost use Rattle.slh_dsa.specs.Calls.{sign_refusal};
+ghost use Rattle.slh_dsa.specs.declared.error.Error.TheVariants.{Length};
+
+use crate::error::Error;
+use crate::parameter_set::ParameterSet;
+use crate::root::top_root;
+use crate::signing::sign_message;
+use crate::sizes::{check_context, check_message, check_randomizer, check_signature, frame_head};
+use crate::verifying_key::VerifyingKey;
+use hybrid_array::ArraySize;
+use slh_chains::nbytes::NBytes;
+use slh_chains::params::chain_sizes;
+use slh_chains::steps::Steps;
+use std::alloc::AllocError;
+use std::marker::{Brand, Model};
+use std::sync::ledger::{Blank, Ledger};
+
+/// A signing key: the secret seed, the PRF key, the public seed and the root of the top tree, of n
+/// bytes each. Clauses see it as these 4n bytes.
+#[derive(Drop)]
+pub struct SigningKey<P: ParameterSet> {
+    sk_seed: NBytes<P::N>,
+    sk_prf: NBytes<P::N>,
+    pk_seed: NBytes<P::N>,
+    pk_root: NBytes<P::N>,
+}
+
+impl<P: ParameterSet> Model for SigningKey<P> {
+    ghost use Rattle.std.specs.Prelude.{◌≡◌, ℕ, List, ◌++◌, length};
+
+    ghost Value = { List ℕ };
+
+    ghost view = { λ k. k.sk_seed ++ k.sk_prf ++ k.pk_seed ++ k.pk_root };
+
+    ghost invariant = { λ k. (length k.sk_seed ≡ P.N.USIZE) × (length k.sk_prf ≡ P.N.USIZE)
+        × (length k.pk_seed ≡ P.N.USIZE) × (length k.pk_root ≡ P.N.USIZE) };
+}
+
+impl<P: ParameterSet> SigningKey<P> {
+    /// The key of three seeds of n bytes each (FIPS 205, algorithm 18). `Length`: a seed has fewer or
+    /// more.
+    pub fn slh_keygen_internal(sk_seed: &[u8], sk_prf: &[u8], pk_seed: &[u8]) -> Result<Self, Error>
+        ensures ok { IsOk result ↔ ((length sk_seed.now ≡ P.N.USIZE)
+            × (length sk_prf.now ≡ P.N.USIZE) × (length pk_seed.now ≡ P.N.USIZE)) }
+        ensures value { IfOk result (λ key.
+            key ≡ signing_key_bytes P.scheme sk_seed.now sk_prf.now pk_seed.now) }
+        ensures refusal { IfErr result (λ e. e ≡ Length) }
+    {
+        Self::keygen_on::<Brand>(sk_seed, sk_prf, pk_seed, Blank::new(1))
+    }
+
+    // The same, on a counter that is made here.
+    fn keygen_on<L: Ledger>(
+        sk_seed: &[u8],
+        sk_prf: &[u8],
+        pk_seed: &[u8],
+        blank: Blank,
+    ) -> Result<Self, Error>
+        requires name { blank.name ≡ L.name }
+        requires parts { blank.parts ≡ L.parts }
+        requires some { 0 < blank.parts }
+        ensures ok { IsOk result ↔ ((length sk_seed.now ≡ P.N.USIZE)
+            × (length sk_prf.now ≡ P.N.USIZE) × (length pk_seed.now ≡ P.N.USIZE)) }
+        ensures value { IfOk result (λ key.
+            key ≡ signing_key_bytes P.scheme sk_seed.now sk_prf.now pk_seed.now) }
+        ensures refusal { IfErr result (λ e. e ≡ Length) }
+    {
+        let mut steps = Steps::<L>::new(blank);
+        Self::slh_keygen_counted(sk_seed, sk_prf, pk_seed, &mut steps)
+    }
+
+    /// As `slh_keygen_internal`, with its steps counted.
+    pub fn slh_keygen_counted<L: Ledger>(
+        sk_seed: &[u8],
+        sk_prf: &[u8],
+        pk_seed: &[u8],
+        steps: &mut Steps<L>,
+    ) -> Result<Self, Error>
+        ensures ok { IsOk result ↔ ((length sk_seed.now ≡ P.N.USIZE)
+            × (length sk_prf.now ≡ P.N.USIZE) × (length pk_seed.now ≡ P.N.USIZE)) }
+        ensures value { IfOk result (λ key.
+            key ≡ signing_key_bytes P.scheme sk_seed.now sk_prf.now pk_seed.now) }
+        ensures refusal { IfErr result (λ e. e ≡ Length) }
+        ensures cost { OnOk result (steps.new + 1
+            ≡ steps.old + 2 ^ P.HPrime.USIZE * (16 * P.WotsSigLen.USIZE + 2)) }
+        ensures free { OnErr result (steps.new ≡ steps.old) }
+    {
+        chain_sizes::<P>();
+        let n = P::N::USIZE;
+        if sk_seed.len() != n || sk_prf.len() != n || pk_seed.len() != n {
+            return Err(Error::Length);
+        }
+        let sk_seed = NBytes::exact(sk_seed);
+        let pk_seed = NBytes::exact(pk_seed);
+        let pk_root = top_root::<P, L>(&sk_seed, &pk_seed, steps);
+        Ok(SigningKey {
+            sk_seed,
+            sk_prf: NBytes::exact(sk_prf),
+            pk_seed,
+            pk_root,
+        })
+    }
+
+    /// Writes the signature of a message with a context (FIPS 205, algorithm 22) into `out`. Without a
+    /// randomizer the public seed stands in its place. `Length`: `out` doesn't have the bytes of a
+    /// signature; `ContextTooLong`, `RandomizerLength`, `MessageTooLong`. After a refusal `out` is as it
+    /// was.
+    pub fn slh_sign_counted<L: Ledger>(
+        &self,
+        msg: &[u8],
+        ctx: &[u8],
+        opt_rand: Option<&[u8]>,
+        out: &mut [u8],
+        steps: &mut Steps<L>,
+    ) -> Result<(), Error>
+        ensures refusal { let opt = option_copied opt_rand.entry in
+            let refusal = sign_refusal P.scheme ctx.now opt msg.now (length out.old) in
+            MatchResult result (λ _. refusal ≡ None) (λ e. refusal ≡ Some e) }
+        ensures value { let opt = option_copied opt_rand.entry in
+            let message = frame ctx.now msg.now in
+            OnOk result (out.new ≡ signature_of P.scheme self.now opt message) }
+        ensures same { OnErr result (out.new ≡ out.old) }
+        ensures cost { let tree_cost = 2 ^ P.HPrime.USIZE * (16 * P.WotsSigLen.USIZE + 2) in
+            OnOk result (steps.new + P.K.USIZE + P.D.USIZE
+            ≡ steps.old + P.K.USIZE * (3 * 2 ^ P.A.USIZE) + 1 + P.D.USIZE * tree_cost) }
+        ensures free { OnErr result (steps.new ≡ steps.old) }
+    {
+        check_signature::<P>(out.len())?;
+        check_context(ctx)?;
+        check_randomizer::<P>(opt_rand)?;
+        check_message(msg)?;
+        let opt = self.fresh_bytes(opt_rand);
+        sign_message::<P, L>(
+            &self.sk_seed,
+            &self.sk_prf,
+            &self.pk_seed,
+            &self.pk_root,
+            &opt,
+            &frame_head(ctx),
+            ctx,
+            msg,
+            out,
+            steps,
+        );
+        Ok(())
+    }
+
+    // The bytes from which a signature's randomizer is made.
+    fn fresh_bytes(&self, opt_rand: Option<&[u8]>) -> NBytes<P::N>
+        requires { ForSome (option_copied opt_rand) (λ opt. length opt ≡ P.N.USIZE) }
+        ensures { result
+            ≡ unwrap_or (option_copied opt_rand.entry) (part P.N.USIZE self.now 2) }
+    {
+        chain_sizes::<P>();
+        match opt_rand {
+            Some(opt) => NBytes::exact(opt),
+            None => self.pk_seed.copy(),
+        }
+    }
+
+    /// The key of 4n bytes, whose root isn't computed again. `Length`: there are fewer or more.
+    pub fn try_from(bytes: &[u8]) -> Result<Self, Error>
+        ensures ok { IsOk result ↔ (length bytes.now ≡ 4 * P.N.USIZE) }
+        ensures value { IfOk result (λ key. key ≡ bytes.now) }
+        ensures refusal { IfErr result (λ e. e ≡ Length) }
+    {
+        chain_sizes::<P>();
+        let n = P::N::USIZE;
+        if bytes.len() != 4 * n {
+            return Err(Error::Length);
+        }
+        let (secret, public) = bytes.split_at(2 * n);
+        let (sk_seed, sk_prf) = secret.split_at(n);
+        let (pk_seed, pk_root) = public.split_at(n);
+        Ok(SigningKey {
+            sk_seed: NBytes::exact(sk_seed),
+            sk_prf: NBytes::exact(sk_prf),
+            pk_seed: NBytes::exact(pk_seed),
+            pk_root: NBytes::exact(pk_root),
+        })
+    }
+
+    /// Writes the key's 4n bytes.
+    pub fn write_to(&self, out: &mut [u8])
+        requires { length out.old ≡ 4 * P.N.USIZE }
+        ensures { out.new ≡ self.now }
+    {
+        let n = P::N::USIZE;
+        let (sk_seed, rest) = out.split_at_mut(n);
+        let (sk_prf, public) = rest.split_at_mut(n);
+        let (pk_seed, pk_root) = public.split_at_mut(n);
+        sk_seed.copy_from_slice(self.sk_seed.as_slice());
+        sk_prf.copy_from_slice(self.sk_prf.as_slice());
+        pk_seed.copy_from_slice(self.pk_seed.as_slice());
+        pk_root.copy_from_slice(self.pk_root.as_slice());
+    }
+
+    /// The verifying key: the key's last 2n bytes.
+    pub fn verifying_key(&self) -> VerifyingKey<P>
+        ensures { result ≡ drop (2 * P.N.USIZE) self.now }
+    {
+        VerifyingKey {
+            pk_seed: self.pk_seed.copy(),
+            pk_root: self.pk_root.copy(),
+        }
+    }
+
+    // The same key again.
+    fn copy(&self) -> Self
+        ensures { result ≡ self.now }
+    {
+        SigningKey {
+            sk_seed: self.sk_seed.copy(),
+            sk_prf: self.sk_prf.copy(),
+            pk_seed: self.pk_seed.copy(),
+            pk_root: self.pk_root.copy(),
+        }
+    }
+}
+
+impl<P: ParameterSet> Clone for SigningKey<P> {
+    ghost use Rattle.std.specs.Prelude.{◌≡◌, ⊤};
+
+    ghost is_clone = { λ key copy. copy ≡ key };
+
+    ghost is_infallible = { λ _. ⊤ };
+
+    fn clone(&self) -> Result<Self, AllocError> {
+        Ok(self.copy())
+    }
+}
+
+impl<P: ParameterSet> PartialEq for SigningKey<P> {
+    ghost use Rattle.std.specs.Prelude.{◌==◌};
+    ghost use Rattle.std.specs.Cmp.Rules.{comparing};
+    ghost use Rattle.std.specs.Cmp.Lexicographic.{pointwise};
+    ghost use Rattle.std.proofs.Common.{rules};
+
+    ghost eq = { pointwise ◌==◌ };
+
+    ghost laws = { Prim.search (comparing, rules) };
+
+    fn eq(&self, other: &Self) -> bool {
+        chain_sizes::<P>();
+        let len = 4 * P::N::USIZE;
+        let mut ours = [0u8; 128];
+        let mut theirs = [0u8; 128];
+        self.write_to(&mut ours[..len]);
+        other.write_to(&mut theirs[..len]);
+        ours[..len] == theirs[..len]
+    }
+}
+
+impl<P: ParameterSet> Eq for SigningKey<P> {
+    ghost use Rattle.std.specs.Cmp.Rules.{comparing};
+    ghost use Rattle.std.proofs.Common.{rules};
+
+    ghost laws = { Prim.search (comparing, rules) };
+}

@@ -1,0 +1,74 @@
+//! The checks of sizes that come before anything is hashed.
+ghost use Rattle.std.specs.Prelude.{◌≡◌, ◌≤◌, ◌^◌, length, None, Some, MatchResult, OnOk};
+ghost use Rattle.std.specs.Option.{option_copied, ForSome};
+ghost use Rattle.slh_trees.specs.Checking.{signature_size};
+ghost use Rattle.slh_trees.specs.Frame.{frame_head};
+ghost use Rattle.slh_dsa.specs.Calls.{context_refusal, message_refusal, randomizer_refusal, signature_refusal};
+
+use crate::error::Error;
+use crate::parameter_set::ParameterSet;
+use hybrid_array::ArraySize;
+use slh_chains::params::chain_sizes;
+
+const MAX_CONTEXT: usize = 255;
+
+const MAX_MESSAGE: usize = 1 << 60;
+
+/// `ContextTooLong` for a context of more than 255 bytes.
+pub(crate) fn check_context(ctx: &[u8]) -> Result<(), Error>
+    ensures refusal { let refusal = context_refusal ctx.now in
+        MatchResult result (λ _. refusal ≡ None) (λ e. refusal ≡ Some e) }
+    ensures fits { OnOk result (length ctx.now ≤ 255) }
+{
+    if ctx.len() > MAX_CONTEXT {
+        return Err(Error::ContextTooLong);
+    }
+    Ok(())
+}
+
+/// `MessageTooLong` for a message of more than 2^60 bytes.
+pub(crate) fn check_message(msg: &[u8]) -> Result<(), Error>
+    ensures refusal { let refusal = message_refusal msg.now in
+        MatchResult result (λ _. refusal ≡ None) (λ e. refusal ≡ Some e) }
+    ensures fits { OnOk result (length msg.now ≤ 2 ^ 60) }
+{
+    if msg.len() > MAX_MESSAGE {
+        return Err(Error::MessageTooLong);
+    }
+    Ok(())
+}
+
+/// `Length` for another number of bytes than a signature has.
+pub(crate) fn check_signature<P: ParameterSet>(len: usize) -> Result<(), Error>
+    ensures refusal { let refusal = signature_refusal P.scheme len in
+        MatchResult result (λ _. refusal ≡ None) (λ e. refusal ≡ Some e) }
+    ensures fits { OnOk result (len ≡ signature_size P.scheme) }
+{
+    if len != P::SigLen::USIZE {
+        return Err(Error::Length);
+    }
+    Ok(())
+}
+
+/// `RandomizerLength` for a randomizer that is given and doesn't have n bytes.
+pub(crate) fn check_randomizer<P: ParameterSet>(opt_rand: Option<&[u8]>) -> Result<(), Error>
+    ensures refusal { let refusal = randomizer_refusal P.scheme (option_copied opt_rand.entry) in
+        MatchResult result (λ _. refusal ≡ None) (λ e. refusal ≡ Some e) }
+    ensures fits { OnOk result
+        (ForSome (option_copied opt_rand.entry) (λ opt. length opt ≡ P.N.USIZE)) }
+{
+    if let Some(opt) = opt_rand
+        && opt.len() != P::N::USIZE
+    {
+        return Err(Error::RandomizerLength);
+    }
+    Ok(())
+}
+
+/// The bytes before the context of a message that is signed as it is (FIPS 205, algorithm 22).
+pub(crate) fn frame_head(ctx: &[u8]) -> [u8; 2]
+    requires { length ctx.now ≤ 255 }
+    ensures { result ≡ frame_head ctx.now }
+{
+    [0, ctx.len() as u8]
+}
