@@ -5,10 +5,11 @@ ghost use Rattle.slh_chains.specs.Bytes.{joined};
 ghost use Rattle.slh_chains.specs.Suite.{seeded};
 ghost use Rattle.slh_trees.specs.Checking.{checked_fors_node, checked_fors_key};
 ghost use Rattle.slh_trees.specs.Forest.{fors_place, fors_secret, fors_node as forest_node};
-ghost use Rattle.slh_trees.specs.Forest.{fors_path, opened_leaves, fors_signature};
+ghost use Rattle.slh_trees.specs.Forest.{fors_path, fors_key, opened_leaves, fors_signature};
 ghost use Rattle.slh_trees.specs.Merkle.{node_bytes, climb as climbed};
 
 use crate::climb::{NodeAddress, climb_path, sibling};
+use crate::laws::forest_leads_to_key;
 use hybrid_array::ArraySize;
 use slh_chains::address::{ForsPrf, ForsTree};
 use slh_chains::digits::base_2b;
@@ -267,4 +268,31 @@ fn climb_opened<P: ForsParams, L: Ledger>(
     let secret = NBytes::<P::N>::exact(first);
     let leaf = P::f(keyed, &adrs.at_node(0, y), &secret, steps);
     climb_path::<P, ForsTree, L>(&leaf, y, P::A::USIZE, path, keyed, adrs, steps)
+}
+
+/// Writes the signature of the digest's first part, and answers the forest's public key. Each node of
+/// the forest is hashed once.
+pub fn fors_sign_root<P: ForsParams, L: Ledger>(
+    md: &[u8],
+    sk_seed: &NBytes<P::N>,
+    keyed: &P::Keyed,
+    adrs: &ForsTree,
+    out: &mut [u8],
+    steps: &mut Steps<L>,
+) -> NBytes<P::N>
+    requires digest { length md.now ≡ P.MD.USIZE }
+    requires room { length out.old ≡ P.K.USIZE * ((1 + P.A.USIZE) * P.N.USIZE) }
+    ensures key { let K = seeded P.suite P.N.USIZE (P.seed_of keyed.now) in
+        let t = adrs.now.tree_adrs_low in
+        let l = adrs.now.key_pair_adrs in
+        result ≡ fors_key K sk_seed.now t l P.K.USIZE P.A.USIZE }
+    ensures value { let K = seeded P.suite P.N.USIZE (P.seed_of keyed.now) in
+        let t = adrs.now.tree_adrs_low in
+        let l = adrs.now.key_pair_adrs in
+        out.new ≡ fors_signature K sk_seed.now t l P.K.USIZE P.A.USIZE md.now }
+    ensures cost { steps.new + P.K.USIZE ≡ steps.old + (P.K.USIZE * (3 * 2 ^ P.A.USIZE) + 1) }
+{
+    forest_leads_to_key::<P>();
+    fors_sign::<P, L>(md, sk_seed, keyed, adrs, out, steps);
+    fors_pk_from_sig::<P, L>(out, md, keyed, adrs, steps)
 }

@@ -3,43 +3,14 @@ ghost use Rattle.std.specs.Prelude.{◌≡◌, ◌↔◌, ◌+◌, ◌-◌, ◌*
 ghost use Rattle.slh_chains.specs.Suite.{seeded};
 ghost use Rattle.slh_trees.specs.Checking.{checked_message};
 ghost use Rattle.slh_trees.specs.Layers.{hypertree_signature, layer_size};
-ghost use Rattle.slh_trees.specs.Tree.{node, signed_leaf};
 
-use crate::laws::signature_leads_to_root;
-use crate::xmss::{xmss_pk_from_sig, xmss_sign};
+use crate::xmss::{xmss_pk_from_sig, xmss_sign_root};
 use hybrid_array::ArraySize;
 use slh_chains::address::WotsHash;
 use slh_chains::nbytes::NBytes;
 use slh_chains::params::{HypertreeParams, XmssParams, layer_sizes, tree_sizes};
 use slh_chains::steps::Steps;
 use std::sync::ledger::Ledger;
-
-/// Signs under a leaf, and takes the root from the signature just made.
-fn sign_layer<P: XmssParams, L: Ledger>(
-    m: &NBytes<P::N>,
-    sk_seed: &NBytes<P::N>,
-    keyed: &P::Keyed,
-    idx: u32,
-    adrs: &WotsHash,
-    out: &mut [u8],
-    steps: &mut Steps<L>,
-) -> NBytes<P::N>
-    requires idx { idx < 2 ^ P.HPrime.USIZE }
-    requires room { length out.old ≡ layer_size P.N.USIZE P.HPrime.USIZE }
-    ensures root { let K = seeded P.suite P.N.USIZE (P.seed_of keyed.now) in
-        let a = adrs.now in
-        result ≡ node K sk_seed.now a.layer_adrs a.tree_adrs_low P.HPrime.USIZE 0 }
-    ensures value { let K = seeded P.suite P.N.USIZE (P.seed_of keyed.now) in
-        let a = adrs.now in
-        let hp = P.HPrime.USIZE in
-        out.new ≡ signed_leaf K sk_seed.now a.layer_adrs a.tree_adrs_low idx m.now hp }
-    ensures cost { steps.new + 1 ≡ steps.old + 2 ^ P.HPrime.USIZE * (16 * P.WotsSigLen.USIZE + 2) }
-{
-    tree_sizes::<P>();
-    signature_leads_to_root::<P>();
-    xmss_sign::<P, L>(m, sk_seed, keyed, idx, adrs, out, steps);
-    xmss_pk_from_sig::<P, L>(idx, out, m, keyed, adrs, steps)
-}
 
 /// How many bytes a layer's signature has.
 pub(crate) fn layer_len<P: XmssParams>() -> usize
@@ -110,7 +81,7 @@ pub fn ht_sign<P: HypertreeParams, L: Ledger>(
     for j in 0..P::D::USIZE {
         let at = tree_adrs_of(j as u32, tree);
         let layer = &mut out[j * size..(j + 1) * size];
-        message = sign_layer::<P, L>(&message, sk_seed, keyed, leaf, &at, layer, steps);
+        message = xmss_sign_root::<P, L>(&message, sk_seed, keyed, leaf, &at, layer, steps);
         (tree, leaf) = next_place(tree, height);
     }
 }

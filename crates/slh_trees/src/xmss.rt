@@ -6,6 +6,7 @@ ghost use Rattle.slh_trees.specs.Checking.{checked_node};
 ghost use Rattle.slh_trees.specs.Tree.{node as tree_node, node_path, signed_leaf};
 
 use crate::climb::{climb_path, sibling};
+use crate::laws::signature_leads_to_root;
 use hybrid_array::ArraySize;
 use slh_chains::address::{HashTree, WotsHash};
 use slh_chains::nbytes::NBytes;
@@ -142,4 +143,32 @@ pub fn xmss_pk_from_sig<P: XmssParams, L: Ledger>(
     let (chains, path) = sig.split_at(P::WotsSigLen::USIZE * P::N::USIZE);
     let leaf = wots_pk_from_sig::<P, L>(chains, m, keyed, &at_leaf(adrs, idx), steps);
     climb_path::<P, HashTree, L>(&leaf, idx, height, path, keyed, &adrs.tree_adrs(), steps)
+}
+
+/// Writes the signature of a message under leaf `idx`, and answers the root of the tree. Each node of the
+/// tree is hashed once.
+pub fn xmss_sign_root<P: XmssParams, L: Ledger>(
+    m: &NBytes<P::N>,
+    sk_seed: &NBytes<P::N>,
+    keyed: &P::Keyed,
+    idx: u32,
+    adrs: &WotsHash,
+    out: &mut [u8],
+    steps: &mut Steps<L>,
+) -> NBytes<P::N>
+    requires idx { idx < 2 ^ P.HPrime.USIZE }
+    requires room { length out.old ≡ (P.WotsSigLen.USIZE + P.HPrime.USIZE) * P.N.USIZE }
+    ensures root { let K = seeded P.suite P.N.USIZE (P.seed_of keyed.now) in
+        let a = adrs.now in
+        result ≡ tree_node K sk_seed.now a.layer_adrs a.tree_adrs_low P.HPrime.USIZE 0 }
+    ensures value { let K = seeded P.suite P.N.USIZE (P.seed_of keyed.now) in
+        let a = adrs.now in
+        let hp = P.HPrime.USIZE in
+        out.new ≡ signed_leaf K sk_seed.now a.layer_adrs a.tree_adrs_low idx m.now hp }
+    ensures cost { steps.new + 1 ≡ steps.old + 2 ^ P.HPrime.USIZE * (16 * P.WotsSigLen.USIZE + 2) }
+{
+    tree_sizes::<P>();
+    signature_leads_to_root::<P>();
+    xmss_sign::<P, L>(m, sk_seed, keyed, idx, adrs, out, steps);
+    xmss_pk_from_sig::<P, L>(idx, out, m, keyed, adrs, steps)
 }

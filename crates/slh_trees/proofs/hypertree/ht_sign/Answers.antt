@@ -30,12 +30,12 @@ loop-j-preserved g c =
     let size = c.layer_len-size.result in
     let whole : length c.args.out.now ≡ g.P.D.ArraySize.USIZE * size = rw c.layer_len-size.ensures.value c.requires.room in
     let fits : (c.loop-j.j + 1) * size ≤ length c.args.out.now = part_fits c.loop-j.j g.P.D.ArraySize.USIZE size (length c.args.out.now) (omega arith) whole in
-    let next : (c.loop-j.j + 1) * size ≡ c.loop-j.j * size + length c.sign_layer-message.new.out = omega arith in
+    let next : (c.loop-j.j + 1) * size ≡ c.loop-j.j * size + length c.xmss_sign_root-message.new.out = omega arith in
     record {
       tree = rw (c.next_place.ensures.tree, c.USIZE-height.ensures, i.tree) (tree_at-more _ _ _);
       leaf = rw (c.next_place.ensures.leaf, c.USIZE-height.ensures, i.tree) (leaf_at-more hp c.args.idx_tree c.args.idx_leaf c.loop-j.j);
       below = rw (← c.USIZE-height.ensures) c.next_place.ensures.below;
-      message = rw (c.sign_layer-message.ensures.root, c.tree_adrs_of-at.ensures, i.tree) (layer_message-more K hp c.args.sk_seed.now c.args.idx_tree c.args.idx_leaf c.args.m.now c.loop-j.j);
-      values = rw (take-put_mid (c.loop-j.j * size) ((c.loop-j.j + 1) * size - c.loop-j.j * size) c.loop-j.out c.sign_layer-message.new.out ((c.loop-j.j + 1) * size) next (omega arith), i.values, joined_more, c.sign_layer-message.ensures.value, c.tree_adrs_of-at.ensures, i.tree, i.leaf, i.message) refl;
+      message = rw (c.xmss_sign_root-message.ensures.root, c.tree_adrs_of-at.ensures, i.tree) (layer_message-more K hp c.args.sk_seed.now c.args.idx_tree c.args.idx_leaf c.args.m.now c.loop-j.j);
+      values = rw (take-put_mid (c.loop-j.j * size) ((c.loop-j.j + 1) * size - c.loop-j.j * size) c.loop-j.out c.xmss_sign_root-message.new.out ((c.loop-j.j + 1) * size) next (omega arith), i.values, joined_more, c.xmss_sign_root-message.ensures.value, c.tree_adrs_of-at.ensures, i.tree, i.leaf, i.message) refl;
       cost = grind (arith, common_steps);
     }
