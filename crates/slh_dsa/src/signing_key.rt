@@ -2,6 +2,7 @@
 ghost use Rattle.std.specs.Prelude.{◌≡◌, ◌↔◌, ◌+◌, ◌*◌, ◌^◌, ◌<◌, length, drop, None, Some, unwrap_or, IsOk, IfOk, IfErr, OnOk, OnErr, MatchResult};
 ghost use Rattle.std.specs.Option.{option_copied, ForSome};
 ghost use Rattle.slh_chains.specs.Bytes.{part};
+ghost use Rattle.slh_trees.specs.Checking.{signature_size};
 ghost use Rattle.slh_trees.specs.Frame.{frame};
 ghost use Rattle.slh_trees.specs.Keys.{signing_key_bytes};
 ghost use Rattle.slh_trees.specs.Signing.{signature_of};
@@ -150,6 +151,18 @@ impl<P: ParameterSet> SigningKey<P> {
             steps,
         );
         Ok(())
+    }
+
+    /// The refusals of signing but those of its output: `ContextTooLong`, `RandomizerLength`,
+    /// `MessageTooLong`. A caller that takes memory for a signature asks this first.
+    pub fn check_sign(msg: &[u8], ctx: &[u8], opt_rand: Option<&[u8]>) -> Result<(), Error>
+        ensures refusal { let opt = option_copied opt_rand.entry in
+            let refusal = sign_refusal P.scheme ctx.now opt msg.now (signature_size P.scheme) in
+            MatchResult result (λ _. refusal ≡ None) (λ e. refusal ≡ Some e) }
+    {
+        check_context(ctx)?;
+        check_randomizer::<P>(opt_rand)?;
+        check_message(msg)
     }
 
     // The bytes from which a signature's randomizer is made.
