@@ -1,6 +1,9 @@
 //! A string of bytes, and a list of such strings.
-ghost use Rattle.std.specs.Prelude.{◌≡◌, ◌==◌, ◌++◌, ◌∷◌, [], List, ℕ, length, slice_get, IfOk, OnOk, OnErr};
+ghost use Rattle.std.specs.Prelude.{◌≡◌, ◌==◌, ◌++◌, ◌-◌, ◌∷◌, [], List, ℕ, length, slice_get, take, replicate, IfOk, OnOk, OnErr};
 ghost use Rattle.std.specs.Option.{option_copied};
+ghost use Rattle.std.specs.Borrow.{sem};
+ghost use Rattle.hex.specs.Hex.{encode_lower};
+ghost use Rattle.line_serve.specs.Lending.{LendsBytes};
 
 use std::alloc::{AllocError, Global};
 use std::marker::Model;
@@ -12,6 +15,8 @@ pub struct ByteString {
 }
 
 impl Model for ByteString {
+    ghost use Rattle.std.specs.Prelude.{List, ℕ};
+
     ghost Value = { List ℕ };
 
     ghost view = { λ s. s.bytes.items };
@@ -65,6 +70,70 @@ impl ByteString {
         self.bytes.is_empty()
     }
 
+    /// No bytes, with room for so many.
+    pub fn with_capacity(alloc: Global, capacity: usize) -> Result<Self, AllocError>
+        ensures { IfOk result (λ s. s ≡ []) }
+    {
+        Ok(ByteString {
+            bytes: Vec::with_capacity(alloc, capacity)?,
+        })
+    }
+
+    /// Bytes that are all zero, so many of them. They are to be written over, by
+    /// [`ByteString::as_mut_slice`]: nothing after this call can fail then.
+    pub fn zeroed(alloc: Global, len: usize) -> Result<Self, AllocError>
+        ensures { IfOk result (λ s. s ≡ replicate len 0) }
+    {
+        let mut bytes = Vec::new(alloc);
+        bytes.resize(len, 0)?;
+        Ok(ByteString { bytes })
+    }
+
+    /// Puts a byte at the end.
+    pub fn push(&mut self, byte: u8) -> Result<(), AllocError>
+        ensures ok { OnOk result (self.new ≡ self.old ++ byte ∷ []) }
+        ensures err { OnErr result (self.new ≡ self.old) }
+    {
+        self.bytes.push(byte)?;
+        Ok(())
+    }
+
+    /// Puts the hexadecimal digits of the bytes at the end, two lower case digits a byte.
+    pub fn push_hex(&mut self, bytes: &[u8]) -> Result<(), AllocError>
+        ensures ok { OnOk result (self.new ≡ self.old ++ encode_lower bytes.now) }
+        ensures err { OnErr result (self.new ≡ self.old) }
+    {
+        let start = self.bytes.len();
+        let end = start.saturating_add(bytes.len().saturating_mul(2));
+        self.bytes.resize(end, 0)?;
+        hex::encode_to_slice(bytes, &mut self.bytes[start..]).unwrap();
+        Ok(())
+    }
+
+    /// The bytes, to be written over.
+    pub fn as_mut_slice(&mut self) -> &mut [u8]
+        ensures* writes_back { sem 𝓛 (LendsBytes self.entry result) }
+        ensures value { result.now ≡ self.old }
+    {
+        self.bytes.as_mut_slice()
+    }
+
+    /// Keeps the first bytes, at most so many, and puts copies of `byte` at the end until there are.
+    pub fn resize(&mut self, len: usize, byte: u8) -> Result<(), AllocError>
+        ensures ok { OnOk result (self.new
+            ≡ take len self.old ++ replicate (len - length self.old) byte) }
+        ensures err { OnErr result (self.new ≡ self.old) }
+    {
+        self.bytes.resize(len, byte)
+    }
+
+    /// Keeps the first bytes, at most so many.
+    pub fn truncate(&mut self, len: usize)
+        ensures { self.new ≡ take len self.old }
+    {
+        self.bytes.truncate(len);
+    }
+
     /// Takes all bytes out, and keeps the memory for others.
     pub fn clear(&mut self)
         ensures { self.new ≡ [] }
@@ -80,6 +149,8 @@ pub struct Words {
 }
 
 impl Model for Words {
+    ghost use Rattle.std.specs.Prelude.{List, ℕ};
+
     ghost Value = { List (List ℕ) };
 
     ghost view = { λ w. w.words.items };

@@ -6,7 +6,6 @@ ghost use Rattle.std.specs.Str.Lines.{strip_carriage_return};
 ghost use Rattle.line_serve.specs.Fields.{fields, hex_value, is_dash};
 
 use crate::bytes::ByteString;
-use hex::FromHexError;
 use std::alloc::{AllocError, Global};
 
 // The line without one carriage return at its end.
@@ -48,7 +47,7 @@ fn is_only_dash(field: &[u8]) -> bool
 /// Puts the bytes that a field stands for at the end of `out`: none for `-`, else those of its
 /// hexadecimal digits, of either case. `false`, with `out` as it was, where the field is neither
 /// `-` nor an even number of digits.
-pub fn hex_field(alloc: Global, bytes: &[u8], out: &mut ByteString) -> Result<bool, AllocError>
+pub fn hex_field(_alloc: Global, bytes: &[u8], out: &mut ByteString) -> Result<bool, AllocError>
     ensures ok { IfOk result (λ found. MatchOption (hex_value bytes.now)
         ((found ≡ false) × (out.new ≡ out.old))
         (λ value. (found ≡ true) × (out.new ≡ out.old ++ value))) }
@@ -57,12 +56,11 @@ pub fn hex_field(alloc: Global, bytes: &[u8], out: &mut ByteString) -> Result<bo
     if is_only_dash(bytes) {
         return Ok(true);
     }
-    match hex::decode(alloc, bytes) {
-        Ok(value) => {
-            out.push_slice(&value)?;
-            Ok(true)
-        }
-        Err(FromHexError::OutOfMemory) => Err(AllocError),
-        Err(_) => Ok(false),
+    let start = out.len();
+    out.resize(start.saturating_add(bytes.len() / 2), 0)?;
+    if hex::decode_to_slice(bytes, &mut out.as_mut_slice()[start..]).is_ok() {
+        return Ok(true);
     }
+    out.truncate(start);
+    Ok(false)
 }

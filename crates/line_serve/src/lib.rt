@@ -15,6 +15,8 @@ mod lines;
 mod memory;
 mod pending;
 mod stream;
+#[cfg(test)]
+mod tests;
 mod write;
 
 pub use answer::Replier;

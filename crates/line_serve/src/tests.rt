@@ -1,0 +1,246 @@
+//! What no clause says: that answers come where there is memory, and what single texts give.
+ghost use Rattle.std.specs.Prelude.{◌≡◌, ◌++◌, ◌∷◌, [], Some, unwrap_or, slice_get, replicate, IfSome, OnErr};
+ghost use Rattle.std.specs.Option.{option_map};
+ghost use Rattle.std.specs.Io.{ReadsAtMost};
+ghost use Rattle.std.specs.Io.KnownBytes.{ReadConsumes};
+ghost use Rattle.line_serve.specs.Causes.{HasCause};
+ghost use Rattle.line_serve.specs.Fields.{fields};
+
+use crate::{
+    ByteString, Failed, MemSink, MemSource, NullSink, QuietSource, Replier, Source, Words,
+    count_fields, field, hex_field, serve_lines, write_all,
+};
+use std::alloc::{AllocError, Global};
+use std::test::Fail;
+
+// The longest line that is answered, in bytes.
+const LIMIT: usize = 4_194_304;
+
+// Replies with the first field of the line, and with nothing where there is none.
+struct First;
+
+impl Replier for First {
+    ghost reply_of = { λ _ line.
+        unwrap_or (option_map (λ x. x ++ 10 ∷ []) (slice_get (fields line) 0)) [] };
+
+    fn reply(&self, alloc: Global, line: &[u8], out: &mut ByteString) -> Result<(), AllocError> {
+        let Some(first) = field(line, 0) else {
+            return Ok(());
+        };
+        let mut text = ByteString::from_slice(alloc, first)?;
+        text.push(b'\n')?;
+        out.push_slice(text.as_slice())
+    }
+}
+
+// Replies to each line with so many zero bytes.
+struct Zeros {
+    count: usize,
+}
+
+impl Replier for Zeros {
+    ghost reply_of = { λ r _. replicate r.count 0 };
+
+    fn reply(&self, alloc: Global, _line: &[u8], out: &mut ByteString) -> Result<(), AllocError> {
+        let text = ByteString::zeroed(alloc, self.count)?;
+        out.push_slice(text.as_slice())
+    }
+}
+
+// Gives one byte a read, and keeps the most that a read asked for.
+#[derive(Drop)]
+struct Slow {
+    quiet: QuietSource,
+    most: usize,
+}
+
+impl Source for Slow {
+    ghost use Rattle.line_serve.specs.Memory.{quiet_left};
+
+    ghost left = { λ s. Some (quiet_left s.quiet) };
+
+    ghost faults = { λ _. 0 };
+
+    fn read(&mut self, buf: &mut [u8]) -> Result<usize, Failed> {
+        self.most = self.most.max(buf.len());
+        let count = buf.len().min(1);
+        self.quiet.read(&mut buf[..count])
+    }
+}
+
+// The status of a run over this input by `First`, and what was written.
+fn first_fields(
+    alloc: Global,
+    input: &[u8],
+    source_fails: &[u64],
+    sink_fails: &[u64],
+) -> Result<(u8, Vec<u8>), AllocError> {
+    let mut source = MemSource::new(input.to_vec(alloc)?, source_fails.to_vec(alloc)?);
+    let mut sink = MemSink::new(alloc, sink_fails.to_vec(alloc)?);
+    let status = serve_lines(alloc, &First, &mut source, &mut sink);
+    Ok((status, sink.bytes().to_vec(alloc)?))
+}
+
+#[test]
+fn lines_are_answered_in_turn(rt: HostRuntime) -> Result<(), Fail> {
+    for (input, output) in [
+        (b"".as_slice(), b"".as_slice()),
+        (b"\n\r\n \n".as_slice(), b"".as_slice()),
+        (b"a b\nc".as_slice(), b"a\nc\n".as_slice()),
+        (b" a \r\n\rb\r\r\n".as_slice(), b"a\n\rb\r\n".as_slice()),
+        (b"a\n\nb\n".as_slice(), b"a\nb\n".as_slice()),
+    ] {
+        let (status, written) = first_fields(rt.alloc(), input, &[], &[])?;
+        assert_eq!(rt; status, 0);
+        assert_eq!(rt; written.as_slice(), output);
+    }
+    let mut source = QuietSource::new(b"a\n".to_vec(rt.alloc())?);
+    assert_eq!(rt;
+        serve_lines(rt.alloc(), &First, &mut source, &mut NullSink),
+        0
+    );
+    Ok(())
+}
+
+#[test]
+fn a_line_is_too_long_past_the_limit(rt: HostRuntime) -> Result<(), Fail> {
+    let alloc = rt.alloc();
+    for (length, end, reply) in [
+        (
+            LIMIT + 1,
+            b"\nb\n".as_slice(),
+            b"error line\nb\n".as_slice(),
+        ),
+        (LIMIT, b"\r\nb\n".as_slice(), b"error line\nb\n".as_slice()),
+        (LIMIT + 1, b"".as_slice(), b"error line\n".as_slice()),
+    ] {
+        let mut input = vec![in alloc; b'a'; length]?;
+        input.extend_from_slice(end)?;
+        let (status, written) = first_fields(alloc, &input, &[], &[])?;
+        assert_eq!(rt; status, 0);
+        assert_eq!(rt; written.as_slice(), reply);
+    }
+    for (length, end) in [(LIMIT, b"\n".as_slice()), (LIMIT - 1, b"\r\n".as_slice())] {
+        let mut input = vec![in alloc; b'a'; length]?;
+        input.extend_from_slice(end)?;
+        let (status, written) = first_fields(alloc, &input, &[], &[])?;
+        assert_eq!(rt; status, 0);
+        assert_eq!(rt; written.len(), length + 1);
+    }
+    Ok(())
+}
+
+// A thousand lines of seven bytes are two pieces of at most 4096 bytes, and a third read finds the end.
+#[test]
+fn each_fault_in_turn(rt: HostRuntime) -> Result<(), Fail> {
+    let alloc = rt.alloc();
+    let mut input = Vec::new(alloc);
+    for _ in 0..1000 {
+        input.extend_from_slice(b"ab cd\r\n")?;
+    }
+    let (_, whole) = first_fields(alloc, &input, &[], &[])?;
+    assert_eq!(rt; whole.len(), 3000);
+    for (call, status, length) in [(0, 3, 0), (1, 3, 1755), (2, 3, 3000), (3, 0, 3000)] {
+        let (ended, written) = first_fields(alloc, &input, &[call], &[])?;
+        assert_eq!(rt; ended, status);
+        assert_eq!(rt; written.len(), length);
+        assert!(rt; whole.starts_with(&written));
+    }
+    for (call, status, length) in [(0, 4, 0), (1, 4, 1755), (2, 0, 3000)] {
+        let (ended, written) = first_fields(alloc, &input, &[], &[call])?;
+        assert_eq!(rt; ended, status);
+        assert_eq!(rt; written.len(), length);
+        assert!(rt; whole.starts_with(&written));
+    }
+    Ok(())
+}
+
+#[test]
+fn one_byte_a_read(rt: HostRuntime) -> Result<(), Fail> {
+    let alloc = rt.alloc();
+    let input = b"ab c\r\n\nd\n  e f";
+    let mut source = Slow {
+        quiet: QuietSource::new(input.to_vec(alloc)?),
+        most: 0,
+    };
+    let mut sink = MemSink::new(alloc, Vec::new(alloc));
+    assert_eq!(rt; serve_lines(alloc, &First, &mut source, &mut sink), 0);
+    assert_eq!(rt; sink.bytes(), b"ab\nd\ne\n".as_slice());
+    assert_eq!(rt; source.most, 4096);
+    Ok(())
+}
+
+// Long replies to the lines of one piece don't all wait for its end: the second write fails here.
+#[test]
+fn long_replies_are_written_early(rt: HostRuntime) -> Result<(), Fail> {
+    let alloc = rt.alloc();
+    let mut source = QuietSource::new(vec![in alloc; b'\n'; 200]?);
+    let mut sink = MemSink::new(alloc, vec![in alloc; 1]?);
+    assert_eq!(rt;
+        serve_lines(alloc, &Zeros { count: 1000 }, &mut source, &mut sink),
+        4
+    );
+    assert_eq!(rt; sink.bytes().len(), 66_000);
+    assert_eq!(rt; sink.refused(), 0);
+    Ok(())
+}
+
+#[test]
+fn fields_of_lines(rt: HostRuntime) {
+    for (line, count, second) in [
+        (b"".as_slice(), 0, None),
+        (b"\r".as_slice(), 0, None),
+        (b"  a  b\r".as_slice(), 2, Some(b"b".as_slice())),
+        (b"a b\r \r".as_slice(), 2, Some(b"b\r".as_slice())),
+        (b"\ra".as_slice(), 1, None),
+        (b"a\tb".as_slice(), 1, None),
+    ] {
+        assert_eq!(rt; count_fields(line), count);
+        assert!(rt; field(line, 1) == second);
+    }
+}
+
+#[test]
+fn hexadecimal_fields(rt: HostRuntime) -> Result<(), Fail> {
+    let alloc = rt.alloc();
+    for (bytes, found, value) in [
+        (b"-".as_slice(), true, b"".as_slice()),
+        (b"00fFAb9".as_slice(), false, b"".as_slice()),
+        (b"00fFAb".as_slice(), true, b"\x00\xff\xab".as_slice()),
+        (b"0g".as_slice(), false, b"".as_slice()),
+        (b"00g0".as_slice(), false, b"".as_slice()),
+        (b"--".as_slice(), false, b"".as_slice()),
+        (b"7".as_slice(), false, b"".as_slice()),
+    ] {
+        let mut out = ByteString::from_slice(alloc, b"=")?;
+        assert_eq!(rt; hex_field(alloc, bytes, &mut out)?, found);
+        assert_eq!(rt; out.as_slice()[1..], *value);
+    }
+    Ok(())
+}
+
+#[test]
+fn byte_strings_and_words(rt: HostRuntime) -> Result<(), Fail> {
+    let alloc = rt.alloc();
+    let mut text = ByteString::with_capacity(alloc, 8)?;
+    text.push_slice(b"key ")?;
+    text.push_hex(b"\x00\xab")?;
+    text.resize(10, b'!')?;
+    assert_eq!(rt; text.as_slice(), b"key 00ab!!".as_slice());
+    text.truncate(3);
+    text.as_mut_slice()[0] = b'K';
+    assert_eq!(rt; text.as_slice(), b"Key".as_slice());
+    assert_eq!(rt; text.len(), 3);
+    let mut words = Words::new(alloc);
+    words.push(text.as_slice())?;
+    words.push(b"")?;
+    text.clear();
+    assert!(rt; text.is_empty());
+    assert_eq!(rt; words.len(), 2);
+    assert!(rt; words.get(0) == Some(b"Key".as_slice()));
+    assert!(rt; words.get(2) == None);
+    let mut sink = MemSink::new(alloc, Vec::new(alloc));
+    assert!(rt; write_all(&mut sink, b"Key").is_ok());
+    assert_eq!(rt; sink.bytes(), b"Key".as_slice());
+    Ok(())
+}
