@@ -8,7 +8,8 @@ length-compress : (h b : List ℕ) → length (compress h b) ≡ 8
 unfolding compress
 length-compress h b = refl
 
-length-fold_blocks : (h p : List ℕ) (n : ℕ) → length h ≡ 8 → length (fold_blocks h p n) ≡ 8
+-- a hash value has eight words
+pub length-fold_blocks : (h p : List ℕ) (n : ℕ) → length h ≡ 8 → length (fold_blocks h p n) ≡ 8
 unfolding fold_blocks
 length-fold_blocks h p zero eight = eight
 length-fold_blocks h p (suc n) eight = length-fold_blocks (compress h (take 64 p)) (drop 64 p) n (length-compress h (take 64 p))

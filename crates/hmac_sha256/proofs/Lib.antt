@@ -1,5 +1,5 @@
 mod Words
-mod Schedule
-mod Absorbing
+pub mod Schedule
+pub mod Absorbing
 mod Keys
 pub mod Digest
