@@ -1,0 +1,52 @@
+-- The reply to a line (README, "Lines").
+use Rattle.std.specs.Prelude.{◌==◌, ℕ, ◌/◌, List, [], ◌∷◌, ◌++◌, length, drop, Result, Ok, Err, codes, if◌then◌else◌}
+use Rattle.hex.specs.Hex.{encode_lower}
+use Rattle.line_serve.specs.Fields.{fields}
+use Rattle.slh_run.specs.Judgement.{judgement}
+use Rattle.slh_run.specs.Requests.{request_of}
+use Rattle.slh_run.specs.Sets.{scheme_for}
+use Rattle.slh_run.specs.declared.job.Answer.{Answer}
+use Rattle.slh_run.specs.declared.job.Answer.TheVariants.{Key, Signature, Accepted}
+use Rattle.slh_run.specs.declared.job.Error.{Error}
+use Rattle.slh_run.specs.declared.job.Error.TheVariants as error
+use Rattle.slh_run.specs.declared.request.Fault.{Fault}
+use Rattle.slh_run.specs.declared.request.Fault.TheVariants as fault
+use Rattle.slh_run.specs.declared.request.Request.{Request}
+
+-- the verifying key is the last half of a signing key
+abbrev pub key_text : List ℕ → List ℕ
+key_text key =
+    codes "key " ++ encode_lower key ++ codes " " ++ encode_lower (drop (length key / 2) key) ++ codes "\n"
+
+abbrev pub signature_text : List ℕ → List ℕ
+signature_text signature = codes "sig " ++ encode_lower signature ++ codes "\n"
+
+abbrev pub error_text : Error → List ℕ
+error_text error.Length = codes "error length\n"
+error_text error.ContextTooLong = codes "error context\n"
+error_text error.RandomizerLength = codes "error randomizer\n"
+error_text error.MessageTooLong = codes "error message\n"
+error_text error.Invalid = codes "error invalid\n"
+error_text error.Memory = []
+
+-- `Memory` has no text: it ends a run, and is never the one answer to a job
+abbrev pub answer_text : Result Answer Error → List ℕ
+answer_text (Ok (Key key)) = key_text key
+answer_text (Ok (Signature signature)) = signature_text signature
+answer_text (Ok Accepted) = codes "accepted\n"
+answer_text (Err refusal) = error_text refusal
+
+abbrev pub fault_text : Fault → List ℕ
+fault_text fault.Set = codes "error set\n"
+fault_text fault.Command = codes "error command\n"
+fault_text fault.Fields = codes "error fields\n"
+fault_text fault.Hex = codes "error hex\n"
+fault_text fault.Memory = []
+
+abbrev pub request_text : Result Request Fault → List ℕ
+request_text (Err found) = fault_text found
+request_text (Ok request) = answer_text (judgement (scheme_for request.set) request.job)
+
+-- a line without fields has no reply
+abbrev pub reply_of_line : List ℕ → List ℕ
+reply_of_line line = if length (fields line) == 0 then [] else request_text (request_of (fields line))

@@ -1,0 +1,66 @@
+//! Jobs, and what is answered to them.
+use line_serve::ByteString;
+
+/// What is asked for. Its byte strings may have any length; `run` refuses those that don't fit.
+#[derive(Drop)]
+pub enum Job {
+    /// A key of three seeds.
+    Keygen {
+        /// The secret seed, n bytes.
+        sk_seed: ByteString,
+        /// The PRF key, n bytes.
+        sk_prf: ByteString,
+        /// The public seed, n bytes.
+        pk_seed: ByteString,
+    },
+    /// A signature of a message with a context.
+    Sign {
+        /// The signing key, 4n bytes.
+        key: ByteString,
+        /// The context, at most 255 bytes.
+        context: ByteString,
+        /// The message, at most 2^60 bytes.
+        message: ByteString,
+        /// The randomizer, n bytes. Without one the public seed stands in its place.
+        randomizer: Option<ByteString>,
+    },
+    /// Whether a signature is one of a message with a context.
+    Verify {
+        /// The verifying key, 2n bytes.
+        key: ByteString,
+        /// The context, at most 255 bytes.
+        context: ByteString,
+        /// The message, at most 2^60 bytes.
+        message: ByteString,
+        /// The signature, as many bytes as the set's signatures have.
+        signature: ByteString,
+    },
+}
+
+/// The answer to a job that wasn't refused.
+#[derive(Drop)]
+pub enum Answer {
+    /// To `Keygen`: the signing key, 4n bytes, of which the last 2n are the verifying key.
+    Key(ByteString),
+    /// To `Sign`: the signature.
+    Signature(ByteString),
+    /// To `Verify`: the signature leads to the key's root.
+    Accepted,
+}
+
+/// Why a job was refused. Where several causes stand together, the first in this order is answered.
+#[derive(Clone, Copy, Debug, PartialEq, Eq)]
+pub enum Error {
+    /// A seed, a key or a signature doesn't have the number of bytes that the set asks for.
+    Length,
+    /// The context has more than 255 bytes.
+    ContextTooLong,
+    /// A randomizer was given that doesn't have n bytes.
+    RandomizerLength,
+    /// The message has more than 2^60 bytes.
+    MessageTooLong,
+    /// The signature doesn't lead to the key's root.
+    Invalid,
+    /// There was no memory for the answer's bytes. Only `Keygen` and `Sign` need any.
+    Memory,
+}

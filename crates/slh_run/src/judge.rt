@@ -1,0 +1,173 @@
+//! Answers single jobs.
+ghost use Rattle.std.specs.Prelude.{◌≡◌, ◌<◌, ◌≤◌};
+ghost use Rattle.std.specs.Option.{option_copied};
+ghost use Rattle.slh_run.specs.Errors.{error_of};
+ghost use Rattle.slh_run.specs.Judgement.{IsJudged};
+ghost use Rattle.slh_run.specs.Sets.{scheme_for};
+ghost use Rattle.slh_run.specs.declared.job.Job.TheVariants.{Keygen, Sign, Verify};
+
+use crate::job::{Answer, Error, Job};
+use crate::set::Set;
+use hybrid_array::ArraySize;
+use line_serve::ByteString;
+use slh_chains::params::chain_sizes;
+use slh_chains::steps::Steps;
+use slh_dsa::{ParameterSet, SigningKey, VerifyingKey};
+use slh_hash::{Sha2_128f, Sha2_128s};
+use std::alloc::{AllocError, Global};
+use std::marker::Brand;
+use std::sync::ledger::{Blank, Ledger};
+
+impl From<slh_dsa::Error> for Error {
+    ghost from_gives = { λ e f. f ≡ error_of e };
+
+    fn from(error: slh_dsa::Error) -> Self {
+        match error {
+            slh_dsa::Error::Length => Error::Length,
+            slh_dsa::Error::ContextTooLong => Error::ContextTooLong,
+            slh_dsa::Error::RandomizerLength => Error::RandomizerLength,
+            slh_dsa::Error::MessageTooLong => Error::MessageTooLong,
+            slh_dsa::Error::Invalid => Error::Invalid,
+            slh_dsa::Error::Memory => Error::Memory,
+        }
+    }
+}
+
+impl From<AllocError> for Error {
+    ghost use Rattle.slh_run.specs.declared.job.Error.TheVariants.{Memory};
+
+    ghost from_gives = { λ _ e. e ≡ Memory };
+
+    fn from(_: AllocError) -> Self {
+        Error::Memory
+    }
+}
+
+// A key of three seeds. Its bytes are taken once it is made, and nothing after that can fail.
+fn keygen<P: ParameterSet, L: Ledger>(
+    alloc: Global,
+    sk_seed: &[u8],
+    sk_prf: &[u8],
+    pk_seed: &[u8],
+    steps: &mut Steps<L>,
+) -> Result<Answer, Error>
+    ensures { IsJudged P.scheme (Keygen sk_seed.now sk_prf.now pk_seed.now) result }
+{
+    chain_sizes::<P>();
+    let key = SigningKey::<P>::slh_keygen_counted(sk_seed, sk_prf, pk_seed, steps)?;
+    let mut bytes = ByteString::zeroed(alloc, 4 * P::N::USIZE)?;
+    key.write_to(bytes.as_mut_slice());
+    Ok(Answer::Key(bytes))
+}
+
+// A signature. Its bytes are taken after all checks, and nothing after that can fail.
+fn sign<P: ParameterSet, L: Ledger>(
+    alloc: Global,
+    key: &[u8],
+    ctx: &[u8],
+    msg: &[u8],
+    randomizer: Option<&[u8]>,
+    steps: &mut Steps<L>,
+) -> Result<Answer, Error>
+    ensures { let opt = option_copied randomizer.entry in
+        IsJudged P.scheme (Sign key.now ctx.now msg.now opt) result }
+{
+    let key = SigningKey::<P>::try_from(key)?;
+    SigningKey::<P>::check_sign(msg, ctx, randomizer)?;
+    let mut bytes = ByteString::zeroed(alloc, P::SigLen::USIZE)?;
+    key.slh_sign_counted(msg, ctx, randomizer, bytes.as_mut_slice(), steps)?;
+    Ok(Answer::Signature(bytes))
+}
+
+// Whether a signature is accepted. It takes no memory.
+fn verify<P: ParameterSet, L: Ledger>(
+    key: &[u8],
+    ctx: &[u8],
+    msg: &[u8],
+    signature: &[u8],
+    steps: &mut Steps<L>,
+) -> Result<Answer, Error>
+    ensures { IsJudged P.scheme (Verify key.now ctx.now msg.now signature.now) result }
+{
+    let key = VerifyingKey::<P>::try_from(key)?;
+    key.slh_verify_counted(msg, ctx, signature, steps)?;
+    Ok(Answer::Accepted)
+}
+
+// Answers a job, on a counter that is made here.
+fn run_in<P: ParameterSet, L: Ledger>(
+    alloc: Global,
+    job: &Job,
+    blank: Blank,
+) -> Result<Answer, Error>
+    requires name { blank.name ≡ L.name }
+    requires parts { blank.parts ≡ L.parts }
+    requires some { 0 < blank.parts }
+    ensures { IsJudged P.scheme job.now result }
+{
+    let mut steps = Steps::<L>::new(blank);
+    match job {
+        Job::Keygen {
+            sk_seed,
+            sk_prf,
+            pk_seed,
+        } => keygen::<P, L>(
+            alloc,
+            sk_seed.as_slice(),
+            sk_prf.as_slice(),
+            pk_seed.as_slice(),
+            &mut steps,
+        ),
+        Job::Sign {
+            key,
+            context,
+            message,
+            randomizer,
+        } => sign::<P, L>(
+            alloc,
+            key.as_slice(),
+            context.as_slice(),
+            message.as_slice(),
+            bytes_of(randomizer),
+            &mut steps,
+        ),
+        Job::Verify {
+            key,
+            context,
+            message,
+            signature,
+        } => verify::<P, L>(
+            key.as_slice(),
+            context.as_slice(),
+            message.as_slice(),
+            signature.as_slice(),
+            &mut steps,
+        ),
+    }
+}
+
+// The bytes of a byte string, where there is one.
+fn bytes_of(string: &Option<ByteString>) -> Option<&[u8]>
+    ensures { option_copied result ≡ string.now }
+{
+    match string {
+        Some(string) => Some(string.as_slice()),
+        None => None,
+    }
+}
+
+fn run_set<P: ParameterSet>(alloc: Global, job: &Job) -> Result<Answer, Error>
+    ensures { IsJudged P.scheme job.now result }
+{
+    run_in::<P, Brand>(alloc, job, Blank::new(1))
+}
+
+/// Answers a job of a parameter set: the answer that is judged, or `Memory`. The job is unchanged.
+pub fn run(alloc: Global, set: Set, job: &Job) -> Result<Answer, Error>
+    ensures judged { IsJudged (scheme_for set) job.now result }
+{
+    match set {
+        Set::Sha2_128s => run_set::<Sha2_128s>(alloc, job),
+        Set::Sha2_128f => run_set::<Sha2_128f>(alloc, job),
+    }
+}

@@ -1,0 +1,19 @@
+//! Jobs of SLH-DSA, and the program that answers them line by line (README, "Lines").
+//!
+//! [`run`] answers one [`Job`], and [`serve`] the job lines of a whole source. The ends of the
+//! program and the engine for lines are those of `line_serve`, handed on by name.
+#![tactic(auto)]
+
+mod job;
+mod reply;
+mod request;
+mod judge;
+mod set;
+
+pub use job::{Answer, Error, Job};
+pub use line_serve::{
+    ByteString, Failed, MemSink, MemSource, NullSink, QuietSource, Replier, Sink, Source, Words,
+    count_fields, field, hex_field, serve_lines, write_all,
+};
+pub use judge::run;
+pub use set::Set;

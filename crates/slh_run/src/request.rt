@@ -1,0 +1,163 @@
+//! What a job line asks for.
+ghost use Rattle.std.specs.Prelude.{◌≡◌, ◌⊎◌, Err, length};
+ghost use Rattle.line_serve.specs.Fields.{fields};
+ghost use Rattle.slh_run.specs.Requests.{bytes_at, command_named, field_at, job_for, job_of, randomizer_at, request_of};
+ghost use Rattle.slh_run.specs.declared.request.Command.TheVariants.{Keygen, Sign, Verify};
+ghost use Rattle.slh_run.specs.declared.request.Fault.TheVariants.{Memory};
+
+use crate::job::Job;
+use crate::set::Set;
+use line_serve::{ByteString, count_fields, field, hex_field};
+use std::alloc::{AllocError, Global};
+
+/// A job for a parameter set.
+#[derive(Drop)]
+pub(crate) struct Request {
+    pub(crate) set: Set,
+    pub(crate) job: Job,
+}
+
+/// Why a line is no job, in the order in which the causes are looked for; or that there was no memory
+/// to read it.
+#[derive(Clone, Copy, Debug, PartialEq, Eq)]
+pub(crate) enum Fault {
+    Set,
+    Command,
+    Fields,
+    Hex,
+    Memory,
+}
+
+impl From<AllocError> for Fault {
+    ghost from_gives = { λ _ e. e ≡ Memory };
+
+    fn from(_: AllocError) -> Self {
+        Fault::Memory
+    }
+}
+
+#[derive(Clone, Copy, Debug, PartialEq, Eq)]
+pub(crate) enum Command {
+    Keygen,
+    Sign,
+    Verify,
+}
+
+impl Command {
+    fn from_name(name: &[u8]) -> Option<Command>
+        ensures { result ≡ command_named name.now }
+    {
+        if name == b"keygen".as_slice() {
+            Some(Command::Keygen)
+        } else if name == b"sign".as_slice() {
+            Some(Command::Sign)
+        } else if name == b"verify".as_slice() {
+            Some(Command::Verify)
+        } else {
+            None
+        }
+    }
+}
+
+// The field at an index, with no bytes where there are not so many.
+fn field_at(line: &[u8], i: usize) -> &[u8]
+    ensures { result.now ≡ field_at (fields line.now) i }
+{
+    match field(line, i) {
+        Some(found) => found,
+        None => &[],
+    }
+}
+
+// The bytes that the field at an index stands for.
+fn bytes_at(alloc: Global, line: &[u8], i: usize) -> Result<ByteString, Fault>
+    ensures { (result ≡ bytes_at (fields line.now) i) ⊎ (result ≡ Err Memory) }
+{
+    let mut bytes = ByteString::new(alloc);
+    if hex_field(alloc, field_at(line, i), &mut bytes)? {
+        Ok(bytes)
+    } else {
+        Err(Fault::Hex)
+    }
+}
+
+// The randomizer that the field at an index stands for, which may be none.
+fn randomizer_at(alloc: Global, line: &[u8], i: usize) -> Result<Option<ByteString>, Fault>
+    ensures { (result ≡ randomizer_at (fields line.now) i) ⊎ (result ≡ Err Memory) }
+{
+    if field_at(line, i) == b"none".as_slice() {
+        return Ok(None);
+    }
+    Ok(Some(bytes_at(alloc, line, i)?))
+}
+
+fn read_keygen(alloc: Global, line: &[u8]) -> Result<Job, Fault>
+    ensures { (result ≡ job_of Keygen (fields line.now)) ⊎ (result ≡ Err Memory) }
+{
+    let sk_seed = bytes_at(alloc, line, 2)?;
+    let sk_prf = bytes_at(alloc, line, 3)?;
+    let pk_seed = bytes_at(alloc, line, 4)?;
+    Ok(Job::Keygen {
+        sk_seed,
+        sk_prf,
+        pk_seed,
+    })
+}
+
+fn read_sign(alloc: Global, line: &[u8]) -> Result<Job, Fault>
+    ensures { (result ≡ job_of Sign (fields line.now)) ⊎ (result ≡ Err Memory) }
+{
+    let key = bytes_at(alloc, line, 2)?;
+    let context = bytes_at(alloc, line, 3)?;
+    let message = bytes_at(alloc, line, 4)?;
+    let randomizer = randomizer_at(alloc, line, 5)?;
+    Ok(Job::Sign {
+        key,
+        context,
+        message,
+        randomizer,
+    })
+}
+
+fn read_verify(alloc: Global, line: &[u8]) -> Result<Job, Fault>
+    ensures { (result ≡ job_of Verify (fields line.now)) ⊎ (result ≡ Err Memory) }
+{
+    let key = bytes_at(alloc, line, 2)?;
+    let context = bytes_at(alloc, line, 3)?;
+    let message = bytes_at(alloc, line, 4)?;
+    let signature = bytes_at(alloc, line, 5)?;
+    Ok(Job::Verify {
+        key,
+        context,
+        message,
+        signature,
+    })
+}
+
+// The job of a line, by its command.
+fn read_job(alloc: Global, line: &[u8]) -> Result<Job, Fault>
+    ensures { let all = fields line.now in
+        (result ≡ job_for (command_named (field_at all 1)) all) ⊎ (result ≡ Err Memory) }
+{
+    let Some(command) = Command::from_name(field_at(line, 1)) else {
+        return Err(Fault::Command);
+    };
+    let count = count_fields(line);
+    match command {
+        Command::Keygen if count == 5 => read_keygen(alloc, line),
+        Command::Sign if count == 6 => read_sign(alloc, line),
+        Command::Verify if count == 6 => read_verify(alloc, line),
+        _ => Err(Fault::Fields),
+    }
+}
+
+/// What a line asks for, or the first thing that is wrong with it.
+pub(crate) fn read_request(alloc: Global, line: &[u8]) -> Result<Request, Fault>
+    ensures { (result ≡ request_of (fields line.now)) ⊎ (result ≡ Err Memory) }
+{
+    let Some(set) = Set::from_name(field_at(line, 0)) else {
+        return Err(Fault::Set);
+    };
+    let job = read_job(alloc, line)?;
+    Ok(Request { set, job })
+}

@@ -1,0 +1,37 @@
+//! The parameter sets that the program answers for.
+ghost use Rattle.std.specs.Prelude.{◌≡◌};
+ghost use Rattle.slh_run.specs.Sets.{name_of, set_named};
+
+/// A parameter set of SLH-DSA over SHA-2 (FIPS 205, section 11, table 2).
+#[derive(Clone, Copy, Debug, PartialEq, Eq)]
+pub enum Set {
+    /// SLH-DSA-SHA2-128s: signatures of 7856 bytes.
+    Sha2_128s,
+    /// SLH-DSA-SHA2-128f: signatures of 17088 bytes, made faster.
+    Sha2_128f,
+}
+
+impl Set {
+    /// The name of the set.
+    pub fn name(self) -> &'static str
+        ensures { result.now ≡ name_of self }
+    {
+        match self {
+            Set::Sha2_128s => "SLH-DSA-SHA2-128s",
+            Set::Sha2_128f => "SLH-DSA-SHA2-128f",
+        }
+    }
+
+    /// The set of a name, where there is one. Upper and lower case differ.
+    pub fn from_name(name: &[u8]) -> Option<Set>
+        ensures { result ≡ set_named name.now }
+    {
+        if name == b"SLH-DSA-SHA2-128s".as_slice() {
+            Some(Set::Sha2_128s)
+        } else if name == b"SLH-DSA-SHA2-128f".as_slice() {
+            Some(Set::Sha2_128f)
+        } else {
+            None
+        }
+    }
+}
