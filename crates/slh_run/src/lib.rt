@@ -5,15 +5,17 @@
 #![tactic(auto)]
 
 mod job;
+mod judge;
+mod program;
 mod reply;
 mod request;
-mod judge;
 mod set;
 
 pub use job::{Answer, Error, Job};
+pub use judge::run;
 pub use line_serve::{
     ByteString, Failed, MemSink, MemSource, NullSink, QuietSource, Replier, Sink, Source, Words,
     count_fields, field, hex_field, serve_lines, write_all,
 };
-pub use judge::run;
+pub use program::serve;
 pub use set::Set;

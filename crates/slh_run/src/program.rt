@@ -1,0 +1,52 @@
+//! The top call: job lines where there are no words, and the usage text where there are any.
+ghost use Rattle.std.specs.Prelude.{◌≡◌, ◌≢◌, ◌⊎◌, ◌<◌, ◌^◌, [], length, IsSomeAnd};
+ghost use Rattle.line_serve.specs.Causes.{Rose};
+ghost use Rattle.line_serve.specs.Served.{AnswersAll, Served};
+ghost use Rattle.slh_run.specs.Reply.{reply_of_line};
+ghost use Rattle.slh_run.specs.Usage.{TellsUsage};
+
+use crate::reply::Jobs;
+use line_serve::{Sink, Source, Words, serve_lines, write_all};
+use std::alloc::Global;
+
+const USAGE: &[u8] = b"usage: slh_cli [bench SET NUMBER COUNT]\n";
+
+/// With no words, answers each job line of the source, and writes the replies to the sink. With any
+/// words, writes the usage text alone, reads nothing and takes no memory.
+///
+/// The status is 0 where the whole input was read and answered, 2 where the usage text was written,
+/// 3 where the source failed, 4 where the sink failed, 5 where 2^40 bytes were read, and 6 where
+/// there was no memory.
+pub fn serve<S: Source, K: Sink>(alloc: Global, words: &Words, source: &mut S, sink: &mut K) -> u8
+    ensures status { (result ≡ 0) ⊎ (result ≡ 2) ⊎ (result ≡ 3) ⊎ (result ≡ 4)
+        ⊎ (result ≡ 5) ⊎ (result ≡ 6) }
+
+    // The headline: with no words and status 0, the whole input is read, and the sink took the
+    // reply to each of its lines.
+    ensures answered { words.now ≡ [] → result ≡ 0 → AnswersAll reply_of_line
+        (S.left source.old) (S.left source.new) (K.taken sink.old) (K.taken sink.new) }
+
+    // What was read and written, at each status, for every source and sink.
+    ensures served { words.now ≡ [] → Served reply_of_line
+        (S.left source.old) (S.left source.new) (K.taken sink.old) (K.taken sink.new) result }
+    ensures completes { words.now ≡ []
+        → IsSomeAnd (S.left source.old) (λ input. length input < 2 ^ 40)
+        → (Rose (S.faults source.old) (S.faults source.new) → ⊥)
+        → (Rose (K.faults sink.old) (K.faults sink.new) → ⊥)
+        → (result ≡ 0) ⊎ (result ≡ 6) }
+
+    ensures read_cause { result ≡ 3 → Rose (S.faults source.old) (S.faults source.new) }
+    ensures write_cause { result ≡ 4 → Rose (K.faults sink.old) (K.faults sink.new) }
+    ensures usage { words.now ≢ []
+        → TellsUsage (K.taken sink.old) (K.taken sink.new) result }
+    ensures unread { words.now ≢ [] → source.new ≡ source.old }
+    ensures usage_only { result ≡ 2 → words.now ≢ [] }
+{
+    if words.len() == 0 {
+        return serve_lines(alloc, &Jobs, source, sink);
+    }
+    match write_all(sink, USAGE) {
+        Ok(()) => 2,
+        Err(_) => 4,
+    }
+}
