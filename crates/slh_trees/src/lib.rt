@@ -6,6 +6,8 @@
 
 pub mod check;
 mod climb;
+#[cfg(test)]
+mod counting;
 pub mod digest;
 pub mod fors;
 pub mod hypertree;
