@@ -25,7 +25,8 @@ module _ (K : Seeded) (sk : List ℕ) (j t l : ℕ) where
   -- the public key: the hash of the ends of all chains (algorithm 6)
   unfoldable pub leaf : List ℕ
   leaf =
-      K.suite.t K.seed (address_bytes j t 1 l 0 0) (joined (λ c. chain_value c 15) (chain_count K.n))
+      K.suite.t K.seed (address_bytes j t 1 l 0 0)
+      (joined (λ c. chain_value c 15) (chain_count K.n))
 
   -- each chain as far as its digit says
   unfoldable pub chain_values : List ℕ → List ℕ

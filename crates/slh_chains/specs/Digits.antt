@@ -1,5 +1,6 @@
 -- Digits cut from the bits of a byte string (FIPS 205, algorithm 4), and those of a message.
-use Rattle.std.specs.Prelude.{ℕ, zero, suc, ◌+◌, ◌-◌, ◌*◌, ◌/◌, ◌%◌, ◌^◌, List, [], ◌∷◌, ◌++◌, take, sum_by}
+use Rattle.std.specs.Prelude.{ℕ, zero, suc, ◌+◌, ◌-◌, ◌*◌, ◌/◌, ◌%◌, ◌^◌}
+use Rattle.std.specs.Prelude.{List, [], ◌∷◌, ◌++◌, take, sum_by}
 use Rattle.slh_chains.specs.Bytes.{number_of}
 use Rattle.slh_chains.specs.Parameters.{bytes_for}
 
@@ -21,8 +22,8 @@ digits x b c = listed (digit x b c) c
 abbrev pub checksum : List ℕ → ℕ
 checksum ds = sum_by (λ d. 15 - d) ds
 
--- the digits that a key pair signs of a message of n bytes: its 2n hexadecimal digits, and the three of
--- their checksum (FIPS 205, algorithms 7 and 8)
+-- the digits that a key pair signs of a message of n bytes: its 2n hexadecimal digits, and the
+-- three of their checksum (FIPS 205, algorithms 7 and 8)
 unfoldable pub wots_digits : ℕ → List ℕ → List ℕ
 wots_digits n m =
     let ds = digits m 4 (2 * n) in

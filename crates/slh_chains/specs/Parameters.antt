@@ -2,7 +2,7 @@
 use Rattle.std.specs.Prelude.{◌≡◌, ℕ, ◌+◌, ◌-◌, ◌*◌, ◌/◌, ◌^◌, ◌<◌, ◌≤◌}
 use Rattle.slh_chains.specs.Suite.{Suite}
 
--- a suite of values of n bytes, with d layers of trees of height hp, and k trees of height a below them
+-- a suite of values of n bytes, with d layers of trees of height hp, and k trees of height a below
 pub record Scheme : Type 0 where
   pub suite : Suite
   pub n : ℕ
@@ -22,7 +22,7 @@ bytes_for bits = (bits + 7) / 8
 abbrev pub chain_count : ℕ → ℕ
 chain_count n = 2 * n + 3
 
--- a message has 2n digits, and a key pair a chain for each of them and for each of the checksum's three
+-- a message has 2n digits, and a key pair has a chain for each of them and three for the checksum
 pub record IsValidWots (n digits chains : ℕ) : Type 0 where
   pub n_low : 1 ≤ n
   pub n_high : n ≤ 32
@@ -40,7 +40,7 @@ pub record IsValidHypertree (hp d h : ℕ) : Type 0 where
   pub height : h ≡ d * hp
   pub tree_bits : h - hp ≤ 64
 
--- k trees of height a, md bytes for their digits, and m bytes for these and for the tree and the leaf
+-- k trees of height a, md bytes for their digits, and m bytes for these, the tree and the leaf
 pub record IsValidFors (hp h k a md m : ℕ) : Type 0 where
   pub bits_low : 1 ≤ a
   pub bits_high : a ≤ 16

@@ -7,7 +7,8 @@ ghost use Rattle.slh_chains.specs.Parameters.{chain_count};
 use crate::nbytes::NBytes;
 use hybrid_array::ArraySize;
 
-/// Cuts the front of `x` into digits of `b` bits, one for each place of `out` (FIPS 205, algorithm 4).
+/// Cuts the front of `x` into digits of `b` bits, one for each place of `out` (FIPS 205, algorithm
+/// 4).
 #[tactic(auto, unfolding(crate::specs::Digits::listed))]
 pub fn base_2b(x: &[u8], b: u32, out: &mut [u16])
     requires low { 1 ≤ b }

@@ -1,6 +1,7 @@
 //! The sizes of a parameter set (FIPS 205, section 11).
 ghost use Rattle.std.specs.Prelude.{◌≡◌, ◌+◌, ◌-◌, ◌*◌, ◌^◌, ◌≤◌, ◌<◌};
-ghost use Rattle.slh_chains.specs.Parameters.{IsValidWots, IsValidXmss, IsValidHypertree, IsValidFors};
+ghost use Rattle.slh_chains.specs.Parameters.{IsValidWots, IsValidXmss};
+ghost use Rattle.slh_chains.specs.Parameters.{IsValidHypertree, IsValidFors};
 ghost use Rattle.slh_chains.specs.Parameters.{Scheme, scheme_of, bytes_for, chain_count};
 
 use crate::suite::HashSuite;
@@ -101,5 +102,6 @@ pub fn forest_sizes<P: ForsParams>()
     ensures digest_len { let tree_bits = P.H.USIZE - P.HPrime.USIZE in
         P.M.USIZE ≡ P.MD.USIZE + bytes_for tree_bits + bytes_for P.HPrime.USIZE }
     ensures digest_small { P.M.USIZE ≤ 140 }
-    ensures scheme { P.scheme ≡ scheme_of P.suite P.N.USIZE P.HPrime.USIZE P.D.USIZE P.A.USIZE P.K.USIZE }
+    ensures scheme { let hp = P.HPrime.USIZE in
+        P.scheme ≡ scheme_of P.suite P.N.USIZE hp P.D.USIZE P.A.USIZE P.K.USIZE }
 {}

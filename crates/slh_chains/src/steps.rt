@@ -7,8 +7,8 @@ use std::sync::ledger::{Blank, Book, Ledger, Share};
 /// How many steps were taken: a step is one call of `f`, `h`, `t` or `prf_sk` of a hash suite. Only
 /// `tick` changes it, and it has no bytes and no code when the program runs.
 ///
-/// A caller that counts nothing passes `Blank::new(1)` to a function that makes the count, and `Brand`
-/// for its ledger.
+/// A caller that counts nothing passes `Blank::new(1)` to a function that makes the count, and
+/// `Brand` for its ledger.
 #[derive(Drop)]
 pub struct Steps<L: Ledger> {
     book: Book<L>,

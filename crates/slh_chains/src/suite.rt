@@ -8,9 +8,9 @@ use crate::steps::Steps;
 use hybrid_array::ArraySize;
 use std::sync::ledger::Ledger;
 
-/// The hash functions of a parameter set (FIPS 205, section 4.1). Those that take an address also take
-/// a state that stands for a public seed, and count one step each. A message comes as three slices,
-/// which are hashed one after the other.
+/// The hash functions of a parameter set (FIPS 205, section 4.1). Those that take an address also
+/// take a state that stands for a public seed, and count one step each. A message comes as three
+/// slices, which are hashed one after the other.
 pub trait HashSuite {
     /// How many bytes a value has.
     type N: ArraySize;

@@ -101,7 +101,8 @@ pub fn wots_sign<P: WotsParams, L: Ledger>(
     ensures value { let K = seeded P.suite P.N.USIZE (P.seed_of keyed.now) in
         let a = adrs.now in
         out.new ≡ signed_chains K sk_seed.now a.layer_adrs a.tree_adrs_low a.key_pair_adrs m.now }
-    ensures cost { steps.new ≡ steps.old + (P.WotsSigLen.USIZE + sum (wots_digits P.N.USIZE m.now)) }
+    ensures cost { let digits = wots_digits P.N.USIZE m.now in
+        steps.new ≡ steps.old + (P.WotsSigLen.USIZE + sum digits) }
     ensures bound { steps.new ≤ steps.old + 16 * P.WotsSigLen.USIZE }
 {
     chain_sizes::<P>();
@@ -126,7 +127,8 @@ fn write_chains<P: WotsParams, L: Ledger>(
     requires room { length out.old ≡ length digits.now * P.N.USIZE }
     ensures value { let K = seeded P.suite P.N.USIZE (P.seed_of keyed.now) in
         let a = adrs.now in
-        out.new ≡ chain_values K sk_seed.now a.layer_adrs a.tree_adrs_low a.key_pair_adrs digits.now }
+        let sk = sk_seed.now in
+        out.new ≡ chain_values K sk a.layer_adrs a.tree_adrs_low a.key_pair_adrs digits.now }
     ensures cost { steps.new ≡ steps.old + (length digits.now + sum digits.now) }
 {
     let n = P::N::USIZE;

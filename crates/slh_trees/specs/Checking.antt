@@ -1,5 +1,5 @@
--- What a signature leads to, by its bytes and public values alone (FIPS 205, algorithms 11, 13, 17 and 20).
--- K is the suite with its public seed.
+-- What a signature leads to, by its bytes and public values alone (FIPS 205, algorithms 11, 13, 17
+-- and 20). K is the suite with its public seed.
 use Rattle.std.specs.Prelude.{ℕ, zero, suc, ◌+◌, ◌*◌, List, take, drop, slice_range}
 use Rattle.slh_chains.specs.Address.{address_bytes}
 use Rattle.slh_chains.specs.Bytes.{joined, part}
@@ -56,7 +56,8 @@ digest_root Z s digest sig =
     let K = seeded Z.suite Z.n s in
     let parts = split_digest Z digest in
     let upper = Z.n + forest_size Z.n Z.k Z.a in
-    let key = checked_fors_key K parts.tree parts.leaf Z.k Z.a (slice_range sig Z.n upper) parts.md in
+    let forest = slice_range sig Z.n upper in
+    let key = checked_fors_key K parts.tree parts.leaf Z.k Z.a forest parts.md in
     checked_message K Z.hp parts.tree parts.leaf (drop upper sig) key Z.d
 
 -- the root that a signature of a message leads to, under a public seed s and a key's root

@@ -1,6 +1,6 @@
--- The forest below a leaf (FIPS 205, section 8). K is the suite with its public seed, sk the secret seed,
--- t and l the tree and the leaf of layer 0. There are k trees of height a, and indices run through them
--- all. x is the digits that name a leaf in each tree.
+-- The forest below a leaf (FIPS 205, section 8). K is the suite with its public seed, sk the secret
+-- seed, t and l the tree and the leaf of layer 0. There are k trees of height a, and indices run
+-- through them all. x is the digits that name a leaf in each tree.
 use Rattle.std.specs.Prelude.{ℕ, ◌+◌, ◌*◌, ◌^◌, List, ◌++◌, slice_index}
 use Rattle.slh_chains.specs.Address.{address_bytes}
 use Rattle.slh_chains.specs.Bytes.{joined}

@@ -1,5 +1,5 @@
--- Keys (FIPS 205, section 9.1). A signing key has four parts of n bytes: the secret seed, the PRF key, the
--- public seed, and the root. A verifying key is the last two.
+-- Keys (FIPS 205, section 9.1). A signing key has four parts of n bytes: the secret seed, the PRF
+-- key, the public seed, and the root. A verifying key is the last two.
 use Rattle.std.specs.Prelude.{◌≡◌, ℕ, ◌-◌, List, ◌++◌}
 use Rattle.slh_chains.specs.Bytes.{part}
 use Rattle.slh_chains.specs.Parameters.{Scheme}

@@ -1,5 +1,6 @@
--- The layers of trees (FIPS 205, section 7). K is the suite with its public seed, hp the height of a tree,
--- sk the secret seed, t and l the tree and the leaf of layer 0, m the message that layer 0 signs.
+-- The layers of trees (FIPS 205, section 7). K is the suite with its public seed, hp the height of
+-- a tree, sk the secret seed, t and l the tree and the leaf of layer 0, m the message that layer 0
+-- signs.
 use Rattle.std.specs.Prelude.{ℕ, zero, suc, ◌+◌, ◌*◌, ◌/◌, ◌%◌, ◌^◌, List}
 use Rattle.slh_chains.specs.Bytes.{joined}
 use Rattle.slh_chains.specs.Parameters.{chain_count}

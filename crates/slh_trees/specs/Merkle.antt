@@ -1,4 +1,5 @@
--- Binary trees of hashes over any leaves, and the way up in them. K is the suite with its public seed.
+-- Binary trees of hashes over any leaves, and the way up in them. K is the suite with its public
+-- seed.
 use Rattle.std.specs.Prelude.{ℕ, zero, suc, ◌+◌, ◌-◌, ◌*◌, ◌/◌, ◌%◌, ◌^◌, ◌==◌, if◌then◌else◌, List}
 use Rattle.slh_chains.specs.Address.{address_bytes}
 use Rattle.slh_chains.specs.Bytes.{joined, part}
@@ -31,11 +32,14 @@ module _ (K : Seeded) (B : Place) (leaves : ℕ → List ℕ) where
   merkle_path y heights = joined (λ z. merkle z (sibling_of (y / 2 ^ z))) heights
 
 module _ (K : Seeded) (B : Place) (x : List ℕ) (y : ℕ) (path : List ℕ) where
-  -- the node at height z above x, which has index y at height 0, by the siblings that stand in a path
+  -- the node at height z above x, which has index y at height 0, by the siblings that stand in a
+  -- path
   unfoldable pub climb : ℕ → List ℕ
   climb zero = x
   climb (suc z) =
       let below = climb z in
       let beside = part K.n path z in
       let at = node_bytes B (suc z) (y / 2 ^ suc z) in
-      if y / 2 ^ z % 2 == 0 then K.suite.h K.seed at below beside else K.suite.h K.seed at beside below
+      if y / 2 ^ z % 2 == 0
+      then K.suite.h K.seed at below beside
+      else K.suite.h K.seed at beside below

@@ -11,7 +11,8 @@ pub record DigestParts : Type 0 where
 
 -- the number of bytes of a digest from a place on, of which the last bits count
 unfoldable pub digest_number : List ℕ → ℕ → ℕ → ℕ
-digest_number digest from bits = number_of (slice_range digest from (from + bytes_for bits)) % 2 ^ bits
+digest_number digest from bits =
+    number_of (slice_range digest from (from + bytes_for bits)) % 2 ^ bits
 
 abbrev pub split_digest : Scheme → List ℕ → DigestParts
 split_digest Z digest =

@@ -7,8 +7,8 @@ use Rattle.slh_trees.specs.Forest.{fors_key, fors_signature}
 use Rattle.slh_trees.specs.Layers.{hypertree_signature}
 use Rattle.slh_trees.specs.MessageDigest.{split_digest}
 
--- the signature of a digest under a public seed s and a secret seed sk: a randomizer, the forest's part, and
--- the layers' parts
+-- the signature of a digest under a public seed s and a secret seed sk: a randomizer, the forest's
+-- part, and the layers' parts
 unfoldable pub digest_signature : Scheme → List ℕ → List ℕ → List ℕ → List ℕ → List ℕ
 digest_signature Z s sk rand digest =
     let K = seeded Z.suite Z.n s in
@@ -25,8 +25,8 @@ signature_with Z key rand message =
     let digest = Z.suite.h_msg rand s (part Z.n key 3) message in
     digest_signature Z s (part Z.n key 0) rand digest
 
--- the signature of a message: the randomizer is made from the message and from n further bytes, for which
--- the public seed stands where none are given
+-- the signature of a message: the randomizer is made from the message and from n further bytes, for
+-- which the public seed stands where none are given
 abbrev pub signature_of : Scheme → List ℕ → Option (List ℕ) → List ℕ → List ℕ
 signature_of Z key opt message =
     let fresh = unwrap_or opt (part Z.n key 2) in

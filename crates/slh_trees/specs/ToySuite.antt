@@ -6,8 +6,8 @@ abbrev pub toy : Suite
 toy = record {
   f = λ s a x. (slice_index x 0 / 2 + slice_index s 0 + slice_index a 31) % 256 ∷ [];
   h = λ s a l r.
-      (slice_index l 0 / 2 + 3 * slice_index r 0 + slice_index s 0 + slice_index a 27 + slice_index a 31)
-      % 256 ∷ [];
+      (slice_index l 0 / 2 + 3 * slice_index r 0 + slice_index s 0
+      + slice_index a 27 + slice_index a 31) % 256 ∷ [];
   t = λ s a x. (slice_index s 0 + sum x) % 256 ∷ [];
   prf = λ s a sk.
       (slice_index sk 0 + slice_index a 19 + 5 * slice_index a 23 + 7 * slice_index a 27

@@ -1,6 +1,6 @@
--- The trees of a layer (FIPS 205, section 6). K is the suite with its public seed, sk the secret seed, j
--- the layer, t the tree, y the index of a leaf.
-use Rattle.std.specs.Prelude.{ℕ, ◌*◌, List, ◌++◌}
+-- The trees of a layer (FIPS 205, section 6). K is the suite with its public seed, sk the secret
+-- seed, j the layer, t the tree, y the index of a leaf.
+use Rattle.std.specs.Prelude.{ℕ, List, ◌++◌}
 use Rattle.slh_chains.specs.Chain.{leaf, signed_chains}
 use Rattle.slh_chains.specs.Suite.{Seeded}
 use Rattle.slh_trees.specs.Merkle.{Place, merkle, merkle_path}

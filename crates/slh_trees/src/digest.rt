@@ -43,8 +43,8 @@ fn number_at(digest: &[u8], from: usize, bits: usize) -> u64
     last_bits(number(&digest[from..from + len]), bits)
 }
 
-/// Cuts a digest into the bytes that name a leaf in each tree of the forest, the tree and the leaf of
-/// the lowest layer (FIPS 205, algorithms 19 and 20).
+/// Cuts a digest into the bytes that name a leaf in each tree of the forest, the tree and the leaf
+/// of the lowest layer (FIPS 205, algorithms 19 and 20).
 pub fn split_digest<P: ForsParams>(digest: &[u8]) -> (&[u8], u64, u32)
     requires { length digest.now ≡ P.M.USIZE }
     ensures md { result.0.now ≡ (digest_parts P.scheme digest.now).md }

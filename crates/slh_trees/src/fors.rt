@@ -126,8 +126,8 @@ fn opened_len<P: ForsParams>() -> usize
     (1 + P::A::USIZE) * P::N::USIZE
 }
 
-/// Writes the signature of the digest's first part: it opens one secret in each tree, which the part's
-/// digits name (FIPS 205, algorithm 16).
+/// Writes the signature of the digest's first part: it opens one secret in each tree, which the
+/// part's digits name (FIPS 205, algorithm 16).
 pub fn fors_sign<P: ForsParams, L: Ledger>(
     md: &[u8],
     sk_seed: &NBytes<P::N>,
@@ -142,7 +142,8 @@ pub fn fors_sign<P: ForsParams, L: Ledger>(
         let t = adrs.now.tree_adrs_low in
         let l = adrs.now.key_pair_adrs in
         out.new ≡ fors_signature K sk_seed.now t l P.K.USIZE P.A.USIZE md.now }
-    ensures cost { steps.new + P.K.USIZE * (P.A.USIZE + 2) ≡ steps.old + P.K.USIZE * (3 * 2 ^ P.A.USIZE) }
+    ensures cost { let k = P.K.USIZE in
+        steps.new + k * (P.A.USIZE + 2) ≡ steps.old + k * (3 * 2 ^ P.A.USIZE) }
 {
     forest_sizes::<P>();
     let k = P::K::USIZE;
@@ -168,7 +169,8 @@ fn open_all<P: ForsParams, L: Ledger>(
         let t = adrs.now.tree_adrs_low in
         let l = adrs.now.key_pair_adrs in
         out.new ≡ opened_leaves K sk_seed.now t l P.K.USIZE P.A.USIZE digits.now }
-    ensures cost { steps.new + P.K.USIZE * (P.A.USIZE + 2) ≡ steps.old + P.K.USIZE * (3 * 2 ^ P.A.USIZE) }
+    ensures cost { let k = P.K.USIZE in
+        steps.new + k * (P.A.USIZE + 2) ≡ steps.old + k * (3 * 2 ^ P.A.USIZE) }
 {
     let size = opened_len::<P>();
     for (i, digit) in digits.iter().enumerate() {
@@ -189,8 +191,8 @@ fn index_of<P: ForsParams>(i: usize, digit: u16) -> u32
     i as u32 * (1u32 << P::A::USIZE) + u32::from(digit)
 }
 
-/// The forest's public key that the signature of the digest's first part leads to (FIPS 205, algorithm
-/// 17).
+/// The forest's public key that the signature of the digest's first part leads to (FIPS 205,
+/// algorithm 17).
 #[tactic(auto, unfolding(crate::specs::Checking::checked_fors_key))]
 pub fn fors_pk_from_sig<P: ForsParams, L: Ledger>(
     sig: &[u8],
@@ -270,8 +272,8 @@ fn climb_opened<P: ForsParams, L: Ledger>(
     climb_path::<P, ForsTree, L>(&leaf, y, P::A::USIZE, path, keyed, adrs, steps)
 }
 
-/// Writes the signature of the digest's first part, and answers the forest's public key. Each node of
-/// the forest is hashed once.
+/// Writes the signature of the digest's first part, and answers the forest's public key. Each node
+/// of the forest is hashed once.
 pub fn fors_sign_root<P: ForsParams, L: Ledger>(
     md: &[u8],
     sk_seed: &NBytes<P::N>,

@@ -1,5 +1,6 @@
 //! The hypertree: layers of trees, each of which signs the root below (FIPS 205, section 7).
-ghost use Rattle.std.specs.Prelude.{◌≡◌, ◌↔◌, ◌+◌, ◌-◌, ◌*◌, ◌/◌, ◌%◌, ◌^◌, ◌≤◌, ◌<◌, length, IsTrue};
+ghost use Rattle.std.specs.Prelude.{◌≡◌, ◌↔◌, ◌+◌, ◌-◌, ◌*◌, ◌/◌, ◌%◌, ◌^◌, ◌≤◌, ◌<◌};
+ghost use Rattle.std.specs.Prelude.{length, IsTrue};
 ghost use Rattle.slh_chains.specs.Suite.{seeded};
 ghost use Rattle.slh_trees.specs.Checking.{checked_message};
 ghost use Rattle.slh_trees.specs.Layers.{hypertree_signature, layer_size};
@@ -51,8 +52,8 @@ fn tree_adrs_of(layer: u32, tree: u64) -> WotsHash
     }
 }
 
-/// Writes the signature of a message under a leaf of a tree of the lowest layer: the signatures of all
-/// layers, from the lowest up (FIPS 205, algorithm 12).
+/// Writes the signature of a message under a leaf of a tree of the lowest layer: the signatures of
+/// all layers, from the lowest up (FIPS 205, algorithm 12).
 #[tactic(auto, unfolding(crate::specs::Layers::hypertree_signature, slh_chains::specs::Bytes::joined))]
 pub fn ht_sign<P: HypertreeParams, L: Ledger>(
     m: &NBytes<P::N>,

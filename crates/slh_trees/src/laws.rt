@@ -23,8 +23,8 @@ pub fn signature_leads_to_root<P: XmssParams>()
         checked_node K j t y (signed_leaf K sk j t y m hp) m hp ≡ node K sk j t hp 0 }
 {}
 
-/// What the layers of a signature lead to, below any layer, is the message that this layer signs, and
-/// that is the root of the tree below.
+/// What the layers of a signature lead to, below any layer, is the message that this layer signs,
+/// and that is the root of the tree below.
 pub fn layers_sign_roots<P: HypertreeParams>()
     ensures below { (s sk m : List ℕ) (t l d j : ℕ)
         → l < 2 ^ P.HPrime.USIZE
@@ -57,8 +57,8 @@ pub fn signature_leads_to_top<P: ForsParams>()
         digest_root P.scheme s digest sig ≡ top_root P.scheme s sk }
 {}
 
-/// What a signing key makes of a message with any randomizer leads to the root of the key's top tree,
-/// whatever root the key has.
+/// What a signing key makes of a message with any randomizer leads to the root of the key's top
+/// tree, whatever root the key has.
 pub fn made_leads_to_top<P: ForsParams>()
     ensures { (key rand message : List ℕ)
         → length rand ≡ P.N.USIZE

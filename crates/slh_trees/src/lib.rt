@@ -1,11 +1,13 @@
 //! XMSS trees, the hypertree and FORS (FIPS 205, sections 6 to 8), over any hash suite.
 //!
-//! The crate below, `slh_chains`, has suites, addresses, sizes, digits and key pairs. Their names stand
-//! here too.
+//! The crate below, `slh_chains`, has suites, addresses, sizes, digits and key pairs. Their names
+//! stand here too.
 #![tactic(auto)]
 
 pub mod check;
 mod climb;
+#[cfg(test)]
+mod counting;
 pub mod digest;
 pub mod fors;
 pub mod hypertree;

@@ -1,5 +1,6 @@
-// A key of the toy suite with secret seed 5, PRF key 7 and public seed 3, and its signature of the message
-// 48 under an empty context without a randomizer. The values were worked by hand from the definitions.
+// A key of the toy suite with secret seed 5, PRF key 7 and public seed 3, and its signature of the
+// message 48 under an empty context without a randomizer. The values were worked by hand from the
+// definitions.
 ghost use Rattle.std.specs.Prelude.{◌≡◌, ◌+◌, ◌<◌, length};
 
 use crate::check::check_root;
@@ -117,7 +118,8 @@ fn root_for<L: Ledger>(sig: &[u8], blank: Blank) -> NBytes<U1>
     check_root::<Toy, L>(&byte(3), &byte(225), &[0, 0], &[], &[0x48], sig, &mut steps)
 }
 
-// The signature, changes of it whose hashes meet those of the signature, and one whose hashes don't.
+// The signature, changes of it whose hashes meet those of the signature, and one whose hashes
+// don't.
 #[test]
 fn roots_of_changed_bytes(rt: HostRuntime) {
     let rows: [(&[(usize, u8)], u8); 9] = [

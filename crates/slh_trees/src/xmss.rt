@@ -88,8 +88,8 @@ fn write_path<P: XmssParams, L: Ledger>(
     }
 }
 
-/// Writes the signature of a message under leaf `idx`: the key pair's signature, and the siblings on
-/// the way up (FIPS 205, algorithm 10).
+/// Writes the signature of a message under leaf `idx`: the key pair's signature, and the siblings
+/// on the way up (FIPS 205, algorithm 10).
 pub fn xmss_sign<P: XmssParams, L: Ledger>(
     m: &NBytes<P::N>,
     sk_seed: &NBytes<P::N>,
@@ -145,8 +145,8 @@ pub fn xmss_pk_from_sig<P: XmssParams, L: Ledger>(
     climb_path::<P, HashTree, L>(&leaf, idx, height, path, keyed, &adrs.tree_adrs(), steps)
 }
 
-/// Writes the signature of a message under leaf `idx`, and answers the root of the tree. Each node of the
-/// tree is hashed once.
+/// Writes the signature of a message under leaf `idx`, and answers the root of the tree. Each node
+/// of the tree is hashed once.
 pub fn xmss_sign_root<P: XmssParams, L: Ledger>(
     m: &NBytes<P::N>,
     sk_seed: &NBytes<P::N>,

@@ -1,4 +1,4 @@
-use Rattle.std.proofs.Common.{◌≡◌, ◌+◌, ◌-◌, ◌*◌, take}
+use Rattle.std.proofs.Common.{◌≡◌, ◌+◌, ◌*◌, take}
 use Rattle.std.specs.Prelude.{sum}
 use Rattle.slh_chains.specs.Bytes.{joined}
 use Rattle.slh_chains.specs.Chain.{checked_chain}
