@@ -1,5 +1,5 @@
 -- What a `Hash` stands for: the list of the bytes that it has absorbed.
-use Rattle.std.specs.Prelude.{◌≡◌, ℕ, ◌*◌, ◌/◌, ◌%◌, List, length, take, drop}
+use Rattle.std.specs.Prelude.{◌≡◌, ℕ, ◌*◌, ◌/◌, ◌%◌, List, length, take, drop, replicate}
 use Rattle.std.specs.Coded.{Coded-set, coded_list, coded_ℕ}
 use Rattle.hmac_sha256.specs.Sha256.{fold_blocks, initial_words}
 use Rattle.hmac_sha256.specs.declared.hashing.Hash.{Hash}
@@ -10,6 +10,10 @@ pub record HasAbsorbed (words bytes : List ℕ) (count : ℕ) (m : List ℕ) : T
   pub folded : words ≡ fold_blocks initial_words m (length m / 64)
   pub rest : bytes ≡ drop (64 * (length m / 64)) m
   pub counted : count ≡ length m
+
+-- the hash that has absorbed nothing
+unfoldable pub new_hash : Hash
+new_hash = record { state = initial_words; block = replicate 64 0; total = 0 }
 
 -- how many bytes a hash has absorbed, by its own count
 unfoldable pub absorbed_bytes : Hash → ℕ
