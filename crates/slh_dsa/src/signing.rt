@@ -9,9 +9,8 @@ use slh_chains::nbytes::NBytes;
 use slh_chains::params::{ForsParams, forest_sizes, layer_sizes};
 use slh_chains::steps::Steps;
 use slh_trees::digest::split_digest;
-use slh_trees::fors::{fors_pk_from_sig, fors_sign};
+use slh_trees::fors::fors_sign_root;
 use slh_trees::hypertree::ht_sign;
-use slh_trees::laws::forest_leads_to_key;
 use std::sync::ledger::Ledger;
 
 /// Writes the signature of a digest: the randomizer, the forest's part and the layers' parts
@@ -35,7 +34,6 @@ pub(crate) fn sign_digest<P: ForsParams, L: Ledger>(
 {
     layer_sizes::<P>();
     forest_sizes::<P>();
-    forest_leads_to_key::<P>();
     let n = P::N::USIZE;
     let (md, tree, leaf) = split_digest::<P>(digest);
     let (first, rest) = out.split_at_mut(n);
@@ -43,8 +41,7 @@ pub(crate) fn sign_digest<P: ForsParams, L: Ledger>(
     first.copy_from_slice(rand.as_slice());
     let keyed = P::keyed(pk_seed);
     let adrs = ForsTree::new(tree, leaf);
-    fors_sign::<P, L>(md, sk_seed, &keyed, &adrs, forest, steps);
-    let key = fors_pk_from_sig::<P, L>(forest, md, &keyed, &adrs, steps);
+    let key = fors_sign_root::<P, L>(md, sk_seed, &keyed, &adrs, forest, steps);
     ht_sign::<P, L>(&key, sk_seed, &keyed, tree, leaf, layers, steps);
 }
 

@@ -10,6 +10,8 @@ mod program;
 mod reply;
 mod request;
 mod set;
+#[cfg(test)]
+mod tests;
 
 pub use job::{Answer, Error, Job};
 pub use judge::run;

@@ -1,0 +1,315 @@
+//! Job lines and jobs from end to end, against values that the Rust crate and FIPS 205's own
+//! algorithms give, and against the line format as the README has it.
+use crate::{
+    Answer, ByteString, Error, Job, MemSink, MemSource, QuietSource, Set, Words, run, serve,
+};
+use hmac_sha256::Hash;
+use std::alloc::{AllocError, Global};
+use std::test::Fail;
+
+// The seeds of 16 bytes 01, 02 and 03, and the key that they give.
+const KEYGEN: &[u8] = b"SLH-DSA-SHA2-128f keygen 01010101010101010101010101010101 02020202020202020202020202020202 03030303030303030303030303030303\n";
+
+const KEY: &[u8] = b"0101010101010101010101010101010102020202020202020202020202020202030303030303030303030303030303034052e0733e69e78739d6e67c77f9a37d";
+
+const PUBLIC: &[u8] = b"030303030303030303030303030303034052e0733e69e78739d6e67c77f9a37d";
+
+const KEY_REPLY: &[u8] = b"key 0101010101010101010101010101010102020202020202020202020202020202030303030303030303030303030303034052e0733e69e78739d6e67c77f9a37d 030303030303030303030303030303034052e0733e69e78739d6e67c77f9a37d\n";
+
+// What `serve` writes where its source gives these bytes, and its status.
+fn served(alloc: Global, input: &[u8]) -> Result<(u8, ByteString), AllocError> {
+    let mut source = QuietSource::new(Vec::from_slice(alloc, input)?);
+    let mut sink = MemSink::new(alloc, Vec::new(alloc));
+    let status = serve(alloc, &Words::new(alloc), &mut source, &mut sink);
+    Ok((status, ByteString::from_slice(alloc, sink.bytes())?))
+}
+
+// These pieces, one after the other.
+fn joined(alloc: Global, pieces: &[&[u8]]) -> Result<ByteString, AllocError> {
+    let mut all = ByteString::new(alloc);
+    for piece in pieces {
+        all.push_slice(piece)?;
+    }
+    Ok(all)
+}
+
+fn decoded(alloc: Global, digits: &[u8]) -> Result<ByteString, Fail> {
+    ByteString::from_slice(alloc, &hex::decode(alloc, digits)?).map_err(Fail::from)
+}
+
+#[test]
+fn answers_with_ample_memory(rt: HostRuntime) -> Result<(), Fail> {
+    let (status, text) = served(rt.alloc(), KEYGEN)?;
+    assert_eq!(rt; status, 0);
+    assert_eq!(rt; text.as_slice(), KEY_REPLY);
+    let (status, text) = served(rt.alloc(), b"")?;
+    assert_eq!(rt; status, 0);
+    assert!(rt; text.is_empty());
+    Ok(())
+}
+
+#[test]
+fn signs_and_verifies_by_lines(rt: HostRuntime) -> Result<(), Fail> {
+    let alloc = rt.alloc();
+    let sign = [
+        b"SLH-DSA-SHA2-128f sign ".as_slice(),
+        KEY,
+        b" - 48656c6c6f none\n",
+    ];
+    let (status, text) = served(alloc, joined(alloc, &sign)?.as_slice())?;
+    assert_eq!(rt; status, 0);
+    let signature = text.as_slice().strip_prefix(b"sig ").ok_or("no signature")?;
+    assert_eq!(rt; signature.len(), 34177);
+    let last = signature.strip_suffix(b"\n").ok_or("no line feed")?;
+    // The last line has no line feed.
+    let both = [
+        KEYGEN,
+        b"SLH-DSA-SHA2-128f verify ",
+        PUBLIC,
+        b" - 48656c6c6f ",
+        signature,
+        b"SLH-DSA-SHA2-128f verify ",
+        PUBLIC,
+        b" 00 48656c6c6f ",
+        last,
+    ];
+    let (status, text) = served(alloc, joined(alloc, &both)?.as_slice())?;
+    assert_eq!(rt; status, 0);
+    let replies = text.as_slice().strip_prefix(KEY_REPLY).ok_or("no key")?;
+    assert_eq!(rt; replies, b"accepted\nerror invalid\n".as_slice());
+    Ok(())
+}
+
+// A line each, with the reply that the line format gives it.
+#[test]
+fn hostile_lines(rt: HostRuntime) -> Result<(), Fail> {
+    let alloc = rt.alloc();
+    let set = b"SLH-DSA-SHA2-128f".as_slice();
+    for (rest, reply) in [
+        (b"".as_slice(), b"error command\n".as_slice()),
+        (b" ", b"error command\n"),
+        (b" make 00", b"error command\n"),
+        (b" Keygen 00 00 00", b"error command\n"),
+        (b" keygen\t00 00 00", b"error command\n"),
+        (b" - 00 00 00", b"error command\n"),
+        (b" audit 00 00 00 00", b"error command\n"),
+        (b" check 00 00 00 00 leaf", b"error command\n"),
+        (b" keygen", b"error fields\n"),
+        (b" keygen 00 00", b"error fields\n"),
+        (b" keygen 00 00 00 00", b"error fields\n"),
+        (b" keygen 0g 00", b"error fields\n"),
+        (b" sign 00 - -", b"error fields\n"),
+        (b" sign 00 - - none 00", b"error fields\n"),
+        (b" verify 00 - -", b"error fields\n"),
+        (b" keygen 0g 00 00", b"error hex\n"),
+        (b" keygen 000 00 00", b"error hex\n"),
+        (b" keygen 00 -- 00", b"error hex\n"),
+        (b" keygen 00\r 00 00", b"error hex\n"),
+        (b" keygen 00 00 00\r\r", b"error hex\n"),
+        (b" keygen 00 00 none", b"error hex\n"),
+        (b" sign 0 - - none", b"error hex\n"),
+        (b" sign 00 - - None", b"error hex\n"),
+        (b" verify 00 - - none", b"error hex\n"),
+        (b" keygen - 00 00", b"error length\n"),
+        (b"  keygen  -  -  -  ", b"error length\n"),
+        (b" keygen 00 00 00\r", b"error length\n"),
+        (b" keygen aA Bb cC", b"error length\n"),
+        (b" sign 00 - - none", b"error length\n"),
+        (b" verify 00 - - 00", b"error length\n"),
+        (b"\r", b"error command\n"),
+        (b"\0", b"error set\n"),
+        (b"s keygen 00 00 00", b"error set\n"),
+        (b"\tkeygen 00 00 00", b"error set\n"),
+    ] {
+        let line = joined(alloc, &[set, rest, b"\n"])?;
+        let (status, text) = served(alloc, line.as_slice())?;
+        assert_eq!(rt; status, 0);
+        assert_eq!(rt; text.as_slice(), reply, "{rest:?}");
+    }
+    Ok(())
+}
+
+#[test]
+fn lines_without_a_set(rt: HostRuntime) -> Result<(), Fail> {
+    for (line, reply) in [
+        (b"\n".as_slice(), b"".as_slice()),
+        (b"  \n", b""),
+        (b"\r\n", b""),
+        (b" \r\n", b""),
+        (b"x\n", b"error set\n"),
+        (b"\xff\xfe\n", b"error set\n"),
+        (b"- keygen 00 00 00\n", b"error set\n"),
+        (b"x make 0g\n", b"error set\n"),
+        (b"SLH-DSA-SHA2-128F keygen 00 00 00\n", b"error set\n"),
+        (b"SLH-DSA-SHA2-192f keygen 00 00 00\n", b"error set\n"),
+        (b"x\n\n\nx", b"error set\nerror set\n"),
+    ] {
+        let (status, text) = served(rt.alloc(), line)?;
+        assert_eq!(rt; status, 0);
+        assert_eq!(rt; text.as_slice(), reply, "{line:?}");
+    }
+    Ok(())
+}
+
+// 2^22 + 1 bytes are too many for a line, a carriage return among them counted; 2^22 are not.
+#[test]
+fn long_lines(rt: HostRuntime) -> Result<(), Fail> {
+    let alloc = rt.alloc();
+    let whole = vec![in alloc; b'a'; 4_194_304]?;
+    let input = joined(
+        alloc,
+        &[
+            whole.as_slice(),
+            b"a\n",
+            KEYGEN,
+            whole.as_slice(),
+            b"\n",
+            whole.as_slice(),
+            b"\r\n",
+        ],
+    )?;
+    let (status, text) = served(alloc, input.as_slice())?;
+    assert_eq!(rt; status, 0);
+    let expected = joined(
+        alloc,
+        &[b"error line\n", KEY_REPLY, b"error set\nerror line\n"],
+    )?;
+    assert_eq!(rt; text.as_slice(), expected.as_slice());
+    Ok(())
+}
+
+#[test]
+fn faults_and_words(rt: HostRuntime) -> Result<(), Fail> {
+    let alloc = rt.alloc();
+    let words = Words::new(alloc);
+    let input = joined(alloc, &[KEYGEN, KEYGEN])?;
+    let bytes = Vec::from_slice(alloc, input.as_slice())?;
+    let mut source = MemSource::new(bytes, vec![in alloc; 1]?);
+    let mut sink = MemSink::new(alloc, Vec::new(alloc));
+    assert_eq!(rt; serve(alloc, &words, &mut source, &mut sink), 3);
+    let replies = joined(alloc, &[KEY_REPLY, KEY_REPLY])?;
+    assert!(rt; replies.as_slice().starts_with(sink.bytes()));
+    let mut source = QuietSource::new(Vec::from_slice(alloc, KEYGEN)?);
+    let mut sink = MemSink::new(alloc, vec![in alloc; 0]?);
+    assert_eq!(rt; serve(alloc, &words, &mut source, &mut sink), 4);
+    assert!(rt; sink.bytes().is_empty());
+    let mut words = Words::new(alloc);
+    words.push(b"help")?;
+    let mut sink = MemSink::new(alloc, Vec::new(alloc));
+    assert_eq!(rt; serve(alloc, &words, &mut source, &mut sink), 2);
+    assert_eq!(rt; sink.bytes(), b"usage: slh_cli [bench SET NUMBER COUNT]\n".as_slice());
+    Ok(())
+}
+
+fn sign_job(
+    alloc: Global,
+    key: &[u8],
+    context: &[u8],
+    message: &[u8],
+    randomizer: Option<&[u8]>,
+) -> Result<Job, Fail> {
+    let randomizer = match randomizer {
+        Some(bytes) => Some(ByteString::from_slice(alloc, bytes)?),
+        None => None,
+    };
+    Ok(Job::Sign {
+        key: decoded(alloc, key)?,
+        context: ByteString::from_slice(alloc, context)?,
+        message: ByteString::from_slice(alloc, message)?,
+        randomizer,
+    })
+}
+
+// The signature of a job, or why there is none.
+fn signature(alloc: Global, set: Set, job: &Job) -> Result<ByteString, Error> {
+    match run(alloc, set, job)? {
+        Answer::Signature(bytes) => Ok(bytes),
+        _ => Err(Error::Invalid),
+    }
+}
+
+#[test]
+fn contexts_and_randomizers(rt: HostRuntime) -> Result<(), Fail> {
+    let alloc = rt.alloc();
+    let set = Set::Sha2_128f;
+    let long = [0u8; 256];
+    let job = sign_job(alloc, KEY, &long[..255], b"Hello", None)?;
+    assert!(rt; signature(alloc, set, &job).is_ok());
+    let job = sign_job(alloc, KEY, &long, b"Hello", None)?;
+    assert_eq!(rt; signature(alloc, set, &job).err(), Some(Error::ContextTooLong));
+    let job = sign_job(alloc, KEY, b"", b"Hello", Some(b""))?;
+    assert_eq!(rt; signature(alloc, set, &job).err(), Some(Error::RandomizerLength));
+    let job = sign_job(alloc, KEY, &long, b"Hello", Some(b""))?;
+    assert_eq!(rt; signature(alloc, set, &job).err(), Some(Error::ContextTooLong));
+    let job = sign_job(alloc, b"00", &long, b"Hello", Some(b""))?;
+    assert_eq!(rt; signature(alloc, set, &job).err(), Some(Error::Length));
+    // Without a randomizer the public seed stands in its place.
+    let job = sign_job(alloc, KEY, b"", b"Hello", None)?;
+    let without = signature(alloc, set, &job).map_err(|_| "refused")?;
+    let job = sign_job(alloc, KEY, b"", b"Hello", Some(&[3u8; 16]))?;
+    let with = signature(alloc, set, &job).map_err(|_| "refused")?;
+    assert!(rt; without.as_slice() == with.as_slice());
+    Ok(())
+}
+
+// Signatures of three keys, by the SHA-256 of their bytes: of "Hello" without context or randomizer;
+// of no message with the context 00 to fe and the randomizer of 16 bytes 5a; of a message of 1000
+// bytes with the context 00. The values come from the Rust crate.
+#[test]
+fn known_signatures(rt: HostRuntime) -> Result<(), Fail> {
+    let alloc = rt.alloc();
+    let mut context = [0u8; 255];
+    for (i, byte) in context.iter_mut().enumerate() {
+        *byte = (i % 256) as u8;
+    }
+    let mut message = [0u8; 1000];
+    for (i, byte) in message.iter_mut().enumerate() {
+        *byte = (i * 7 % 256) as u8;
+    }
+    for (key, hello, with_context, with_message) in [
+        (
+            b"0101010101010101010101010101010102020202020202020202020202020202030303030303030303030303030303034052e0733e69e78739d6e67c77f9a37d".as_slice(),
+            b"2349cc54f79b5c1b7d51f2352cf6872bb947ebeb165d1c9f808e7e5a6163df44".as_slice(),
+            b"88372b0e94ab443d6330e1714b123127c756b68b4a59fa6262f346b0b90b9322".as_slice(),
+            b"9ee10ab7de0a5a1d5d5f12fdf5cd6e0f9a9cd9137cdc53b013082b7eb3bf5986".as_slice(),
+        ),
+        (
+            b"000102030405060708090a0b0c0d0e0f101112131415161718191a1b1c1d1e1f202122232425262728292a2b2c2d2e2f3b56e816847f000386aeec2e2bb9e1b5".as_slice(),
+            b"ae8a4bd2ed8f1ec5d36c86404b7637d9439db36dd5928212581350cd49a46445".as_slice(),
+            b"b83f5551c5a8b0512673b20c27a6115cf332ce891d63127a20fe13cc6d703d05".as_slice(),
+            b"c2753bab42c8e953a74072c56ffd886d53f57682aeb12a1c2f131ab7ad262dc3".as_slice(),
+        ),
+        (
+            b"973373512707b4fab279400ef556d06c96c89d55d2266ee9da0180dd4f4764f5a1d65f776ff700af7443ead43e65a8427ea4fb90daa95fb3f242e0ad8b026ee4".as_slice(),
+            b"e5baf64a674b88dac3e0a922107d092136f4c4f761780b18529e9f4d39af2307".as_slice(),
+            b"ae6435288238613dac2bf2440737f03a303980280c028b3748860f31c6e1aae3".as_slice(),
+            b"46ad158b11ad5cc54dad9dcb223a44072b48910f28f76fc6e97c419f974a7a6f".as_slice(),
+        ),
+    ] {
+        for (job, digest) in [
+            (sign_job(alloc, key, b"", b"Hello", None)?, hello),
+            (sign_job(alloc, key, &context, b"", Some(&[0x5a; 16]))?, with_context),
+            (sign_job(alloc, key, &[0], &message, None)?, with_message),
+        ] {
+            let bytes = signature(alloc, Set::Sha2_128f, &job).map_err(|_| "refused")?;
+            assert_eq!(rt; bytes.len(), 17088);
+            let expected = decoded(alloc, digest)?;
+            assert_eq!(rt; Hash::hash(bytes.as_slice()).as_slice(), expected.as_slice());
+        }
+    }
+    Ok(())
+}
+
+// The same of the small set, for one key.
+#[test]
+fn known_small_signature(rt: HostRuntime) -> Result<(), Fail> {
+    let alloc = rt.alloc();
+    let key = b"010101010101010101010101010101010202020202020202020202020202020203030303030303030303030303030303d627c8bad26269965d3ad40ca4457a26".as_slice();
+    let job = sign_job(alloc, key, b"", b"Hello", None)?;
+    let bytes = signature(alloc, Set::Sha2_128s, &job).map_err(|_| "refused")?;
+    assert_eq!(rt; bytes.len(), 7856);
+    let digest = b"b461db2c7fb7c5c9c11f1a5c9ae5f77e84ebf066647a1857db4dafe301e18cb4".as_slice();
+    let expected = decoded(alloc, digest)?;
+    assert_eq!(rt; Hash::hash(bytes.as_slice()).as_slice(), expected.as_slice());
+    Ok(())
+}
