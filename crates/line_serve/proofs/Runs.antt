@@ -5,7 +5,7 @@ use Rattle.std.proofs.lemmas.List.Concat.{flat_map-append}
 use Rattle.std.proofs.KnownBytes.{Appends-trans}
 use Rattle.std.specs.Io.KnownBytes.{Appends}
 use Rattle.line_serve.specs.Lines.{line_feed, closed_lines, unfinished, lines, replies_to, reply_to, HasNoLineFeed}
-use Rattle.line_serve.specs.Engine.{StandsFor, Takes, TakesFront, Holds, HoldsFront, Moves, Breaks, Answered, GoesOn, Stops}
+use Rattle.line_serve.specs.Engine.{StandsFor, Takes, Holds, HoldsFront, Moves, Breaks, Answered, GoesOn, Stops}
 use Rattle.std.specs.Bool.{◌==◌, if◌then◌else◌}
 use Rattle.line_serve.specs.declared.pending.Pending.{Pending}
 use Rattle.line_serve.proofs.Cuts.{closed_lines-grown, unfinished-grown, closed_lines-fed, unfinished-fed, closes_more}

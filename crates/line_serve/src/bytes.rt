@@ -70,15 +70,6 @@ impl ByteString {
         self.bytes.is_empty()
     }
 
-    /// No bytes, with room for so many.
-    pub fn with_capacity(alloc: Global, capacity: usize) -> Result<Self, AllocError>
-        ensures { IfOk result (λ s. s ≡ []) }
-    {
-        Ok(ByteString {
-            bytes: Vec::with_capacity(alloc, capacity)?,
-        })
-    }
-
     /// Bytes that are all zero, so many of them. They are to be written over, by
     /// [`ByteString::as_mut_slice`]: nothing after this call can fail then.
     pub fn zeroed(alloc: Global, len: usize) -> Result<Self, AllocError>

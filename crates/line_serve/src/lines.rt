@@ -1,5 +1,5 @@
 //! Answers the lines of a source, one after another.
-ghost use Rattle.std.specs.Prelude.{◌≡◌, ◌⊎◌, ◌+◌, ◌-◌, ◌<◌, ◌≤◌, ◌^◌, [], length, take, drop, IfOk, IsSomeAnd, MatchResult};
+ghost use Rattle.std.specs.Prelude.{◌≡◌, ◌⊎◌, ◌<◌, ◌^◌, length, IsSomeAnd};
 ghost use Rattle.line_serve.specs.Causes.{HasCause, Rose};
 ghost use Rattle.line_serve.specs.Engine.{Reads};
 ghost use Rattle.line_serve.specs.Served.{Served, AnswersAll, code_of};

@@ -1,6 +1,6 @@
 //! Sources and sinks in memory. [`MemSource`] and [`MemSink`] number their calls from 0, and fail
 //! at those whose numbers they were given, so that a test can try each fault in turn.
-ghost use Rattle.std.specs.Prelude.{◌≡◌, ◌↔◌, [], ◌+◌, ◌<◌, ◌≤◌, ◌^◌, ◌++◌, None, Some, List, ℕ, length, take, drop, min, Contains, unwrap_or, IsErr, IsTrue, IsOk, IfOk, OnOk, OnErr, if◌then◌else◌, vec_len};
+ghost use Rattle.std.specs.Prelude.{◌≡◌, ◌↔◌, [], ◌+◌, ◌<◌, ◌≤◌, ◌^◌, None, Some, length, take, min, Contains, unwrap_or, IsErr, IsTrue, IsOk, IfOk, OnOk, OnErr, if◌then◌else◌, vec_len};
 ghost use Rattle.std.specs.Io.{ReadsAtMost};
 ghost use Rattle.std.specs.Io.KnownBytes.{ReadConsumes, WriteAppends};
 ghost use Rattle.line_serve.specs.Causes.{HasCause, Rose};

@@ -1,9 +1,6 @@
 //! What no clause says: that answers come where there is memory, and what single texts give.
-ghost use Rattle.std.specs.Prelude.{◌≡◌, ◌++◌, ◌∷◌, [], Some, unwrap_or, slice_get, replicate, IfSome, OnErr};
+ghost use Rattle.std.specs.Prelude.{◌++◌, ◌∷◌, [], Some, unwrap_or, slice_get, replicate};
 ghost use Rattle.std.specs.Option.{option_map};
-ghost use Rattle.std.specs.Io.{ReadsAtMost};
-ghost use Rattle.std.specs.Io.KnownBytes.{ReadConsumes};
-ghost use Rattle.line_serve.specs.Causes.{HasCause};
 ghost use Rattle.line_serve.specs.Fields.{fields};
 
 use crate::{
@@ -138,7 +135,8 @@ fn each_fault_in_turn(rt: HostRuntime) -> Result<(), Fail> {
     for _ in 0..1000 {
         input.extend_from_slice(b"ab cd\r\n")?;
     }
-    let (_, whole) = first_fields(alloc, &input, &[], &[])?;
+    let (status, whole) = first_fields(alloc, &input, &[], &[])?;
+    assert_eq!(rt; status, 0);
     assert_eq!(rt; whole.len(), 3000);
     for (call, status, length) in [(0, 3, 0), (1, 3, 1755), (2, 3, 3000), (3, 0, 3000)] {
         let (ended, written) = first_fields(alloc, &input, &[call], &[])?;
@@ -222,7 +220,7 @@ fn hexadecimal_fields(rt: HostRuntime) -> Result<(), Fail> {
 #[test]
 fn byte_strings_and_words(rt: HostRuntime) -> Result<(), Fail> {
     let alloc = rt.alloc();
-    let mut text = ByteString::with_capacity(alloc, 8)?;
+    let mut text = ByteString::new(alloc);
     text.push_slice(b"key ")?;
     text.push_hex(b"\x00\xab")?;
     text.resize(10, b'!')?;

@@ -1,5 +1,5 @@
 //! Writes whole texts to a sink.
-ghost use Rattle.std.specs.Prelude.{◌≡◌, [], IfErr, OnOk, OnErr, take, drop, length, ◌≤◌, ◌-◌};
+ghost use Rattle.std.specs.Prelude.{◌≡◌, [], OnOk, OnErr, length, ◌<◌, ◌^◌};
 ghost use Rattle.line_serve.specs.Causes.{HasCause};
 ghost use Rattle.line_serve.specs.Engine.{Takes, Moves, Breaks, HaltsFor};
 ghost use Rattle.line_serve.specs.declared.write.Halt.TheVariants.{SinkFault, NoMemory};
@@ -66,6 +66,7 @@ pub fn flush<K: Sink>(waiting: &mut ByteString, sink: &mut K) -> Result<(), Halt
 
 /// Writes the replies that wait once they are many.
 pub fn flush_long<K: Sink>(waiting: &mut ByteString, sink: &mut K) -> Result<(), Halt>
+    ensures short { OnOk result (length waiting.new < 2 ^ 16) }
     ensures ok { OnOk result (Moves (K.taken sink.old) waiting.old (K.taken sink.new) waiting.new) }
     ensures err { OnErr result (Breaks (K.taken sink.old) waiting.old (K.taken sink.new) waiting.new) }
     ensures cause { HaltsFor (K.faults sink.old) (K.faults sink.new) result }

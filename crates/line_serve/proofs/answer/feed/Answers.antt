@@ -1,4 +1,3 @@
-use Rattle.std.proofs.Common.{sym}
 use Rattle.line_serve.proofs.Runs.{on_any_err, on_ok_moves, stop_moves, stop_breaks}
 use Rattle.line_serve.proofs.answer.feed.Goals as goal
 

@@ -1,5 +1,5 @@
-use Rattle.std.proofs.Common.{sym, ◌∙◌, ap, ◌++◌, List, ℕ}
-use Rattle.line_serve.specs.Lines.{unfinished, closed_lines, replies_to}
+use Rattle.std.proofs.Common.{sym}
+use Rattle.line_serve.specs.Lines.{unfinished}
 use Rattle.line_serve.proofs.Fronts.{all_taken}
 use Rattle.line_serve.proofs.Runs.{takes_after, replies_to-last}
 use Rattle.line_serve.proofs.answer.finish.Goals as goal
