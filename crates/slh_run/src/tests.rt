@@ -8,13 +8,16 @@ use std::alloc::{AllocError, Global};
 use std::test::Fail;
 
 // The seeds of 16 bytes 01, 02 and 03, and the key that they give.
-const KEYGEN: &[u8] = b"SLH-DSA-SHA2-128f keygen 01010101010101010101010101010101 02020202020202020202020202020202 03030303030303030303030303030303\n";
+const KEYGEN: &[u8] =
+    b"SLH-DSA-SHA2-128f keygen 01010101010101010101010101010101 02020202020202020202020202020202 03030303030303030303030303030303\n";
 
-const KEY: &[u8] = b"0101010101010101010101010101010102020202020202020202020202020202030303030303030303030303030303034052e0733e69e78739d6e67c77f9a37d";
+const KEY: &[u8] =
+    b"0101010101010101010101010101010102020202020202020202020202020202030303030303030303030303030303034052e0733e69e78739d6e67c77f9a37d";
 
 const PUBLIC: &[u8] = b"030303030303030303030303030303034052e0733e69e78739d6e67c77f9a37d";
 
-const KEY_REPLY: &[u8] = b"key 0101010101010101010101010101010102020202020202020202020202020202030303030303030303030303030303034052e0733e69e78739d6e67c77f9a37d 030303030303030303030303030303034052e0733e69e78739d6e67c77f9a37d\n";
+const KEY_REPLY: &[u8] =
+    b"key 0101010101010101010101010101010102020202020202020202020202020202030303030303030303030303030303034052e0733e69e78739d6e67c77f9a37d 030303030303030303030303030303034052e0733e69e78739d6e67c77f9a37d\n";
 
 // What `serve` writes where its source gives these bytes, and its status.
 fn served(alloc: Global, input: &[u8]) -> Result<(u8, ByteString), AllocError> {
@@ -197,7 +200,10 @@ fn faults_and_words(rt: HostRuntime) -> Result<(), Fail> {
     words.push(b"help")?;
     let mut sink = MemSink::new(alloc, Vec::new(alloc));
     assert_eq!(rt; serve(alloc, &words, &mut source, &mut sink), 2);
-    assert_eq!(rt; sink.bytes(), b"usage: slh_cli [bench SET NUMBER COUNT]\n".as_slice());
+    assert_eq!(rt;
+        sink.bytes(),
+        b"usage: slh_cli [bench SET NUMBER COUNT]\n".as_slice()
+    );
     Ok(())
 }
 
@@ -236,11 +242,20 @@ fn contexts_and_randomizers(rt: HostRuntime) -> Result<(), Fail> {
     let job = sign_job(alloc, KEY, &long[..255], b"Hello", None)?;
     assert!(rt; signature(alloc, set, &job).is_ok());
     let job = sign_job(alloc, KEY, &long, b"Hello", None)?;
-    assert_eq!(rt; signature(alloc, set, &job).err(), Some(Error::ContextTooLong));
+    assert_eq!(rt;
+        signature(alloc, set, &job).err(),
+        Some(Error::ContextTooLong)
+    );
     let job = sign_job(alloc, KEY, b"", b"Hello", Some(b""))?;
-    assert_eq!(rt; signature(alloc, set, &job).err(), Some(Error::RandomizerLength));
+    assert_eq!(rt;
+        signature(alloc, set, &job).err(),
+        Some(Error::RandomizerLength)
+    );
     let job = sign_job(alloc, KEY, &long, b"Hello", Some(b""))?;
-    assert_eq!(rt; signature(alloc, set, &job).err(), Some(Error::ContextTooLong));
+    assert_eq!(rt;
+        signature(alloc, set, &job).err(),
+        Some(Error::ContextTooLong)
+    );
     let job = sign_job(alloc, b"00", &long, b"Hello", Some(b""))?;
     assert_eq!(rt; signature(alloc, set, &job).err(), Some(Error::Length));
     // Without a randomizer the public seed stands in its place.
@@ -288,13 +303,19 @@ fn known_signatures(rt: HostRuntime) -> Result<(), Fail> {
     ] {
         for (job, digest) in [
             (sign_job(alloc, key, b"", b"Hello", None)?, hello),
-            (sign_job(alloc, key, &context, b"", Some(&[0x5a; 16]))?, with_context),
+            (
+                sign_job(alloc, key, &context, b"", Some(&[0x5a; 16]))?,
+                with_context,
+            ),
             (sign_job(alloc, key, &[0], &message, None)?, with_message),
         ] {
             let bytes = signature(alloc, Set::Sha2_128f, &job).map_err(|_| "refused")?;
             assert_eq!(rt; bytes.len(), 17088);
             let expected = decoded(alloc, digest)?;
-            assert_eq!(rt; Hash::hash(bytes.as_slice()).as_slice(), expected.as_slice());
+            assert_eq!(rt;
+                Hash::hash(bytes.as_slice()).as_slice(),
+                expected.as_slice()
+            );
         }
     }
     Ok(())
@@ -304,12 +325,16 @@ fn known_signatures(rt: HostRuntime) -> Result<(), Fail> {
 #[test]
 fn known_small_signature(rt: HostRuntime) -> Result<(), Fail> {
     let alloc = rt.alloc();
-    let key = b"010101010101010101010101010101010202020202020202020202020202020203030303030303030303030303030303d627c8bad26269965d3ad40ca4457a26".as_slice();
+    let key =
+        b"010101010101010101010101010101010202020202020202020202020202020203030303030303030303030303030303d627c8bad26269965d3ad40ca4457a26".as_slice();
     let job = sign_job(alloc, key, b"", b"Hello", None)?;
     let bytes = signature(alloc, Set::Sha2_128s, &job).map_err(|_| "refused")?;
     assert_eq!(rt; bytes.len(), 7856);
     let digest = b"b461db2c7fb7c5c9c11f1a5c9ae5f77e84ebf066647a1857db4dafe301e18cb4".as_slice();
     let expected = decoded(alloc, digest)?;
-    assert_eq!(rt; Hash::hash(bytes.as_slice()).as_slice(), expected.as_slice());
+    assert_eq!(rt;
+        Hash::hash(bytes.as_slice()).as_slice(),
+        expected.as_slice()
+    );
     Ok(())
 }
