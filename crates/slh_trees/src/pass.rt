@@ -33,8 +33,8 @@ pub(crate) fn node_of<N: ArraySize>(store: &[u8], h: usize) -> NBytes<N>
     NBytes::exact(&store[32 * h..32 * h + N::USIZE])
 }
 
-/// Takes the leaf with an index, before which `q` leaves were taken: pairs that it finishes are hashed,
-/// and the node that is left is put in its place.
+/// Takes the leaf with an index, before which `q` leaves were taken: pairs that it finishes are
+/// hashed, and the node that is left is put in its place.
 pub(crate) fn push_leaf<P: WotsParams, A: NodeAddress + Drop, L: Ledger>(
     leaf: &NBytes<P::N>,
     index: u32,

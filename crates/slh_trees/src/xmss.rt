@@ -6,7 +6,7 @@ ghost use Rattle.slh_trees.specs.Checking.{checked_node};
 ghost use Rattle.slh_trees.specs.Tree.{node as tree_node, node_path, signed_leaf};
 
 use crate::climb::{climb_path, sibling};
-use crate::laws::signature_leads_to_root;
+use crate::laws::path_leads_to_root;
 use crate::pass::{node_of, push_leaf};
 use hybrid_array::ArraySize;
 use slh_chains::address::{HashTree, WotsHash};
@@ -14,7 +14,7 @@ use slh_chains::nbytes::NBytes;
 use slh_chains::params::{XmssParams, tree_sizes};
 use slh_chains::parts::put_part;
 use slh_chains::steps::Steps;
-use slh_chains::wots::{wots_pk_from_sig, wots_pk_gen, wots_sign};
+use slh_chains::wots::{wots_pk_from_sig, wots_pk_gen, wots_sign, wots_sign_leaf};
 use std::sync::ledger::Ledger;
 
 /// The address of another key pair of the same tree.
@@ -177,7 +177,10 @@ pub fn xmss_sign_root<P: XmssParams, L: Ledger>(
     ensures cost { steps.new + 1 ≡ steps.old + 2 ^ P.HPrime.USIZE * (16 * P.WotsSigLen.USIZE + 2) }
 {
     tree_sizes::<P>();
-    signature_leads_to_root::<P>();
-    xmss_sign::<P, L>(m, sk_seed, keyed, idx, adrs, out, steps);
-    xmss_pk_from_sig::<P, L>(idx, out, m, keyed, adrs, steps)
+    path_leads_to_root::<P>();
+    let height = P::HPrime::USIZE;
+    let (chains, path) = out.split_at_mut(P::WotsSigLen::USIZE * P::N::USIZE);
+    let leaf = wots_sign_leaf::<P, L>(m, sk_seed, keyed, &at_leaf(adrs, idx), chains, steps);
+    write_path::<P, L>(sk_seed, keyed, idx, adrs, path, steps);
+    climb_path::<P, HashTree, L>(&leaf, idx, height, path, keyed, &adrs.tree_adrs(), steps)
 }
