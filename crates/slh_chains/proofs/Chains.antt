@@ -55,3 +55,10 @@ pub checked_leaf-signed_chains : (K : Seeded) (sk : List ℕ) (j t l : ℕ) (m :
 unfolding checked_leaf
 checked_leaf-signed_chains K sk j t l m law =
     ends-chain_values K sk j t l (wots_digits K.n m) law (λ c. wots_digits_below K.n m c)
+
+-- a key's own chain, taken on from a value on it to its end
+pub chain-chain_value : (K : Seeded) (sk : List ℕ) (j t l c q : ℕ) → q < 16 → chain K j t l c (chain_value K sk j t l c q) q (15 - q) ≡ chain_value K sk j t l c 15
+chain-chain_value K sk j t l c q small =
+    let whole : q + (15 - q) ≡ 15 = omega arith in
+    sym (rw zero-add at (chain-add K (chain_secret K sk j t l c) j t l c 0 q (15 - q)))
+    ∙ ap (λ e. chain_value K sk j t l c e) whole

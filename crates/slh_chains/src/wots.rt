@@ -1,5 +1,6 @@
 //! WOTS+: chains and key pairs (FIPS 205, section 5).
 ghost use Rattle.std.specs.Prelude.{◌≡◌, ◌+◌, ◌*◌, ◌≤◌, ◌<◌, length, sum, EachIndex, slice_index};
+ghost use Rattle.slh_chains.specs.Bytes.{joined};
 ghost use Rattle.slh_chains.specs.Chain.{chain, chain_value, leaf, chain_values, signed_chains};
 ghost use Rattle.slh_chains.specs.Chain.{checked_ends, checked_leaf};
 ghost use Rattle.slh_chains.specs.Digits.{wots_digits};
@@ -135,6 +136,82 @@ fn write_chains<P: WotsParams, L: Ledger>(
     for (c, digit) in digits.iter().enumerate() {
         let value = own_chain::<P, L>(sk_seed, keyed, adrs, c as u32, u32::from(*digit), steps);
         put_part(out, n, c, value.as_slice());
+    }
+}
+
+/// Writes the signature of a message, and answers the public key: each chain is taken to its digit,
+/// and on from there to its end.
+#[tactic(auto, using(crate::proofs::DigitSteps::wots_digits_below), unfolding(crate::specs::Chain::leaf))]
+pub fn wots_sign_leaf<P: WotsParams, L: Ledger>(
+    m: &NBytes<P::N>,
+    sk_seed: &NBytes<P::N>,
+    keyed: &P::Keyed,
+    adrs: &WotsHash,
+    out: &mut [u8],
+    steps: &mut Steps<L>,
+) -> NBytes<P::N>
+    requires { length out.old ≡ P.WotsSigLen.USIZE * P.N.USIZE }
+    ensures leaf { let K = seeded P.suite P.N.USIZE (P.seed_of keyed.now) in
+        let a = adrs.now in
+        result ≡ leaf K sk_seed.now a.layer_adrs a.tree_adrs_low a.key_pair_adrs }
+    ensures value { let K = seeded P.suite P.N.USIZE (P.seed_of keyed.now) in
+        let a = adrs.now in
+        out.new ≡ signed_chains K sk_seed.now a.layer_adrs a.tree_adrs_low a.key_pair_adrs m.now }
+    ensures cost { steps.new ≡ steps.old + (16 * P.WotsSigLen.USIZE + 1) }
+{
+    chain_sizes::<P>();
+    let len = P::WotsSigLen::USIZE;
+    let size = len * P::N::USIZE;
+    let all = message_digits(m);
+    let mut ends = [0u8; 2144];
+    write_both::<P, L>(
+        &all[..len],
+        sk_seed,
+        keyed,
+        adrs,
+        out,
+        &mut ends[..size],
+        steps,
+    );
+    P::t(keyed, &adrs.pk_adrs(), &ends[..size], steps)
+}
+
+/// Writes the chain values that belong to digits, and the ends of the chains.
+#[tactic(auto, unfolding(crate::specs::Chain::chain_values, crate::specs::Bytes::joined))]
+fn write_both<P: WotsParams, L: Ledger>(
+    digits: &[u16],
+    sk_seed: &NBytes<P::N>,
+    keyed: &P::Keyed,
+    adrs: &WotsHash,
+    out: &mut [u8],
+    ends: &mut [u8],
+    steps: &mut Steps<L>,
+)
+    requires n { P.N.USIZE ≤ 32 }
+    requires count { length digits.now ≡ chain_count P.N.USIZE }
+    requires below { EachIndex digits.now (λ k. slice_index digits.now k < 16) }
+    requires room { length out.old ≡ length digits.now * P.N.USIZE }
+    requires ends_room { length ends.old ≡ length digits.now * P.N.USIZE }
+    ensures value { let K = seeded P.suite P.N.USIZE (P.seed_of keyed.now) in
+        let sk = sk_seed.now in
+        let a = adrs.now in
+        out.new ≡ chain_values K sk a.layer_adrs a.tree_adrs_low a.key_pair_adrs digits.now }
+    ensures ends { let K = seeded P.suite P.N.USIZE (P.seed_of keyed.now) in
+        let sk = sk_seed.now in
+        let a = adrs.now in
+        let j = a.layer_adrs in
+        let t = a.tree_adrs_low in
+        ends.new ≡ joined (λ c. chain_value K sk j t a.key_pair_adrs c 15) (length digits.now) }
+    ensures cost { steps.new ≡ steps.old + 16 * length digits.now }
+{
+    let n = P::N::USIZE;
+    for (c, digit) in digits.iter().enumerate() {
+        let step = u32::from(*digit);
+        let at = adrs.at_step(c as u32, 0);
+        let value = own_chain::<P, L>(sk_seed, keyed, adrs, c as u32, step, steps);
+        let end = wots_chain::<P, L>(&value, step, 15 - step, keyed, &at, steps);
+        put_part(out, n, c, value.as_slice());
+        put_part(ends, n, c, end.as_slice());
     }
 }
 

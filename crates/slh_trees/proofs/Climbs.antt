@@ -54,6 +54,12 @@ pub length-node_path : (K : Seeded) (sk : List ℕ) (j t y heights : ℕ) → Ha
 length-node_path K sk j t y heights law =
     length-merkle_path K (tree_place j t) (leaf K sk j t) y heights law (λ i. length-leaf K sk j t i law)
 
+-- a leaf and its path lead to the root
+pub climb-node_path : (K : Seeded) (sk : List ℕ) (hp j t y : ℕ) → HasLength K.suite K.n → y < 2 ^ hp → climb K (tree_place j t) (leaf K sk j t y) y (node_path K sk j t y hp) hp ≡ node K sk j t hp 0
+climb-node_path K sk hp j t y law below =
+    let top : y / 2 ^ hp ≡ 0 = div-eq_of_lt below in
+    rw (climb-merkle_path K (tree_place j t) (leaf K sk j t) y hp hp law (λ i. length-leaf K sk j t i law) (omega arith), top) refl
+
 -- a signature under a leaf of a tree leads to its root
 pub checked_node-signed_leaf : (K : Seeded) (sk : List ℕ) (hp j t y : ℕ) (m : List ℕ) → HasLength K.suite K.n → y < 2 ^ hp → checked_node K j t y (signed_leaf K sk j t y m hp) m hp ≡ node K sk j t hp 0
 unfolding checked_node
@@ -61,5 +67,5 @@ checked_node-signed_leaf K sk hp j t y m law below =
     let chains = signed_chains K sk j t y m in
     let path = node_path K sk j t y hp in
     let size : length chains ≡ chain_count K.n * K.n = length-signed_chains K sk j t y m law in
-    let top : y / 2 ^ hp ≡ 0 = div-eq_of_lt below in
-    rw (take_front _ chains path size, drop_front _ chains path size, checked_leaf-signed_chains K sk j t y m law, climb-merkle_path K (tree_place j t) (leaf K sk j t) y hp hp law (λ i. length-leaf K sk j t i law) (omega arith), top) refl
+    rw (take_front _ chains path size, drop_front _ chains path size, checked_leaf-signed_chains K sk j t y m law)
+    (climb-node_path K sk hp j t y law below)

@@ -5,12 +5,12 @@ use Rattle.std.proofs.lemmas.List.{append_assoc}
 use Rattle.std.proofs.lemmas.Nat.{mod_below, pow_pos}
 use Rattle.std.proofs.Math.Nat.{div-eq_of_lt}
 use Rattle.slh_chains.specs.Bytes.{part}
-use Rattle.slh_chains.specs.Parameters.{Scheme, bytes_for}
+use Rattle.slh_chains.specs.Parameters.{Scheme, bytes_for, chain_count}
 use Rattle.slh_chains.specs.Suite.{HasLength, Seeded, seeded}
 use Rattle.slh_chains.proofs.Joins.{range_left, range_right, take_front, drop_front}
 use Rattle.slh_trees.specs.Checking.{checked_fors_key, checked_message, checked_root, digest_root, forest_size}
 use Rattle.slh_trees.specs.Forest.{fors_key, fors_signature}
-use Rattle.slh_trees.specs.Layers.{hypertree_signature, layer_message, tree_at}
+use Rattle.slh_trees.specs.Layers.{hypertree_signature, layer_message, layer_size, tree_at}
 use Rattle.slh_trees.specs.MessageDigest.{digest_number}
 use Rattle.slh_trees.specs.Keys.{top_root}
 use Rattle.slh_trees.specs.Signing.{digest_signature, signature_with}
@@ -56,3 +56,7 @@ checked_root-signature Z key rand message law layers size =
     let sk = part Z.n key 0 in
     let digest = Z.suite.h_msg rand s (part Z.n key 3) message in
     rw (front_of_signature Z s sk rand digest size) (digest_root-signature Z s sk rand digest law layers size)
+
+-- the parts of a signature, counted in values of n bytes
+pub size_in_values : (n k a hp d len h : ℕ) → len ≡ chain_count n → h ≡ d * hp → n + forest_size n k a + d * layer_size n hp ≡ (1 + k * (1 + a) + h + d * len) * n
+size_in_values n k a hp d len h chains height = rw (chains, height) (omega arith)

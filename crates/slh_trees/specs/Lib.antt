@@ -4,6 +4,7 @@ pub mod Layers
 pub mod Forest
 pub mod MessageDigest
 pub mod Checking
+pub mod Stack
 pub mod ToySuite
 pub mod Keys
 pub mod Signing

@@ -1,5 +1,6 @@
-// The toy suite with a count in its state, which each hash call raises. It shows that no call is hidden
-// behind a step counter of its own: the wanted numbers are those of the standard's algorithms, by hand.
+// The toy suite with a count in its state, which each hash call raises. It shows that no call is
+// hidden behind a step counter of its own: the wanted numbers are those of the standard's
+// algorithms, by hand.
 ghost use Rattle.std.specs.Prelude.{◌≡◌, ◌<◌, refl};
 ghost use Rattle.slh_chains.specs.Parameters.{scheme_of};
 ghost use Rattle.slh_trees.specs.ToySuite.{toy, toy_lengths, toy_digest_length};

@@ -4,12 +4,13 @@ ghost use Rattle.std.specs.Prelude.{slice_index, EachIndex};
 ghost use Rattle.slh_chains.specs.Bytes.{joined};
 ghost use Rattle.slh_chains.specs.Suite.{seeded};
 ghost use Rattle.slh_trees.specs.Checking.{checked_fors_node, checked_fors_key};
-ghost use Rattle.slh_trees.specs.Forest.{fors_place, fors_secret, fors_node as forest_node};
+ghost use Rattle.slh_trees.specs.Forest.{fors_place, fors_secret, fors_leaf, fors_node as forest_node};
 ghost use Rattle.slh_trees.specs.Forest.{fors_path, fors_key, opened_leaves, fors_signature};
 ghost use Rattle.slh_trees.specs.Merkle.{node_bytes, climb as climbed};
 
 use crate::climb::{NodeAddress, climb_path, sibling};
 use crate::laws::forest_leads_to_key;
+use crate::pass::{node_of, push_leaf};
 use hybrid_array::ArraySize;
 use slh_chains::address::{ForsPrf, ForsTree};
 use slh_chains::digits::base_2b;
@@ -41,8 +42,39 @@ pub fn fors_sk_gen<P: ForsParams, L: Ledger>(
     P::prf_sk(keyed, sk_seed, &at, steps)
 }
 
-/// The node with index `i` at height `z` (FIPS 205, algorithm 15).
-#[tactic(auto, using(crate::proofs::Powers::twice, crate::proofs::TreeSteps::merkle_above), unfolding(crate::specs::Merkle::merkle, crate::specs::Forest::fors_leaf))]
+/// The hash of the secret with an index.
+#[tactic(auto, unfolding(crate::specs::Forest::fors_leaf))]
+fn leaf_at<P: ForsParams, L: Ledger>(
+    sk_seed: &NBytes<P::N>,
+    keyed: &P::Keyed,
+    adrs: &ForsTree,
+    idx: u32,
+    steps: &mut Steps<L>,
+) -> NBytes<P::N>
+    requires { idx < P.K.USIZE * 2 ^ P.A.USIZE }
+    ensures value { let K = seeded P.suite P.N.USIZE (P.seed_of keyed.now) in
+        let a = adrs.now in
+        result ≡ fors_leaf K sk_seed.now a.tree_adrs_low a.key_pair_adrs idx }
+    ensures cost { steps.new ≡ steps.old + 2 }
+{
+    let secret = fors_sk_gen::<P, L>(sk_seed, keyed, adrs, idx, steps);
+    P::f(keyed, &adrs.at_node(0, idx), &secret, steps)
+}
+
+/// The index of the leaf after `q` others below the node with index `i` at height `z`.
+fn leaf_below<P: ForsParams>(i: u32, z: u32, q: u32) -> u32
+    requires height { z ≤ P.A.USIZE }
+    requires node { i < P.K.USIZE * 2 ^ (P.A.USIZE - z) }
+    requires leaf { q < 2 ^ z }
+    ensures value { result ≡ i * 2 ^ z + q }
+    ensures below { result < P.K.USIZE * 2 ^ P.A.USIZE }
+{
+    forest_sizes::<P>();
+    (i << z) + q
+}
+
+/// The node with index `i` at height `z` (FIPS 205, algorithm 15). Its leaves are
+/// taken from left to right.
 pub fn fors_node<P: ForsParams, L: Ledger>(
     sk_seed: &NBytes<P::N>,
     i: u32,
@@ -59,13 +91,13 @@ pub fn fors_node<P: ForsParams, L: Ledger>(
     ensures cost { steps.new + 1 ≡ steps.old + 3 * 2 ^ z }
 {
     forest_sizes::<P>();
-    if z == 0 {
-        let secret = fors_sk_gen::<P, L>(sk_seed, keyed, adrs, i, steps);
-        return P::f(keyed, &adrs.at_node(0, i), &secret, steps);
+    let mut store = [0u8; 1024];
+    for q in 0..1u32 << z {
+        let index = leaf_below::<P>(i, z, q);
+        let leaf = leaf_at::<P, L>(sk_seed, keyed, adrs, index, steps);
+        push_leaf::<P, ForsTree, L>(&leaf, index, q, keyed, adrs, &mut store, steps);
     }
-    let left = fors_node::<P, L>(sk_seed, 2 * i, z - 1, keyed, adrs, steps);
-    let right = fors_node::<P, L>(sk_seed, 2 * i + 1, z - 1, keyed, adrs, steps);
-    P::h(keyed, &adrs.at_node(z, i), &left, &right, steps)
+    node_of::<P::N>(&store, z as usize)
 }
 
 /// Writes the siblings on the way up from leaf `y`.

@@ -1,18 +1,30 @@
 //! Laws of trees, layers and forests, each the contract of a function that does nothing.
-ghost use Rattle.std.specs.Prelude.{◌≡◌, ℕ, suc, ◌/◌, ◌*◌, ◌^◌, ◌<◌, ◌≤◌, List, length};
+ghost use Rattle.std.specs.Prelude.{◌≡◌, ℕ, suc, ◌+◌, ◌/◌, ◌*◌, ◌^◌, ◌<◌, ◌≤◌, List, length};
 ghost use Rattle.slh_chains.specs.Bytes.{part};
+ghost use Rattle.slh_chains.specs.Chain.{leaf};
 ghost use Rattle.slh_chains.specs.Suite.{seeded};
 ghost use Rattle.slh_trees.specs.Checking.{checked_fors_key, checked_message, checked_node};
-ghost use Rattle.slh_trees.specs.Checking.{checked_root, digest_root};
+ghost use Rattle.slh_trees.specs.Checking.{checked_root, digest_root, signature_size};
 ghost use Rattle.slh_trees.specs.Forest.{fors_key, fors_signature};
 ghost use Rattle.slh_trees.specs.Keys.{top_root};
 ghost use Rattle.slh_trees.specs.Layers.{hypertree_signature, layer_message};
+ghost use Rattle.slh_trees.specs.Merkle.{climb};
 ghost use Rattle.slh_trees.specs.Signing.{digest_signature, signature_with};
-ghost use Rattle.slh_trees.specs.Tree.{node, signed_leaf};
+ghost use Rattle.slh_trees.specs.Tree.{tree_place, node, node_path, signed_leaf};
 
 use hybrid_array::ArraySize;
 pub use slh_chains::laws::{chain_continues, signature_leads_to_leaf};
 use slh_chains::params::{ForsParams, HypertreeParams, XmssParams};
+
+/// A leaf of a tree and the siblings on the way up from it lead to the tree's root.
+pub fn path_leads_to_root<P: XmssParams>()
+    ensures { (s sk : List ℕ) (j t y : ℕ)
+        → y < 2 ^ P.HPrime.USIZE
+        → let K = seeded P.suite P.N.USIZE s in
+        let hp = P.HPrime.USIZE in
+        let path = node_path K sk j t y hp in
+        climb K (tree_place j t) (leaf K sk j t y) y path hp ≡ node K sk j t hp 0 }
+{}
 
 /// The signature of a message under a leaf of a tree leads to the tree's root.
 pub fn signature_leads_to_root<P: XmssParams>()
@@ -66,4 +78,10 @@ pub fn made_leads_to_top<P: ForsParams>()
         let s = part Z.n key 2 in
         let sig = signature_with Z key rand message in
         checked_root Z s (part Z.n key 3) message sig ≡ top_root Z s (part Z.n key 0) }
+{}
+
+/// How many bytes a signature has, as the standard counts them: in values of n bytes.
+pub fn signature_values<P: ForsParams>()
+    ensures { let values = 1 + P.K.USIZE * (1 + P.A.USIZE) + P.H.USIZE + P.D.USIZE * P.WotsSigLen.USIZE in
+        signature_size P.scheme ≡ values * P.N.USIZE }
 {}

@@ -12,6 +12,7 @@ pub mod digest;
 pub mod fors;
 pub mod hypertree;
 pub mod laws;
+mod pass;
 #[cfg(test)]
 mod tests;
 pub mod toy;

@@ -6,14 +6,15 @@ ghost use Rattle.slh_trees.specs.Checking.{checked_node};
 ghost use Rattle.slh_trees.specs.Tree.{node as tree_node, node_path, signed_leaf};
 
 use crate::climb::{climb_path, sibling};
-use crate::laws::signature_leads_to_root;
+use crate::laws::path_leads_to_root;
+use crate::pass::{node_of, push_leaf};
 use hybrid_array::ArraySize;
 use slh_chains::address::{HashTree, WotsHash};
 use slh_chains::nbytes::NBytes;
 use slh_chains::params::{XmssParams, tree_sizes};
 use slh_chains::parts::put_part;
 use slh_chains::steps::Steps;
-use slh_chains::wots::{wots_pk_from_sig, wots_pk_gen, wots_sign};
+use slh_chains::wots::{wots_pk_from_sig, wots_pk_gen, wots_sign, wots_sign_leaf};
 use std::sync::ledger::Ledger;
 
 /// The address of another key pair of the same tree.
@@ -30,8 +31,19 @@ fn at_leaf(adrs: &WotsHash, key_pair: u32) -> WotsHash
     }
 }
 
-/// The node with index `node` at a height of the tree of an address (FIPS 205, algorithm 9).
-#[tactic(auto, using(crate::proofs::Powers::twice, crate::proofs::TreeSteps::merkle_above), unfolding(crate::specs::Merkle::merkle))]
+/// The index of the leaf after `q` others below the node with index `node` at a height.
+fn leaf_below<P: XmssParams>(node: u32, height: u32, q: u32) -> u32
+    requires height { height ≤ P.HPrime.USIZE }
+    requires node { node < 2 ^ (P.HPrime.USIZE - height) }
+    requires leaf { q < 2 ^ height }
+    ensures { result ≡ node * 2 ^ height + q }
+{
+    tree_sizes::<P>();
+    (node << height) + q
+}
+
+/// The node with index `node` at a height of the tree of an address (FIPS 205, algorithm
+/// 9). Its leaves are taken from left to right.
 pub fn xmss_node<P: XmssParams, L: Ledger>(
     sk_seed: &NBytes<P::N>,
     node: u32,
@@ -48,17 +60,14 @@ pub fn xmss_node<P: XmssParams, L: Ledger>(
     ensures cost { steps.new + 1 ≡ steps.old + 2 ^ height * (16 * P.WotsSigLen.USIZE + 2) }
 {
     tree_sizes::<P>();
-    if height == 0 {
-        return wots_pk_gen::<P, L>(sk_seed, keyed, &at_leaf(adrs, node), steps);
+    let place = adrs.tree_adrs();
+    let mut store = [0u8; 1024];
+    for q in 0..1u32 << height {
+        let index = leaf_below::<P>(node, height, q);
+        let leaf = wots_pk_gen::<P, L>(sk_seed, keyed, &at_leaf(adrs, index), steps);
+        push_leaf::<P, HashTree, L>(&leaf, index, q, keyed, &place, &mut store, steps);
     }
-    let left = xmss_node::<P, L>(sk_seed, 2 * node, height - 1, keyed, adrs, steps);
-    let right = xmss_node::<P, L>(sk_seed, 2 * node + 1, height - 1, keyed, adrs, steps);
-    let at = HashTree {
-        tree_height: height,
-        tree_index: node,
-        ..adrs.tree_adrs()
-    };
-    P::h(keyed, &at, &left, &right, steps)
+    node_of::<P::N>(&store, height as usize)
 }
 
 /// Writes the siblings on the way up from leaf `idx`.
@@ -168,7 +177,10 @@ pub fn xmss_sign_root<P: XmssParams, L: Ledger>(
     ensures cost { steps.new + 1 ≡ steps.old + 2 ^ P.HPrime.USIZE * (16 * P.WotsSigLen.USIZE + 2) }
 {
     tree_sizes::<P>();
-    signature_leads_to_root::<P>();
-    xmss_sign::<P, L>(m, sk_seed, keyed, idx, adrs, out, steps);
-    xmss_pk_from_sig::<P, L>(idx, out, m, keyed, adrs, steps)
+    path_leads_to_root::<P>();
+    let height = P::HPrime::USIZE;
+    let (chains, path) = out.split_at_mut(P::WotsSigLen::USIZE * P::N::USIZE);
+    let leaf = wots_sign_leaf::<P, L>(m, sk_seed, keyed, &at_leaf(adrs, idx), chains, steps);
+    write_path::<P, L>(sk_seed, keyed, idx, adrs, path, steps);
+    climb_path::<P, HashTree, L>(&leaf, idx, height, path, keyed, &adrs.tree_adrs(), steps)
 }
