@@ -1,6 +1,6 @@
 //! Sources and sinks in memory. [`MemSource`] and [`MemSink`] number their calls from 0, and fail
 //! at those whose numbers they were given, so that a test can try each fault in turn.
-ghost use Rattle.std.specs.Prelude.{◌≡◌, ◌↔◌, [], ◌+◌, ◌<◌, ◌≤◌, ◌^◌, None, Some, length, take, min, Contains, unwrap_or, IsErr, IsTrue, IsOk, IfOk, OnOk, OnErr, if◌then◌else◌, vec_len};
+ghost use Rattle.std.specs.Prelude.{◌≡◌, ◌↔◌, [], ◌+◌, ◌<◌, ◌≤◌, ◌^◌, None, Some, length, take, min, Contains, unwrap_or, IsErr, is_ok, IsTrue, IsOk, IfOk, OnOk, OnErr, if◌then◌else◌, vec_len};
 ghost use Rattle.std.specs.Io.{ReadsAtMost};
 ghost use Rattle.std.specs.Io.KnownBytes.{ReadConsumes, WriteAppends};
 ghost use Rattle.line_serve.specs.Causes.{HasCause, Rose};
@@ -147,7 +147,7 @@ impl MemSource {
 }
 
 impl Source for MemSource {
-    ghost use Rattle.line_serve.specs.Memory.{source_left, source_fails, source_number, source_faults};
+    ghost use Rattle.line_serve.specs.Memory.{source_left, source_fails, source_number, source_faults, one_more};
 
     ghost left = { λ s. Some (source_left s) };
 
@@ -159,6 +159,8 @@ impl Source for MemSource {
             result buf.new }
         ensures cause { HasCause (source_faults self.old) (source_faults self.new) result }
         ensures listed { IsErr result ↔ Contains (source_fails self.old) (source_number self.old) }
+        ensures counted { source_faults self.new ≡ (if is_ok result
+            then source_faults self.old else one_more (source_faults self.old)) }
         ensures number { source_number self.new ≡ min (source_number self.old + 1) (2 ^ 64) }
         ensures fails { source_fails self.new ≡ source_fails self.old }
     {
@@ -211,7 +213,7 @@ impl MemSink {
 }
 
 impl Sink for MemSink {
-    ghost use Rattle.line_serve.specs.Memory.{sink_bytes, sink_fails, sink_number, sink_faults, sink_refused};
+    ghost use Rattle.line_serve.specs.Memory.{sink_bytes, sink_fails, sink_number, sink_faults, sink_refused, one_more};
 
     ghost taken = { λ k. Some (sink_bytes k) };
 
@@ -228,6 +230,8 @@ impl Sink for MemSink {
         ensures refused { OnErr result ((Contains (sink_fails self.old) (sink_number self.old) → ⊥)
             → Rose (sink_refused self.old) (sink_refused self.new)) }
         ensures kept { OnOk result (sink_refused self.new ≡ sink_refused self.old) }
+        ensures counted { sink_faults self.new ≡ (if is_ok result
+            then sink_faults self.old else one_more (sink_faults self.old)) }
         ensures number { sink_number self.new ≡ min (sink_number self.old + 1) (2 ^ 64) }
         ensures fails { sink_fails self.new ≡ sink_fails self.old }
     {
