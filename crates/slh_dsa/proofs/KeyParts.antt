@@ -7,30 +7,30 @@ use Rattle.slh_trees.specs.Frame.{frame, frame_head}
 use Rattle.slh_trees.specs.Signing.{digest_signature, signature_of}
 
 -- the first part
-part_first : (n : ℕ) (a rest : List ℕ) → length a ≡ n → part n (a ++ rest) 0 ≡ a
+pub part_first : (n : ℕ) (a rest : List ℕ) → length a ≡ n → part n (a ++ rest) 0 ≡ a
 part_first n a rest len =
     let width : (0 + 1) * n - 0 * n ≡ length a = omega arith in
     let from : 0 * n ≡ 0 = omega arith in
     rw (width, from) (take-append_seam a rest)
 
 -- the parts after the first
-part_later : (n c : ℕ) (a rest : List ℕ) → length a ≡ n → part n (a ++ rest) (suc c) ≡ part n rest c
+pub part_later : (n c : ℕ) (a rest : List ℕ) → length a ≡ n → part n (a ++ rest) (suc c) ≡ part n rest c
 part_later n c a rest len =
     let width : (suc c + 1) * n - suc c * n ≡ (c + 1) * n - c * n = omega arith in
     let from : suc c * n ≡ length a + c * n = omega arith in
     rw (width, from, drop-append-add a rest (c * n)) refl
 
 -- the four parts of a signing key
-record HasParts (n : ℕ) (key a b c d : List ℕ) : Type 0 where
-  p0 : part n key 0 ≡ a
-  p1 : part n key 1 ≡ b
-  p2 : part n key 2 ≡ c
-  p3 : part n key 3 ≡ d
+pub record HasParts (n : ℕ) (key a b c d : List ℕ) : Type 0 where
+  pub p0 : part n key 0 ≡ a
+  pub p1 : part n key 1 ≡ b
+  pub p2 : part n key 2 ≡ c
+  pub p3 : part n key 3 ≡ d
 
-part_only : (n : ℕ) (a : List ℕ) → length a ≡ n → part n a 0 ≡ a
+pub part_only : (n : ℕ) (a : List ℕ) → length a ≡ n → part n a 0 ≡ a
 part_only n a len = let e : part n (a ++ []) 0 ≡ a = part_first n a [] len in rw append-nil at e
 
-key_parts : (n : ℕ) (key a b c d : List ℕ) → a ++ b ++ c ++ d ≡ key
+pub key_parts : (n : ℕ) (key a b c d : List ℕ) → a ++ b ++ c ++ d ≡ key
     → length a ≡ n → length b ≡ n → length c ≡ n → length d ≡ n → HasParts n key a b c d
 key_parts n key a b c d is_key la lb lc ld =
     let whole : key ≡ a ++ (b ++ (c ++ d)) = sym is_key ∙ simp append_assoc in

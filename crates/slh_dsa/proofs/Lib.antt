@@ -1,1 +1,2 @@
 mod KeyParts
+mod Accepted

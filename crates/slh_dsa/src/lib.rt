@@ -4,11 +4,14 @@
 #![tactic(auto)]
 
 mod error;
+pub mod laws;
 mod parameter_set;
 mod root;
 mod signing;
 mod signing_key;
 mod sizes;
+#[cfg(test)]
+mod tests;
 mod verifying_key;
 
 pub use error::Error;

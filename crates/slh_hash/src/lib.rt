@@ -8,6 +8,8 @@ mod keyed;
 mod mgf1;
 mod sets;
 mod sha2_l1;
+#[cfg(test)]
+mod tests;
 mod tweaked;
 
 pub use keyed::Sha2Keyed;

@@ -7,7 +7,7 @@ use hmac_sha256::Hash;
 use std::alloc::{AllocError, Global};
 use std::test::Fail;
 
-// The seeds of 16 bytes 01, 02 and 03, and the key that they give.
+// A job line with three seeds, and the key that they give.
 const KEYGEN: &[u8] =
     b"SLH-DSA-SHA2-128f keygen 01010101010101010101010101010101 02020202020202020202020202020202 03030303030303030303030303030303\n";
 

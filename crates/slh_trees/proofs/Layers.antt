@@ -39,7 +39,7 @@ leaf_at-below hp t l zero h = h
 leaf_at-below hp t l (suc j) h = mod_below (tree_at hp t j) (2 ^ hp) (pow_pos hp)
 
 -- each layer's signature has its size
-length-layer_signature : (K : Seeded) (hp : ℕ) (sk : List ℕ) (t l : ℕ) (m : List ℕ) (j : ℕ) → HasLength K.suite K.n → length (layer_signature K hp sk t l m j) ≡ layer_size K.n hp
+pub length-layer_signature : (K : Seeded) (hp : ℕ) (sk : List ℕ) (t l : ℕ) (m : List ℕ) (j : ℕ) → HasLength K.suite K.n → length (layer_signature K hp sk t l m j) ≡ layer_size K.n hp
 unfolding layer_signature
 length-layer_signature K hp sk t l m j law =
     let tree = tree_at hp t j in

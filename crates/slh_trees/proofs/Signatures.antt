@@ -7,16 +7,16 @@ use Rattle.std.proofs.Math.Nat.{div-eq_of_lt}
 use Rattle.slh_chains.specs.Bytes.{part}
 use Rattle.slh_chains.specs.Parameters.{Scheme, bytes_for, chain_count}
 use Rattle.slh_chains.specs.Suite.{HasLength, Seeded, seeded}
-use Rattle.slh_chains.proofs.Joins.{range_left, range_right, take_front, drop_front}
-use Rattle.slh_trees.specs.Checking.{checked_fors_key, checked_message, checked_root, digest_root, forest_size}
+use Rattle.slh_chains.proofs.Joins.{length-joined, range_left, range_right, take_front, drop_front}
+use Rattle.slh_trees.specs.Checking.{checked_fors_key, checked_message, checked_root, digest_root, forest_size, signature_size}
 use Rattle.slh_trees.specs.Forest.{fors_key, fors_signature}
-use Rattle.slh_trees.specs.Layers.{hypertree_signature, layer_message, layer_size, tree_at}
+use Rattle.slh_trees.specs.Layers.{hypertree_signature, layer_message, layer_signature, layer_size, tree_at}
 use Rattle.slh_trees.specs.MessageDigest.{digest_number}
 use Rattle.slh_trees.specs.Keys.{top_root}
 use Rattle.slh_trees.specs.Signing.{digest_signature, signature_with}
 use Rattle.slh_trees.specs.Tree.{node}
 use Rattle.slh_trees.proofs.Forests.{checked_fors_key-signature, length-fors_signature}
-use Rattle.slh_trees.proofs.Layers.{checked_message-signature}
+use Rattle.slh_trees.proofs.Layers.{checked_message-signature, length-layer_signature}
 
 -- over any tree, leaf and bytes that name leaves of the forest
 composed : (K : Seeded) (hp d a k : ℕ) (sk rand : List ℕ) (t l : ℕ) (md : List ℕ) → HasLength K.suite K.n → 1 ≤ d → length rand ≡ K.n → t < 2 ^ ((d - 1) * hp) → l < 2 ^ hp →
@@ -60,3 +60,21 @@ checked_root-signature Z key rand message law layers size =
 -- the parts of a signature, counted in values of n bytes
 pub size_in_values : (n k a hp d len h : ℕ) → len ≡ chain_count n → h ≡ d * hp → n + forest_size n k a + d * layer_size n hp ≡ (1 + k * (1 + a) + h + d * len) * n
 size_in_values n k a hp d len h chains height = rw (chains, height) (omega arith)
+
+length-hypertree_signature : (K : Seeded) (hp : ℕ) (sk : List ℕ) (t l : ℕ) (m : List ℕ) (d : ℕ) → HasLength K.suite K.n → length (hypertree_signature K hp sk t l m d) ≡ d * layer_size K.n hp
+unfolding hypertree_signature
+length-hypertree_signature K hp sk t l m d law =
+    length-joined (layer_signature K hp sk t l m) (layer_size K.n hp) d (λ j. length-layer_signature K hp sk t l m j law)
+
+-- over any tree, leaf and digits
+length-composed : (K : Seeded) (hp d a k : ℕ) (sk rand : List ℕ) (t l : ℕ) (md key : List ℕ) → HasLength K.suite K.n → length rand ≡ K.n →
+    length (rand ++ fors_signature K sk t l k a md ++ hypertree_signature K hp sk t l key d) ≡ K.n + forest_size K.n k a + d * layer_size K.n hp
+length-composed K hp d a k sk rand t l md key law size =
+    let forest = fors_signature K sk t l k a md in
+    let upper = hypertree_signature K hp sk t l key d in
+    rw (length-append (rand ++ forest) upper, length-append rand forest, size, length-fors_signature K sk t l k a md law, length-hypertree_signature K hp sk t l key d law) refl
+
+pub length-digest_signature : (Z : Scheme) (s sk rand digest : List ℕ) → HasLength Z.suite Z.n → length rand ≡ Z.n → length (digest_signature Z s sk rand digest) ≡ signature_size Z
+unfolding digest_signature digest_number
+length-digest_signature Z s sk rand digest law size =
+    length-composed (seeded Z.suite Z.n s) Z.hp Z.d Z.a Z.k sk rand _ _ (take (bytes_for (Z.k * Z.a)) digest) _ law size

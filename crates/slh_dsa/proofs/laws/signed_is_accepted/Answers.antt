@@ -1,0 +1,10 @@
+use Rattle.slh_chains.specs.Parameters.{scheme_of}
+use Rattle.slh_dsa.proofs.Accepted.{accepted_message}
+use Rattle.slh_dsa.proofs.laws.signed_is_accepted.Goals as goal
+
+pub returns : goal.returns
+returns g c = λ key context message opt.
+    let Z = scheme_of g.P.HashSuite.suite g.P.N.ArraySize.USIZE g.P.HPrime.ArraySize.USIZE g.P.D.ArraySize.USIZE g.P.A.ArraySize.USIZE g.P.K.ArraySize.USIZE in
+    let law = g.met.P.HashSuite.lengths g.met.P.WotsParams.valid_wots.n_high in
+    rw g.met.P.ForsParams.scheme_is
+    (accepted_message Z key context message opt law g.met.P.HypertreeParams.valid_hypertree.layers)
