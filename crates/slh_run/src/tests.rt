@@ -114,6 +114,10 @@ fn hostile_lines(rt: HostRuntime) -> Result<(), Fail> {
         (b" sign 00 - - None", b"error hex\n"),
         (b" verify 00 - - none", b"error hex\n"),
         (b" keygen - 00 00", b"error length\n"),
+        (
+            b" keygen 010101010101010101010101010101 02020202020202020202020202020202 03030303030303030303030303030303",
+            b"error length\n",
+        ),
         (b"  keygen  -  -  -  ", b"error length\n"),
         (b" keygen 00 00 00\r", b"error length\n"),
         (b" keygen aA Bb cC", b"error length\n"),
@@ -264,6 +268,48 @@ fn contexts_and_randomizers(rt: HostRuntime) -> Result<(), Fail> {
     let job = sign_job(alloc, KEY, b"", b"Hello", Some(&[3u8; 16]))?;
     let with = signature(alloc, set, &job).map_err(|_| "refused")?;
     assert!(rt; without.as_slice() == with.as_slice());
+    Ok(())
+}
+
+fn verify_job(
+    alloc: Global,
+    context: &[u8],
+    message: &[u8],
+    signature: &[u8],
+) -> Result<Job, Fail> {
+    Ok(Job::Verify {
+        key: decoded(alloc, PUBLIC)?,
+        context: ByteString::from_slice(alloc, context)?,
+        message: ByteString::from_slice(alloc, message)?,
+        signature: ByteString::from_slice(alloc, signature)?,
+    })
+}
+
+// A signature is accepted with its own context and message, and refused with another, with one byte
+// changed, or where all bytes are zero.
+#[test]
+fn verifies_what_was_signed(rt: HostRuntime) -> Result<(), Fail> {
+    let alloc = rt.alloc();
+    let set = Set::Sha2_128f;
+    let job = sign_job(alloc, KEY, b"", b"Hello", None)?;
+    let bytes = signature(alloc, set, &job).map_err(|_| "refused")?;
+    let genuine = bytes.as_slice();
+    let mut changed = Vec::from_slice(alloc, genuine)?;
+    if let Some(last) = changed.last_mut() {
+        *last ^= 1;
+    }
+    let zeros = [0u8; 17088];
+    for (context, message, bytes, error) in [
+        (b"".as_slice(), b"Hello".as_slice(), genuine, None),
+        (b"\0", b"Hello", genuine, Some(Error::Invalid)),
+        (b"", b"Hella", genuine, Some(Error::Invalid)),
+        (b"", b"Hello", changed.as_slice(), Some(Error::Invalid)),
+        (b"", b"Hello", zeros.as_slice(), Some(Error::Invalid)),
+        (b"", b"Hello", b"", Some(Error::Length)),
+    ] {
+        let job = verify_job(alloc, context, message, bytes)?;
+        assert_eq!(rt; run(alloc, set, &job).err(), error);
+    }
     Ok(())
 }
 
