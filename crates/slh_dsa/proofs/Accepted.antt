@@ -1,5 +1,5 @@
 -- What a true key signs is accepted under its verifying key.
-use Rattle.std.proofs.Common.{◌≡◌, ℕ, zero, suc, ◌+◌, ◌-◌, ◌*◌, ◌^◌, ◌≤◌, ◌==◌, List, ◌++◌, length, take, drop, true, false, None, Some, Option, unwrap_or, refl, sym, ◌∙◌, ap, arith, length-append, append_assoc, length-take, length-drop, if◌then◌else◌, nat_lt}
+use Rattle.std.proofs.Common.{◌≡◌, ℕ, ◌+◌, ◌-◌, ◌*◌, ◌^◌, ◌≤◌, ◌==◌, List, ◌++◌, length, drop, true, None, Option, unwrap_or, refl, sym, ◌∙◌, ap, arith, length-append, append_assoc, length-take, length-drop}
 use Rattle.std.proofs.lemmas.Bool.{le-ltb}
 use Rattle.std.proofs.lemmas.Bool.Decides.{Decides-eqb}
 use Rattle.std.proofs.lemmas.Slice.Eq.{bytes_eq-Decides}
@@ -9,7 +9,7 @@ use Rattle.slh_chains.specs.Bytes.{part}
 use Rattle.slh_chains.specs.Parameters.{Scheme}
 use Rattle.slh_chains.specs.Suite.{HasLength}
 use Rattle.slh_dsa.proofs.KeyParts.{part_first, part_later, part_only, key_parts}
-use Rattle.slh_dsa.specs.Calls.{verify_error, is_valid}
+use Rattle.slh_dsa.specs.Calls.{verify_error}
 use Rattle.slh_trees.proofs.Signatures.{checked_root-signature, length-digest_signature}
 use Rattle.slh_trees.specs.Checking.{checked_root, signature_size}
 use Rattle.slh_trees.specs.Frame.{frame}

@@ -1,6 +1,5 @@
 -- What the calls on keys answer (FIPS 205, sections 9 and 10). Z is the scheme, of values of n bytes.
-use Rattle.std.specs.Prelude.{◌==◌, ℕ, ◌+◌, ◌*◌, ◌^◌, List, length, nat_lt, not, Bool, Option, None, Some, Result, Ok, Err, if◌then◌else◌, option_map}
-use Rattle.std.specs.Option.{option_map_or}
+use Rattle.std.specs.Prelude.{◌==◌, ℕ, ◌^◌, List, length, nat_lt, Bool, Option, None, Some, if◌then◌else◌}
 use Rattle.std.specs.Str.{bytes_eq}
 use Rattle.slh_chains.specs.Bytes.{part}
 use Rattle.slh_chains.specs.Parameters.{Scheme}

@@ -1,5 +1,5 @@
 -- How many bytes the functions of the SHA-2 parameter sets give.
-use Rattle.std.proofs.Common.{◌≡◌, ℕ, zero, suc, ◌+◌, ◌*◌, ◌/◌, ◌≤◌, List, [], ◌++◌, length, take, refl, arith, length-append}
+use Rattle.std.proofs.Common.{◌≡◌, ℕ, ◌+◌, ◌/◌, ◌≤◌, List, ◌++◌, length, arith}
 use Rattle.std.proofs.lemmas.List.{length-take-le}
 use Rattle.hmac_sha256.specs.Sha256.{sha256}
 use Rattle.hmac_sha256.specs.Hmac.{hmac_sha256}

@@ -1,5 +1,5 @@
 -- The reply to a line (README, "Lines").
-use Rattle.std.specs.Prelude.{◌==◌, ℕ, ◌/◌, List, [], ◌∷◌, ◌++◌, length, drop, Result, Ok, Err, codes, if◌then◌else◌}
+use Rattle.std.specs.Prelude.{◌==◌, ℕ, ◌/◌, List, [], ◌++◌, length, drop, Result, Ok, Err, codes, if◌then◌else◌}
 use Rattle.hex.specs.Hex.{encode_lower}
 use Rattle.line_serve.specs.Fields.{fields}
 use Rattle.slh_run.specs.Judgement.{judgement}

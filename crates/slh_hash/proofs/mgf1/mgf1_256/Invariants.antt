@@ -1,5 +1,4 @@
-use Rattle.std.proofs.Common.{ℕ, List, ◌≡◌, ◌++◌, ◌*◌, ◌+◌, ◌/◌, length, take}
-use Rattle.hmac_sha256.specs.Hash.{StandsFor, absorbed_bytes}
+use Rattle.std.proofs.Common.{◌≡◌, ◌++◌, ◌*◌, take}
 use Rattle.hmac_sha256.specs.Sha256.{sha256}
 use Rattle.slh_chains.specs.Bytes.{big_endian, joined}
 use Rattle.slh_hash.proofs.mgf1.mgf1_256.Given as goal

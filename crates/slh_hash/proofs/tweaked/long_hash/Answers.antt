@@ -1,4 +1,4 @@
-use Rattle.std.proofs.Common.{ℕ, List, ◌≡◌, ◌++◌, ◌∙◌, ap, take, append_assoc, refl}
+use Rattle.std.proofs.Common.{ℕ, List, ◌∙◌, ap, take, append_assoc, refl}
 use Rattle.hmac_sha256.specs.Hash.{StandsFor}
 use Rattle.hmac_sha256.specs.Sha256.{sha256}
 use Rattle.slh_hash.specs.Sha2.{seed_block, tweaked_hash}

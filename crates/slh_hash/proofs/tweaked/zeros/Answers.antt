@@ -1,4 +1,3 @@
-use Rattle.std.proofs.Common.{arith}
 use Rattle.std.proofs.lemmas.List.{take-replicate}
 use Rattle.slh_hash.proofs.tweaked.zeros.Goals as goal
 
