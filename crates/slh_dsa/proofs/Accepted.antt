@@ -4,10 +4,10 @@ use Rattle.std.proofs.lemmas.Bool.{le-ltb}
 use Rattle.std.proofs.lemmas.Bool.Decides.{Decides-eqb}
 use Rattle.std.proofs.lemmas.Slice.Eq.{bytes_eq-Decides}
 use Rattle.std.specs.Str.{bytes_eq}
-use Rattle.slh_chains.proofs.Joins.{drop_front}
-use Rattle.slh_chains.specs.Bytes.{part}
-use Rattle.slh_chains.specs.Parameters.{Scheme}
-use Rattle.slh_chains.specs.Suite.{HasLength}
+use Rattle.slh_core.proofs.Joins.{drop_front}
+use Rattle.slh_core.specs.Bytes.{part}
+use Rattle.slh_core.specs.Parameters.{Scheme}
+use Rattle.slh_core.specs.Suite.{HasLength}
 use Rattle.slh_dsa.proofs.KeyParts.{part_first, part_later, part_only, key_parts}
 use Rattle.slh_dsa.specs.Calls.{verify_error}
 use Rattle.slh_trees.proofs.Signatures.{checked_root-signature, length-digest_signature}

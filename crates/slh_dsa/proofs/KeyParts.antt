@@ -1,8 +1,8 @@
 -- The parts of a key, from its bytes.
 use Rattle.std.proofs.Common.{◌≡◌, ℕ, suc, ◌+◌, ◌-◌, ◌*◌, List, [], ◌++◌, length, Option, unwrap_or, refl, sym, ◌∙◌, arith, append_assoc, append-nil}
 use Rattle.std.proofs.Math.Seq.{take-append_seam, drop-append-add}
-use Rattle.slh_chains.specs.Bytes.{part}
-use Rattle.slh_chains.specs.Parameters.{Scheme}
+use Rattle.slh_core.specs.Bytes.{part}
+use Rattle.slh_core.specs.Parameters.{Scheme}
 use Rattle.slh_trees.specs.Frame.{frame, frame_head}
 use Rattle.slh_trees.specs.Signing.{digest_signature, signature_of}
 

@@ -1,8 +1,8 @@
 -- What the calls on keys answer (FIPS 205, sections 9 and 10). Z is the scheme, of values of n bytes.
 use Rattle.std.specs.Prelude.{◌==◌, ℕ, ◌^◌, List, length, nat_lt, Bool, Option, None, Some, if◌then◌else◌}
 use Rattle.std.specs.Str.{bytes_eq}
-use Rattle.slh_chains.specs.Bytes.{part}
-use Rattle.slh_chains.specs.Parameters.{Scheme}
+use Rattle.slh_core.specs.Bytes.{part}
+use Rattle.slh_core.specs.Parameters.{Scheme}
 use Rattle.slh_trees.specs.Checking.{checked_root, signature_size}
 use Rattle.slh_trees.specs.Frame.{frame}
 use Rattle.slh_dsa.specs.declared.error.Error.{Error}

@@ -4,7 +4,7 @@ ghost use Rattle.slh_trees.specs.Checking.{signature_size};
 
 use hybrid_array::ArraySize;
 use hybrid_array::sizes::{U2, U4, U21, U32, U64, U7856, U17088};
-use slh_chains::params::ForsParams;
+use slh_core::params::ForsParams;
 use slh_hash::{Sha2_128f, Sha2_128s};
 use slh_trees::toy::Toy;
 

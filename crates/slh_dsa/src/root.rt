@@ -3,10 +3,10 @@ ghost use Rattle.std.specs.Prelude.{◌≡◌, ◌+◌, ◌*◌, ◌^◌};
 ghost use Rattle.slh_trees.specs.Keys.{top_root};
 
 use hybrid_array::ArraySize;
-use slh_chains::address::WotsHash;
-use slh_chains::nbytes::NBytes;
-use slh_chains::params::{ForsParams, layer_sizes};
-use slh_chains::steps::Steps;
+use slh_core::address::WotsHash;
+use slh_core::nbytes::NBytes;
+use slh_core::params::{ForsParams, layer_sizes};
+use slh_core::steps::Steps;
 use slh_trees::xmss::xmss_node;
 use std::sync::ledger::Ledger;
 

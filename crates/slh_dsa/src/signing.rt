@@ -4,10 +4,10 @@ ghost use Rattle.slh_trees.specs.Checking.{signature_size};
 ghost use Rattle.slh_trees.specs.Signing.{digest_signature};
 
 use hybrid_array::ArraySize;
-use slh_chains::address::ForsTree;
-use slh_chains::nbytes::NBytes;
-use slh_chains::params::{ForsParams, forest_sizes, layer_sizes};
-use slh_chains::steps::Steps;
+use slh_core::address::ForsTree;
+use slh_core::nbytes::NBytes;
+use slh_core::params::{ForsParams, forest_sizes, layer_sizes};
+use slh_core::steps::Steps;
 use slh_trees::digest::split_digest;
 use slh_trees::fors::fors_sign_root;
 use slh_trees::hypertree::ht_sign;

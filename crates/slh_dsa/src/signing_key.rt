@@ -1,7 +1,7 @@
 //! Signing keys (FIPS 205, section 9.1).
 ghost use Rattle.std.specs.Prelude.{◌≡◌, ◌↔◌, ◌+◌, ◌*◌, ◌^◌, ◌<◌, length, drop, None, Some, unwrap_or, IsOk, IfOk, IfErr, OnOk, OnErr, MatchResult};
 ghost use Rattle.std.specs.Option.{option_copied, ForSome};
-ghost use Rattle.slh_chains.specs.Bytes.{part};
+ghost use Rattle.slh_core.specs.Bytes.{part};
 ghost use Rattle.slh_trees.specs.Checking.{signature_size};
 ghost use Rattle.slh_trees.specs.Frame.{frame};
 ghost use Rattle.slh_trees.specs.Keys.{signing_key_bytes};
@@ -16,9 +16,9 @@ use crate::signing::sign_message;
 use crate::sizes::{check_context, check_message, check_randomizer, check_signature, frame_head};
 use crate::verifying_key::VerifyingKey;
 use hybrid_array::ArraySize;
-use slh_chains::nbytes::NBytes;
-use slh_chains::params::chain_sizes;
-use slh_chains::steps::Steps;
+use slh_core::nbytes::NBytes;
+use slh_core::params::chain_sizes;
+use slh_core::steps::Steps;
 use std::alloc::AllocError;
 use std::marker::{Brand, Model};
 use std::sync::ledger::{Blank, Ledger};

@@ -8,7 +8,7 @@ ghost use Rattle.slh_dsa.specs.Calls.{context_refusal, message_refusal, randomiz
 use crate::error::Error;
 use crate::parameter_set::ParameterSet;
 use hybrid_array::ArraySize;
-use slh_chains::params::chain_sizes;
+use slh_core::params::chain_sizes;
 
 const MAX_CONTEXT: usize = 255;
 

@@ -3,7 +3,7 @@
 ghost use Rattle.std.specs.Prelude.{◌≡◌, ◌+◌, ◌≤◌, ◌<◌, OnOk};
 
 use crate::{Error, SigningKey, VerifyingKey};
-use slh_chains::steps::Steps;
+use slh_core::steps::Steps;
 use slh_hash::Sha2_128f;
 use slh_trees::toy::Toy;
 use std::marker::Brand;

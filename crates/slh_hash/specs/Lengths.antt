@@ -4,10 +4,10 @@ use Rattle.std.proofs.lemmas.List.{length-take-le}
 use Rattle.hmac_sha256.specs.Sha256.{sha256}
 use Rattle.hmac_sha256.specs.Hmac.{hmac_sha256}
 use Rattle.hmac_sha256.proofs.Digest.{length-sha256, length-hmac_sha256}
-use Rattle.slh_chains.proofs.Joins.{length-joined}
-use Rattle.slh_chains.specs.Address.{compressed_address}
-use Rattle.slh_chains.specs.Bytes.{big_endian, joined}
-use Rattle.slh_chains.specs.Suite.{HasLength, HasDigestLength}
+use Rattle.slh_core.proofs.Joins.{length-joined}
+use Rattle.slh_core.specs.Address.{compressed_address}
+use Rattle.slh_core.specs.Bytes.{big_endian, joined}
+use Rattle.slh_core.specs.Suite.{HasLength, HasDigestLength}
 use Rattle.slh_hash.specs.Sha2.{seed_block, mgf1_sha256, message_digest, sha2_category_1, tweaked_hash}
 
 pub length-tweaked_hash : (n : ℕ) (s a x : List ℕ) → n ≤ 32 → length (tweaked_hash n s a x) ≡ n

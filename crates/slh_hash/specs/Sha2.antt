@@ -2,9 +2,9 @@
 use Rattle.std.specs.Prelude.{ℕ, ◌+◌, ◌-◌, ◌/◌, List, ◌++◌, take, replicate}
 use Rattle.hmac_sha256.specs.Sha256.{sha256}
 use Rattle.hmac_sha256.specs.Hmac.{hmac_sha256}
-use Rattle.slh_chains.specs.Bytes.{big_endian, joined}
-use Rattle.slh_chains.specs.Address.{compressed_address}
-use Rattle.slh_chains.specs.Suite.{Suite}
+use Rattle.slh_core.specs.Bytes.{big_endian, joined}
+use Rattle.slh_core.specs.Address.{compressed_address}
+use Rattle.slh_core.specs.Suite.{Suite}
 
 -- the public seed, followed by as many zeros as make it a block of SHA-256
 abbrev pub seed_block : ℕ → List ℕ → List ℕ

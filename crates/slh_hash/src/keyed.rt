@@ -5,7 +5,7 @@ ghost use Rattle.std.specs.Prelude.{◌≡◌, ◌≤◌};
 
 use hmac_sha256::Hash;
 use hybrid_array::ArraySize;
-use slh_chains::nbytes::NBytes;
+use slh_core::nbytes::NBytes;
 
 /// A public seed, and SHA-256 as it stands after the seed and the zeros that fill its block of 64
 /// bytes (FIPS 205, section 11.2). Every hash of an address goes on from there.

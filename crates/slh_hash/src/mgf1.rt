@@ -3,7 +3,7 @@ ghost use Rattle.std.specs.Prelude.{◌≡◌, ◌≤◌, ◌+◌, ◌/◌, leng
 ghost use Rattle.slh_hash.specs.Sha2.{mgf1_sha256};
 
 use hmac_sha256::Hash;
-use slh_chains::parts::put_part;
+use slh_core::parts::put_part;
 
 const DIGEST_LEN: usize = 32;
 
@@ -11,7 +11,7 @@ const MAX_OUTPUT: usize = 256;
 
 /// Fills `out` with the first bytes of the hashes of the seed and a counter of four bytes, from 0
 /// on.
-#[tactic(auto, unfolding(crate::specs::Sha2::mgf1_sha256, slh_chains::specs::Bytes::joined))]
+#[tactic(auto, unfolding(crate::specs::Sha2::mgf1_sha256, slh_core::specs::Bytes::joined))]
 pub fn mgf1_256(seed: &[u8], out: &mut [u8])
     requires seed { length seed.now ≤ 128 }
     requires room { length out.old ≤ 256 }

@@ -3,7 +3,7 @@ use crate::sha2_l1::Sha2L1;
 use hybrid_array::sizes::{
     U3, U6, U7, U9, U12, U14, U16, U21, U22, U25, U30, U32, U33, U34, U35, U63, U66,
 };
-use slh_chains::params::{ForsParams, HypertreeParams, WotsParams, XmssParams};
+use slh_core::params::{ForsParams, HypertreeParams, WotsParams, XmssParams};
 
 /// SLH-DSA-SHA2-128s: small signatures.
 pub type Sha2_128s = Sha2L1<U16, U30>;
@@ -40,7 +40,7 @@ impl HypertreeParams for Sha2_128s {
 }
 
 impl ForsParams for Sha2_128s {
-    ghost use Rattle.slh_chains.specs.Parameters.{scheme_of};
+    ghost use Rattle.slh_core.specs.Parameters.{scheme_of};
     ghost use Rattle.slh_hash.specs.Sha2.{sha2_category_1};
     ghost use Rattle.std.proofs.Common.{rules, refl};
 
@@ -86,7 +86,7 @@ impl HypertreeParams for Sha2_128f {
 }
 
 impl ForsParams for Sha2_128f {
-    ghost use Rattle.slh_chains.specs.Parameters.{scheme_of};
+    ghost use Rattle.slh_core.specs.Parameters.{scheme_of};
     ghost use Rattle.slh_hash.specs.Sha2.{sha2_category_1};
     ghost use Rattle.std.proofs.Common.{rules, refl};
 

@@ -10,10 +10,10 @@ use crate::mgf1::mgf1_256;
 use crate::tweaked::{long_hash, short_hash, start};
 use hmac_sha256::{HMAC, Hash};
 use hybrid_array::ArraySize;
-use slh_chains::address::Address;
-use slh_chains::nbytes::NBytes;
-use slh_chains::steps::Steps;
-use slh_chains::suite::HashSuite;
+use slh_core::address::Address;
+use slh_core::nbytes::NBytes;
+use slh_core::steps::Steps;
+use slh_core::suite::HashSuite;
 use std::marker::PhantomData;
 use std::sync::ledger::Ledger;
 

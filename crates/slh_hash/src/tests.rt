@@ -4,10 +4,10 @@ ghost use Rattle.std.specs.Prelude.{◌≡◌, ◌<◌, ◌≤◌};
 
 use crate::{Sha2_128f, Sha2_128s, mgf1_256};
 use hybrid_array::sizes::U16;
-use slh_chains::address::WotsHash;
-use slh_chains::nbytes::NBytes;
-use slh_chains::steps::Steps;
-use slh_chains::suite::HashSuite;
+use slh_core::address::WotsHash;
+use slh_core::nbytes::NBytes;
+use slh_core::steps::Steps;
+use slh_core::suite::HashSuite;
 use std::marker::Brand;
 use std::sync::ledger::{Blank, Ledger};
 use std::test::Fail;

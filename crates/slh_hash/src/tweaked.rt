@@ -6,8 +6,8 @@ use crate::join::put_two;
 use crate::keyed::Sha2Keyed;
 use hmac_sha256::Hash;
 use hybrid_array::ArraySize;
-use slh_chains::address::Address;
-use slh_chains::nbytes::NBytes;
+use slh_core::address::Address;
+use slh_core::nbytes::NBytes;
 
 const BLOCK_LEN: usize = 64;
 

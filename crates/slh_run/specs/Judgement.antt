@@ -1,6 +1,6 @@
 -- What the answer to a job is. Z is the scheme of its parameter set, of values of n bytes.
 use Rattle.std.specs.Prelude.{◌≡◌, ◌⊎◌, ◌==◌, ◌*◌, ◌^◌, ℕ, List, [], ◌∷◌, length, nat_lt, Option, None, Some, Result, Ok, Err, ⊤, if◌then◌else◌}
-use Rattle.slh_chains.specs.Parameters.{Scheme}
+use Rattle.slh_core.specs.Parameters.{Scheme}
 use Rattle.slh_trees.specs.Frame.{frame}
 use Rattle.slh_trees.specs.Keys.{signing_key_bytes}
 use Rattle.slh_trees.specs.Signing.{signature_of}

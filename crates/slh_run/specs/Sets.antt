@@ -1,7 +1,7 @@
 -- The parameter sets by their names (FIPS 205, section 11, table 2).
 use Rattle.std.specs.Prelude.{ℕ, List, Option, None, Some, codes, if◌then◌else◌}
 use Rattle.std.specs.Str.{bytes_eq}
-use Rattle.slh_chains.specs.Parameters.{Scheme, scheme_of}
+use Rattle.slh_core.specs.Parameters.{Scheme, scheme_of}
 use Rattle.slh_hash.specs.Sha2.{sha2_category_1}
 use Rattle.slh_run.specs.declared.set.Set.{Set}
 use Rattle.slh_run.specs.declared.set.Set.TheVariants.{Sha2_128s, Sha2_128f}

@@ -2,16 +2,16 @@
 use Rattle.std.proofs.Common.{◌≡◌, ℕ, ◌+◌, ◌*◌, ◌/◌, ◌^◌, ◌<◌, List, ◌++◌, length, take, drop, arith, ap, ◌∙◌, length-append}
 use Rattle.std.specs.Prelude.{slice_index}
 use Rattle.std.proofs.lemmas.Nat.{div-mul-add}
-use Rattle.slh_chains.specs.Address.{address_bytes}
-use Rattle.slh_chains.specs.Bytes.{joined, part}
-use Rattle.slh_chains.specs.Digits.{digits}
-use Rattle.slh_chains.specs.Suite.{HasLength, Seeded}
-use Rattle.slh_chains.proofs.DigitSteps.{digits_below}
-use Rattle.slh_chains.proofs.Joins.{joined_same, length-joined, part-joined, take_front, drop_front}
-use Rattle.slh_trees.specs.Checking.{checked_fors_node, checked_fors_key, forest_size}
-use Rattle.slh_trees.specs.Forest.{fors_place, leaf_index, fors_secret, fors_leaf, fors_node, fors_path, fors_key, fors_opened, opened_leaves, fors_signature}
+use Rattle.slh_core.specs.Address.{address_bytes}
+use Rattle.slh_core.specs.Bytes.{joined, part}
+use Rattle.slh_core.specs.Digits.{digits}
+use Rattle.slh_core.specs.Suite.{HasLength, Seeded}
+use Rattle.slh_core.proofs.DigitSteps.{digits_below}
+use Rattle.slh_core.proofs.Joins.{joined_same, length-joined, part-joined, take_front, drop_front}
+use Rattle.slh_trees.specs.Checking.{checked_fors_node, fors_pk_from_sig, forest_size}
+use Rattle.slh_trees.specs.Fors.{fors_place, leaf_index, fors_secret, fors_leaf, fors_node, fors_auth_path, fors_pk, fors_opened, opened_leaves, fors_sig}
 use Rattle.slh_trees.specs.Merkle.{merkle}
-use Rattle.slh_trees.proofs.Climbs.{climb-merkle_path, length-merkle_path}
+use Rattle.slh_trees.proofs.Climbs.{climb-merkle_auth_path, length-merkle_auth_path}
 
 length-fors_secret : (K : Seeded) (sk : List ℕ) (t l i : ℕ) → HasLength K.suite K.n → length (fors_secret K sk t l i) ≡ K.n
 unfolding fors_secret
@@ -25,7 +25,7 @@ length-fors_opened : (K : Seeded) (sk : List ℕ) (t l a : ℕ) (x : List ℕ) (
 unfolding fors_opened
 length-fors_opened K sk t l a x i law =
     let y = leaf_index a x i in
-    rw (length-append (fors_secret K sk t l y) (fors_path K sk t l y a), length-fors_secret K sk t l y law, length-merkle_path K (fors_place t l) (fors_leaf K sk t l) y a law (λ k. length-fors_leaf K sk t l k law))
+    rw (length-append (fors_secret K sk t l y) (fors_auth_path K sk t l y a), length-fors_secret K sk t l y law, length-merkle_auth_path K (fors_place t l) (fors_leaf K sk t l) y a law (λ k. length-fors_leaf K sk t l k law))
     (omega arith)
 
 -- one opened secret leads to the root of its tree
@@ -34,7 +34,7 @@ unfolding checked_fors_node opened_leaves fors_opened fors_leaf
 root_of_opened K sk t l k a x i law below small =
     let y = leaf_index a x i in
     let secret = fors_secret K sk t l y in
-    let path = fors_path K sk t l y a in
+    let path = fors_auth_path K sk t l y a in
     let cut : part ((1 + a) * K.n) (joined (fors_opened K sk t l a x) k) i ≡ secret ++ path
     = part-joined (fors_opened K sk t l a x) ((1 + a) * K.n) k i (λ c. length-fors_opened K sk t l a x c law) below in
     let size = length-fors_secret K sk t l y law in
@@ -42,18 +42,18 @@ root_of_opened K sk t l k a x i law below small =
     let rest : drop K.n (secret ++ path) ≡ path = drop_front K.n secret path size in
     let top : y / 2 ^ a ≡ i = div-mul-add i (2 ^ a) (slice_index x i) small in
     rw (cut, first, rest)
-    (climb-merkle_path K (fors_place t l) (fors_leaf K sk t l) y a a law (λ c. length-fors_leaf K sk t l c law) (omega arith)
+    (climb-merkle_auth_path K (fors_place t l) (fors_leaf K sk t l) y a a law (λ c. length-fors_leaf K sk t l c law) (omega arith)
     ∙ ap (λ e. merkle K (fors_place t l) (fors_leaf K sk t l) a e) top)
 
 -- all of them lead to the key
-pub checked_fors_key-signature : (K : Seeded) (sk : List ℕ) (t l k a : ℕ) (md : List ℕ) → HasLength K.suite K.n → checked_fors_key K t l k a (fors_signature K sk t l k a md) md ≡ fors_key K sk t l k a
-unfolding checked_fors_key fors_key
-checked_fors_key-signature K sk t l k a md law =
+pub fors_pk_from_sig-signature : (K : Seeded) (sk : List ℕ) (t l k a : ℕ) (md : List ℕ) → HasLength K.suite K.n → fors_pk_from_sig K t l k a (fors_sig K sk t l k a md) md ≡ fors_pk K sk t l k a
+unfolding fors_pk_from_sig fors_pk
+fors_pk_from_sig-signature K sk t l k a md law =
     ap (K.suite.t K.seed (address_bytes 0 t 4 l 0 0))
     (joined_same _ _ k (λ i below. root_of_opened K sk t l k a (digits md a k) i law below (digits_below md a k i below)))
 
-pub length-fors_signature : (K : Seeded) (sk : List ℕ) (t l k a : ℕ) (md : List ℕ) → HasLength K.suite K.n → length (fors_signature K sk t l k a md) ≡ forest_size K.n k a
+pub length-fors_sig : (K : Seeded) (sk : List ℕ) (t l k a : ℕ) (md : List ℕ) → HasLength K.suite K.n → length (fors_sig K sk t l k a md) ≡ forest_size K.n k a
 unfolding opened_leaves
-length-fors_signature K sk t l k a md law =
+length-fors_sig K sk t l k a md law =
     let x = digits md a k in
     length-joined (fors_opened K sk t l a x) ((1 + a) * K.n) k (λ i. length-fors_opened K sk t l a x i law)

@@ -1,5 +1,5 @@
 pub mod Powers
-pub mod PassSteps
+pub mod TreehashSteps
 pub mod Climbs
 pub mod Layers
 pub mod Numbers

@@ -1,23 +1,23 @@
 -- What a signature leads to, by its bytes and public values alone (FIPS 205, algorithms 11, 13, 17
 -- and 20). K is the suite with its public seed.
 use Rattle.std.specs.Prelude.{ℕ, zero, suc, ◌+◌, ◌*◌, List, take, drop, slice_range}
-use Rattle.slh_chains.specs.Address.{address_bytes}
-use Rattle.slh_chains.specs.Bytes.{joined, part}
-use Rattle.slh_chains.specs.Chain.{checked_leaf}
-use Rattle.slh_chains.specs.Digits.{digits}
-use Rattle.slh_chains.specs.Parameters.{Scheme, chain_count}
-use Rattle.slh_chains.specs.Suite.{Seeded, seeded}
-use Rattle.slh_trees.specs.Forest.{fors_place, leaf_index}
-use Rattle.slh_trees.specs.Layers.{tree_at, leaf_at, layer_size}
+use Rattle.slh_core.specs.Address.{address_bytes}
+use Rattle.slh_core.specs.Bytes.{joined, part}
+use Rattle.slh_core.specs.Wots.{wots_pk_from_sig}
+use Rattle.slh_core.specs.Digits.{digits}
+use Rattle.slh_core.specs.Parameters.{Scheme, chain_count}
+use Rattle.slh_core.specs.Suite.{Seeded, seeded}
+use Rattle.slh_trees.specs.Fors.{fors_place, leaf_index}
+use Rattle.slh_trees.specs.Hypertree.{tree_at, leaf_at, layer_size}
 use Rattle.slh_trees.specs.Merkle.{node_bytes, climb}
 use Rattle.slh_trees.specs.MessageDigest.{split_digest}
-use Rattle.slh_trees.specs.Tree.{tree_place}
+use Rattle.slh_trees.specs.Xmss.{tree_place}
 
 -- in tree t of layer j, the node at height z above leaf y, by the signature of a message
 unfoldable pub checked_node : Seeded → ℕ → ℕ → ℕ → List ℕ → List ℕ → ℕ → List ℕ
 checked_node K j t y sig m z =
     let chains = chain_count K.n * K.n in
-    climb K (tree_place j t) (checked_leaf K j t y (take chains sig) m) y (drop chains sig) z
+    climb K (tree_place j t) (wots_pk_from_sig K j t y (take chains sig) m) y (drop chains sig) z
 
 module _ (K : Seeded) (hp t l : ℕ) (sig m : List ℕ) where
   -- the message below layer j: m, and then the root that the layer below leads to
@@ -37,8 +37,8 @@ module _ (K : Seeded) (t l a : ℕ) (sig x : List ℕ) where
       climb K (fors_place t l) leaf y (drop K.n opened) z
 
 -- the public key of the forest that the signature of the digest's first part leads to
-unfoldable pub checked_fors_key : Seeded → ℕ → ℕ → ℕ → ℕ → List ℕ → List ℕ → List ℕ
-checked_fors_key K t l k a sig md =
+unfoldable pub fors_pk_from_sig : Seeded → ℕ → ℕ → ℕ → ℕ → List ℕ → List ℕ → List ℕ
+fors_pk_from_sig K t l k a sig md =
     let roots : ℕ → List ℕ = λ i. checked_fors_node K t l a sig (digits md a k) i a in
     K.suite.t K.seed (address_bytes 0 t 4 l 0 0) (joined roots k)
 
@@ -57,7 +57,7 @@ digest_root Z s digest sig =
     let parts = split_digest Z digest in
     let upper = Z.n + forest_size Z.n Z.k Z.a in
     let forest = slice_range sig Z.n upper in
-    let key = checked_fors_key K parts.tree parts.leaf Z.k Z.a forest parts.md in
+    let key = fors_pk_from_sig K parts.tree parts.leaf Z.k Z.a forest parts.md in
     checked_message K Z.hp parts.tree parts.leaf (drop upper sig) key Z.d
 
 -- the root that a signature of a message leads to, under a public seed s and a key's root

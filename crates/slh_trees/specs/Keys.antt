@@ -1,14 +1,14 @@
 -- Keys (FIPS 205, section 9.1). A signing key has four parts of n bytes: the secret seed, the PRF
 -- key, the public seed, and the root. A verifying key is the last two.
 use Rattle.std.specs.Prelude.{◌≡◌, ℕ, ◌-◌, List, ◌++◌}
-use Rattle.slh_chains.specs.Bytes.{part}
-use Rattle.slh_chains.specs.Parameters.{Scheme}
-use Rattle.slh_chains.specs.Suite.{seeded}
-use Rattle.slh_trees.specs.Tree.{node}
+use Rattle.slh_core.specs.Bytes.{part}
+use Rattle.slh_core.specs.Parameters.{Scheme}
+use Rattle.slh_core.specs.Suite.{seeded}
+use Rattle.slh_trees.specs.Xmss.{xmss_node}
 
 -- the root of the top tree of a public seed s and a secret seed sk (algorithm 18)
 unfoldable pub top_root : Scheme → List ℕ → List ℕ → List ℕ
-top_root Z s sk = node (seeded Z.suite Z.n s) sk (Z.d - 1) 0 Z.hp 0
+top_root Z s sk = xmss_node (seeded Z.suite Z.n s) sk (Z.d - 1) 0 Z.hp 0
 
 -- the signing key of three seeds
 abbrev pub signing_key_bytes : Scheme → List ℕ → List ℕ → List ℕ → List ℕ

@@ -1,10 +1,10 @@
 pub mod Merkle
-pub mod Tree
-pub mod Layers
-pub mod Forest
+pub mod Xmss
+pub mod Hypertree
+pub mod Fors
 pub mod MessageDigest
 pub mod Checking
-pub mod Stack
+pub mod Treehash
 pub mod ToySuite
 pub mod Keys
 pub mod Signing

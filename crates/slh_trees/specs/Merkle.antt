@@ -1,9 +1,9 @@
 -- Binary trees of hashes over any leaves, and the way up in them. K is the suite with its public
 -- seed.
 use Rattle.std.specs.Prelude.{ℕ, zero, suc, ◌+◌, ◌-◌, ◌*◌, ◌/◌, ◌%◌, ◌^◌, ◌==◌, if◌then◌else◌, List}
-use Rattle.slh_chains.specs.Address.{address_bytes}
-use Rattle.slh_chains.specs.Bytes.{joined, part}
-use Rattle.slh_chains.specs.Suite.{Seeded}
+use Rattle.slh_core.specs.Address.{address_bytes}
+use Rattle.slh_core.specs.Bytes.{joined, part}
+use Rattle.slh_core.specs.Suite.{Seeded}
 
 -- where a tree stands: the layer, the tree, the type and the first word of its nodes' addresses
 pub record Place : Type 0 where
@@ -28,8 +28,8 @@ module _ (K : Seeded) (B : Place) (leaves : ℕ → List ℕ) where
       K.suite.h K.seed (node_bytes B (suc z) i) (merkle z (2 * i)) (merkle z (2 * i + 1))
 
   -- the siblings on the way up from leaf y, for the first heights
-  unfoldable pub merkle_path : ℕ → ℕ → List ℕ
-  merkle_path y heights = joined (λ z. merkle z (sibling_of (y / 2 ^ z))) heights
+  unfoldable pub merkle_auth_path : ℕ → ℕ → List ℕ
+  merkle_auth_path y heights = joined (λ z. merkle z (sibling_of (y / 2 ^ z))) heights
 
 module _ (K : Seeded) (B : Place) (x : List ℕ) (y : ℕ) (path : List ℕ) where
   -- the node at height z above x, which has index y at height 0, by the siblings that stand in a

@@ -1,7 +1,7 @@
 -- The parts of a message's digest (FIPS 205, algorithms 19 and 20).
 use Rattle.std.specs.Prelude.{ℕ, ◌+◌, ◌-◌, ◌*◌, ◌%◌, ◌^◌, List, take, slice_range}
-use Rattle.slh_chains.specs.Bytes.{number_of}
-use Rattle.slh_chains.specs.Parameters.{Scheme, bytes_for}
+use Rattle.slh_core.specs.Bytes.{number_of}
+use Rattle.slh_core.specs.Parameters.{Scheme, bytes_for}
 
 -- the bytes whose digits name a leaf in each tree of the forest; the tree and the leaf of layer 0
 pub record DigestParts : Type 0 where

@@ -1,10 +1,10 @@
 -- What a key makes (FIPS 205, algorithm 19). Z is the scheme.
 use Rattle.std.specs.Prelude.{ℕ, List, ◌++◌, Option, unwrap_or}
-use Rattle.slh_chains.specs.Bytes.{part}
-use Rattle.slh_chains.specs.Parameters.{Scheme}
-use Rattle.slh_chains.specs.Suite.{seeded}
-use Rattle.slh_trees.specs.Forest.{fors_key, fors_signature}
-use Rattle.slh_trees.specs.Layers.{hypertree_signature}
+use Rattle.slh_core.specs.Bytes.{part}
+use Rattle.slh_core.specs.Parameters.{Scheme}
+use Rattle.slh_core.specs.Suite.{seeded}
+use Rattle.slh_trees.specs.Fors.{fors_pk, fors_sig}
+use Rattle.slh_trees.specs.Hypertree.{ht_sig}
 use Rattle.slh_trees.specs.MessageDigest.{split_digest}
 
 -- the signature of a digest under a public seed s and a secret seed sk: a randomizer, the forest's
@@ -13,10 +13,10 @@ unfoldable pub digest_signature : Scheme → List ℕ → List ℕ → List ℕ 
 digest_signature Z s sk rand digest =
     let K = seeded Z.suite Z.n s in
     let parts = split_digest Z digest in
-    let key = fors_key K sk parts.tree parts.leaf Z.k Z.a in
+    let key = fors_pk K sk parts.tree parts.leaf Z.k Z.a in
     rand
-    ++ fors_signature K sk parts.tree parts.leaf Z.k Z.a parts.md
-    ++ hypertree_signature K Z.hp sk parts.tree parts.leaf key Z.d
+    ++ fors_sig K sk parts.tree parts.leaf Z.k Z.a parts.md
+    ++ ht_sig K Z.hp sk parts.tree parts.leaf key Z.d
 
 -- the signature of a message by a signing key, with a given randomizer
 abbrev pub signature_with : Scheme → List ℕ → List ℕ → List ℕ → List ℕ

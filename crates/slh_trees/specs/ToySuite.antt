@@ -1,6 +1,6 @@
 -- A suite of one byte, whose values can be computed by hand. All sums are modulo 256.
 use Rattle.std.specs.Prelude.{[], ◌∷◌, ◌+◌, ◌*◌, ◌/◌, ◌%◌, sum, slice_index, refl}
-use Rattle.slh_chains.specs.Suite.{Suite, HasLength, HasDigestLength}
+use Rattle.slh_core.specs.Suite.{Suite, HasLength, HasDigestLength}
 
 abbrev pub toy : Suite
 toy = record {

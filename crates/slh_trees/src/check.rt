@@ -6,10 +6,10 @@ use crate::digest::split_digest;
 use crate::fors::fors_pk_from_sig;
 use crate::hypertree::ht_root;
 use hybrid_array::ArraySize;
-use slh_chains::address::ForsTree;
-use slh_chains::nbytes::NBytes;
-use slh_chains::params::{ForsParams, forest_sizes, layer_sizes};
-use slh_chains::steps::Steps;
+use slh_core::address::ForsTree;
+use slh_core::nbytes::NBytes;
+use slh_core::params::{ForsParams, forest_sizes, layer_sizes};
+use slh_core::steps::Steps;
 use std::sync::ledger::Ledger;
 
 /// The root that the bytes of a signature lead to, for a digest.

@@ -1,16 +1,16 @@
 //! The way from a leaf to the root of its tree.
 ghost use Rattle.std.specs.Prelude.{◌≡◌, ◌+◌, ◌*◌, ◌^◌, ◌≤◌, ◌<◌, length};
-ghost use Rattle.slh_chains.specs.Suite.{seeded};
-ghost use Rattle.slh_trees.specs.Forest.{fors_place};
-ghost use Rattle.slh_trees.specs.Merkle.{Place, node_bytes, sibling_of, climb as climbed};
-ghost use Rattle.slh_trees.specs.Tree.{tree_place};
+ghost use Rattle.slh_core.specs.Suite.{seeded};
+ghost use Rattle.slh_trees.specs.Fors.{fors_place};
+ghost use Rattle.slh_trees.specs.Merkle.{Place, node_bytes, sibling_of, climb as spec_climb};
+ghost use Rattle.slh_trees.specs.Xmss.{tree_place};
 
 use hybrid_array::ArraySize;
-use slh_chains::address::{Address, ForsTree, HashTree};
-use slh_chains::nbytes::NBytes;
-use slh_chains::params::{WotsParams, chain_sizes};
-use slh_chains::parts::part_of;
-use slh_chains::steps::Steps;
+use slh_core::address::{Address, ForsTree, HashTree};
+use slh_core::nbytes::NBytes;
+use slh_core::params::{WotsParams, chain_sizes};
+use slh_core::parts::part_of;
+use slh_core::steps::Steps;
 use std::sync::ledger::Ledger;
 
 /// The address of a node of a tree.
@@ -73,7 +73,7 @@ pub(crate) fn climb_path<P: WotsParams, A: NodeAddress + Drop, L: Ledger>(
     requires few { heights ≤ 31 }
     requires whole { length path.now ≡ heights * P.N.USIZE }
     ensures value { let K = seeded P.suite P.N.USIZE (P.seed_of keyed.now) in
-        result ≡ climbed K (A.place adrs.now) leaf.now idx path.now heights }
+        result ≡ spec_climb K (A.place adrs.now) leaf.now idx path.now heights }
     ensures cost { steps.new ≡ steps.old + heights }
 {
     chain_sizes::<P>();

@@ -2,7 +2,7 @@
 // hidden behind a step counter of its own: the wanted numbers are those of the standard's
 // algorithms, by hand.
 ghost use Rattle.std.specs.Prelude.{◌≡◌, ◌<◌, refl};
-ghost use Rattle.slh_chains.specs.Parameters.{scheme_of};
+ghost use Rattle.slh_core.specs.Parameters.{scheme_of};
 ghost use Rattle.slh_trees.specs.ToySuite.{toy, toy_lengths, toy_digest_length};
 
 use crate::fors::{fors_node, fors_pk_from_sig, fors_sign, fors_sign_root, fors_sk_gen};
@@ -10,12 +10,12 @@ use crate::hypertree::{ht_sign, ht_verify};
 use crate::toy::Toy;
 use crate::xmss::{xmss_node, xmss_pk_from_sig, xmss_sign, xmss_sign_root};
 use hybrid_array::sizes::{U1, U2, U3, U4, U5};
-use slh_chains::address::{Address, ForsTree, WotsHash};
-use slh_chains::nbytes::NBytes;
-use slh_chains::params::{ForsParams, HypertreeParams, WotsParams, XmssParams};
-use slh_chains::steps::Steps;
-use slh_chains::suite::HashSuite;
-use slh_chains::wots::{wots_chain, wots_pk_from_sig, wots_pk_gen, wots_sign};
+use slh_core::address::{Address, ForsTree, WotsHash};
+use slh_core::nbytes::NBytes;
+use slh_core::params::{ForsParams, HypertreeParams, WotsParams, XmssParams};
+use slh_core::steps::Steps;
+use slh_core::suite::HashSuite;
+use slh_core::wots::{wots_chain, wots_pk_from_sig, wots_pk_gen, wots_sign};
 use std::cell::Cell;
 use std::marker::Brand;
 use std::sync::ledger::{Blank, Ledger};

@@ -1,11 +1,11 @@
 //! The parts of a message's digest.
 ghost use Rattle.std.specs.Prelude.{◌≡◌, ◌+◌, ◌-◌, ◌%◌, ◌^◌, ◌≤◌, ◌<◌, length};
-ghost use Rattle.slh_chains.specs.Bytes.{number_of};
-ghost use Rattle.slh_chains.specs.Parameters.{bytes_for};
-ghost use Rattle.slh_trees.specs.MessageDigest.{digest_number, split_digest as digest_parts};
+ghost use Rattle.slh_core.specs.Bytes.{number_of};
+ghost use Rattle.slh_core.specs.Parameters.{bytes_for};
+ghost use Rattle.slh_trees.specs.MessageDigest.{digest_number, split_digest as spec_split_digest};
 
 use hybrid_array::ArraySize;
-use slh_chains::params::{ForsParams, forest_sizes, layer_sizes};
+use slh_core::params::{ForsParams, forest_sizes, layer_sizes};
 
 /// The number of a byte string, the highest byte first.
 fn number(bytes: &[u8]) -> u64
@@ -47,9 +47,9 @@ fn number_at(digest: &[u8], from: usize, bits: usize) -> u64
 /// of the lowest layer (FIPS 205, algorithms 19 and 20).
 pub fn split_digest<P: ForsParams>(digest: &[u8]) -> (&[u8], u64, u32)
     requires { length digest.now ≡ P.M.USIZE }
-    ensures md { result.0.now ≡ (digest_parts P.scheme digest.now).md }
-    ensures tree { result.1 ≡ (digest_parts P.scheme digest.now).tree }
-    ensures leaf { result.2 ≡ (digest_parts P.scheme digest.now).leaf }
+    ensures md { result.0.now ≡ (spec_split_digest P.scheme digest.now).md }
+    ensures tree { result.1 ≡ (spec_split_digest P.scheme digest.now).tree }
+    ensures leaf { result.2 ≡ (spec_split_digest P.scheme digest.now).leaf }
     ensures md_len { length result.0.now ≡ P.MD.USIZE }
     ensures tree_below { result.1 < 2 ^ (P.H.USIZE - P.HPrime.USIZE) }
     ensures leaf_below { result.2 < 2 ^ P.HPrime.USIZE }

@@ -1,27 +1,27 @@
 //! FORS: the forest below a leaf of the lowest layer (FIPS 205, section 8).
 ghost use Rattle.std.specs.Prelude.{◌≡◌, ◌+◌, ◌-◌, ◌*◌, ◌^◌, ◌≤◌, ◌<◌, ◌++◌, length, take, drop};
 ghost use Rattle.std.specs.Prelude.{slice_index, EachIndex};
-ghost use Rattle.slh_chains.specs.Bytes.{joined};
-ghost use Rattle.slh_chains.specs.Suite.{seeded};
-ghost use Rattle.slh_trees.specs.Checking.{checked_fors_node, checked_fors_key};
-ghost use Rattle.slh_trees.specs.Forest.{fors_place, fors_secret, fors_leaf, fors_node as forest_node};
-ghost use Rattle.slh_trees.specs.Forest.{fors_path, fors_key, opened_leaves, fors_signature};
-ghost use Rattle.slh_trees.specs.Merkle.{node_bytes, climb as climbed};
+ghost use Rattle.slh_core.specs.Bytes.{joined};
+ghost use Rattle.slh_core.specs.Suite.{seeded};
+ghost use Rattle.slh_trees.specs.Checking.{checked_fors_node, fors_pk_from_sig as spec_fors_pk_from_sig};
+ghost use Rattle.slh_trees.specs.Fors.{fors_place, fors_secret, fors_leaf, fors_node as spec_fors_node};
+ghost use Rattle.slh_trees.specs.Fors.{fors_auth_path, fors_pk, opened_leaves, fors_sig};
+ghost use Rattle.slh_trees.specs.Merkle.{node_bytes, climb as spec_climb};
 
 use crate::climb::{NodeAddress, climb_path, sibling};
 use crate::laws::forest_leads_to_key;
-use crate::pass::{node_of, push_leaf};
+use crate::treehash::{node_of, push_leaf};
 use hybrid_array::ArraySize;
-use slh_chains::address::{ForsPrf, ForsTree};
-use slh_chains::digits::base_2b;
-use slh_chains::nbytes::NBytes;
-use slh_chains::params::{ForsParams, forest_sizes};
-use slh_chains::parts::put_part;
-use slh_chains::steps::Steps;
+use slh_core::address::{ForsPrf, ForsTree};
+use slh_core::digits::base_2b;
+use slh_core::nbytes::NBytes;
+use slh_core::params::{ForsParams, forest_sizes};
+use slh_core::parts::put_part;
+use slh_core::steps::Steps;
 use std::sync::ledger::Ledger;
 
 /// The secret with an index, which runs through all trees of the forest (FIPS 205, algorithm 14).
-#[tactic(auto, unfolding(crate::specs::Forest::fors_secret))]
+#[tactic(auto, unfolding(crate::specs::Fors::fors_secret))]
 pub fn fors_sk_gen<P: ForsParams, L: Ledger>(
     sk_seed: &NBytes<P::N>,
     keyed: &P::Keyed,
@@ -43,7 +43,7 @@ pub fn fors_sk_gen<P: ForsParams, L: Ledger>(
 }
 
 /// The hash of the secret with an index.
-#[tactic(auto, unfolding(crate::specs::Forest::fors_leaf))]
+#[tactic(auto, unfolding(crate::specs::Fors::fors_leaf))]
 fn leaf_at<P: ForsParams, L: Ledger>(
     sk_seed: &NBytes<P::N>,
     keyed: &P::Keyed,
@@ -87,7 +87,7 @@ pub fn fors_node<P: ForsParams, L: Ledger>(
     requires node { i < P.K.USIZE * 2 ^ (P.A.USIZE - z) }
     ensures value { let K = seeded P.suite P.N.USIZE (P.seed_of keyed.now) in
         let a = adrs.now in
-        result ≡ forest_node K sk_seed.now a.tree_adrs_low a.key_pair_adrs z i }
+        result ≡ spec_fors_node K sk_seed.now a.tree_adrs_low a.key_pair_adrs z i }
     ensures cost { steps.new + 1 ≡ steps.old + 3 * 2 ^ z }
 {
     forest_sizes::<P>();
@@ -101,8 +101,8 @@ pub fn fors_node<P: ForsParams, L: Ledger>(
 }
 
 /// Writes the siblings on the way up from leaf `y`.
-#[tactic(auto, unfolding(crate::specs::Merkle::merkle_path, slh_chains::specs::Bytes::joined))]
-fn write_fors_path<P: ForsParams, L: Ledger>(
+#[tactic(auto, unfolding(crate::specs::Merkle::merkle_auth_path, slh_core::specs::Bytes::joined))]
+fn write_fors_auth_path<P: ForsParams, L: Ledger>(
     sk_seed: &NBytes<P::N>,
     keyed: &P::Keyed,
     y: u32,
@@ -114,7 +114,7 @@ fn write_fors_path<P: ForsParams, L: Ledger>(
     requires room { length out.old ≡ P.A.USIZE * P.N.USIZE }
     ensures value { let K = seeded P.suite P.N.USIZE (P.seed_of keyed.now) in
         let a = adrs.now in
-        out.new ≡ fors_path K sk_seed.now a.tree_adrs_low a.key_pair_adrs y P.A.USIZE }
+        out.new ≡ fors_auth_path K sk_seed.now a.tree_adrs_low a.key_pair_adrs y P.A.USIZE }
     ensures cost { steps.new + P.A.USIZE + 3 ≡ steps.old + 3 * 2 ^ P.A.USIZE }
 {
     forest_sizes::<P>();
@@ -126,7 +126,7 @@ fn write_fors_path<P: ForsParams, L: Ledger>(
 }
 
 /// Opens the secret with index `y`: writes it, and the siblings on the way up from it.
-#[tactic(auto, unfolding(crate::specs::Forest::fors_leaf))]
+#[tactic(auto, unfolding(crate::specs::Fors::fors_leaf))]
 fn open_secret<P: ForsParams, L: Ledger>(
     sk_seed: &NBytes<P::N>,
     keyed: &P::Keyed,
@@ -140,13 +140,13 @@ fn open_secret<P: ForsParams, L: Ledger>(
     ensures value { let K = seeded P.suite P.N.USIZE (P.seed_of keyed.now) in
         let a = adrs.now in
         out.new ≡ fors_secret K sk_seed.now a.tree_adrs_low a.key_pair_adrs y
-        ++ fors_path K sk_seed.now a.tree_adrs_low a.key_pair_adrs y P.A.USIZE }
+        ++ fors_auth_path K sk_seed.now a.tree_adrs_low a.key_pair_adrs y P.A.USIZE }
     ensures cost { steps.new + P.A.USIZE + 2 ≡ steps.old + 3 * 2 ^ P.A.USIZE }
 {
     forest_sizes::<P>();
     let (secret, path) = out.split_at_mut(P::N::USIZE);
     secret.copy_from_slice(fors_sk_gen::<P, L>(sk_seed, keyed, adrs, y, steps).as_slice());
-    write_fors_path::<P, L>(sk_seed, keyed, y, adrs, path, steps);
+    write_fors_auth_path::<P, L>(sk_seed, keyed, y, adrs, path, steps);
 }
 
 /// How many bytes are opened in one tree.
@@ -173,7 +173,7 @@ pub fn fors_sign<P: ForsParams, L: Ledger>(
     ensures value { let K = seeded P.suite P.N.USIZE (P.seed_of keyed.now) in
         let t = adrs.now.tree_adrs_low in
         let l = adrs.now.key_pair_adrs in
-        out.new ≡ fors_signature K sk_seed.now t l P.K.USIZE P.A.USIZE md.now }
+        out.new ≡ fors_sig K sk_seed.now t l P.K.USIZE P.A.USIZE md.now }
     ensures cost { let k = P.K.USIZE in
         steps.new + k * (P.A.USIZE + 2) ≡ steps.old + k * (3 * 2 ^ P.A.USIZE) }
 {
@@ -185,7 +185,7 @@ pub fn fors_sign<P: ForsParams, L: Ledger>(
 }
 
 /// Opens one secret in each tree, by its digit.
-#[tactic(auto, unfolding(crate::specs::Forest::opened_leaves, slh_chains::specs::Bytes::joined))]
+#[tactic(auto, unfolding(crate::specs::Fors::opened_leaves, slh_core::specs::Bytes::joined))]
 fn open_all<P: ForsParams, L: Ledger>(
     digits: &[u16],
     sk_seed: &NBytes<P::N>,
@@ -225,7 +225,7 @@ fn index_of<P: ForsParams>(i: usize, digit: u16) -> u32
 
 /// The forest's public key that the signature of the digest's first part leads to (FIPS 205,
 /// algorithm 17).
-#[tactic(auto, unfolding(crate::specs::Checking::checked_fors_key))]
+#[tactic(auto, unfolding(crate::specs::Checking::fors_pk_from_sig))]
 pub fn fors_pk_from_sig<P: ForsParams, L: Ledger>(
     sig: &[u8],
     md: &[u8],
@@ -238,7 +238,7 @@ pub fn fors_pk_from_sig<P: ForsParams, L: Ledger>(
     ensures value { let K = seeded P.suite P.N.USIZE (P.seed_of keyed.now) in
         let t = adrs.now.tree_adrs_low in
         let l = adrs.now.key_pair_adrs in
-        result ≡ checked_fors_key K t l P.K.USIZE P.A.USIZE sig.now md.now }
+        result ≡ spec_fors_pk_from_sig K t l P.K.USIZE P.A.USIZE sig.now md.now }
     ensures cost { steps.new ≡ steps.old + (P.K.USIZE * (1 + P.A.USIZE) + 1) }
 {
     forest_sizes::<P>();
@@ -252,7 +252,7 @@ pub fn fors_pk_from_sig<P: ForsParams, L: Ledger>(
 }
 
 /// Climbs from each opened secret to the root of its tree.
-#[tactic(auto, unfolding(slh_chains::specs::Bytes::joined))]
+#[tactic(auto, unfolding(slh_core::specs::Bytes::joined))]
 fn climb_all<P: ForsParams, L: Ledger>(
     digits: &[u16],
     sig: &[u8],
@@ -294,7 +294,7 @@ fn climb_opened<P: ForsParams, L: Ledger>(
     ensures value { let K = seeded P.suite P.N.USIZE (P.seed_of keyed.now) in
         let B = fors_place adrs.now.tree_adrs_low adrs.now.key_pair_adrs in
         let leaf = K.suite.f K.seed (node_bytes B 0 y) (take P.N.USIZE opened.now) in
-        result ≡ climbed K B leaf y (drop P.N.USIZE opened.now) P.A.USIZE }
+        result ≡ spec_climb K B leaf y (drop P.N.USIZE opened.now) P.A.USIZE }
     ensures cost { steps.new ≡ steps.old + (1 + P.A.USIZE) }
 {
     forest_sizes::<P>();
@@ -319,11 +319,11 @@ pub fn fors_sign_root<P: ForsParams, L: Ledger>(
     ensures key { let K = seeded P.suite P.N.USIZE (P.seed_of keyed.now) in
         let t = adrs.now.tree_adrs_low in
         let l = adrs.now.key_pair_adrs in
-        result ≡ fors_key K sk_seed.now t l P.K.USIZE P.A.USIZE }
+        result ≡ fors_pk K sk_seed.now t l P.K.USIZE P.A.USIZE }
     ensures value { let K = seeded P.suite P.N.USIZE (P.seed_of keyed.now) in
         let t = adrs.now.tree_adrs_low in
         let l = adrs.now.key_pair_adrs in
-        out.new ≡ fors_signature K sk_seed.now t l P.K.USIZE P.A.USIZE md.now }
+        out.new ≡ fors_sig K sk_seed.now t l P.K.USIZE P.A.USIZE md.now }
     ensures cost { steps.new + P.K.USIZE ≡ steps.old + (P.K.USIZE * (3 * 2 ^ P.A.USIZE) + 1) }
 {
     forest_leads_to_key::<P>();

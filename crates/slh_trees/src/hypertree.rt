@@ -1,16 +1,16 @@
 //! The hypertree: layers of trees, each of which signs the root below (FIPS 205, section 7).
 ghost use Rattle.std.specs.Prelude.{◌≡◌, ◌↔◌, ◌+◌, ◌-◌, ◌*◌, ◌/◌, ◌%◌, ◌^◌, ◌≤◌, ◌<◌};
 ghost use Rattle.std.specs.Prelude.{length, IsTrue};
-ghost use Rattle.slh_chains.specs.Suite.{seeded};
+ghost use Rattle.slh_core.specs.Suite.{seeded};
 ghost use Rattle.slh_trees.specs.Checking.{checked_message};
-ghost use Rattle.slh_trees.specs.Layers.{hypertree_signature, layer_size};
+ghost use Rattle.slh_trees.specs.Hypertree.{ht_sig, layer_size};
 
 use crate::xmss::{xmss_pk_from_sig, xmss_sign_root};
 use hybrid_array::ArraySize;
-use slh_chains::address::WotsHash;
-use slh_chains::nbytes::NBytes;
-use slh_chains::params::{HypertreeParams, XmssParams, layer_sizes, tree_sizes};
-use slh_chains::steps::Steps;
+use slh_core::address::WotsHash;
+use slh_core::nbytes::NBytes;
+use slh_core::params::{HypertreeParams, XmssParams, layer_sizes, tree_sizes};
+use slh_core::steps::Steps;
 use std::sync::ledger::Ledger;
 
 /// How many bytes a layer's signature has.
@@ -54,7 +54,7 @@ fn tree_adrs_of(layer: u32, tree: u64) -> WotsHash
 
 /// Writes the signature of a message under a leaf of a tree of the lowest layer: the signatures of
 /// all layers, from the lowest up (FIPS 205, algorithm 12).
-#[tactic(auto, unfolding(crate::specs::Layers::hypertree_signature, slh_chains::specs::Bytes::joined))]
+#[tactic(auto, unfolding(crate::specs::Hypertree::ht_sig, slh_core::specs::Bytes::joined))]
 pub fn ht_sign<P: HypertreeParams, L: Ledger>(
     m: &NBytes<P::N>,
     sk_seed: &NBytes<P::N>,
@@ -69,7 +69,7 @@ pub fn ht_sign<P: HypertreeParams, L: Ledger>(
     requires room { length out.old ≡ P.D.USIZE * layer_size P.N.USIZE P.HPrime.USIZE }
     ensures value { let K = seeded P.suite P.N.USIZE (P.seed_of keyed.now) in
         let hp = P.HPrime.USIZE in
-        out.new ≡ hypertree_signature K hp sk_seed.now idx_tree idx_leaf m.now P.D.USIZE }
+        out.new ≡ ht_sig K hp sk_seed.now idx_tree idx_leaf m.now P.D.USIZE }
     ensures cost { let tree_cost = 2 ^ P.HPrime.USIZE * (16 * P.WotsSigLen.USIZE + 2) in
         steps.new + P.D.USIZE ≡ steps.old + P.D.USIZE * tree_cost }
 {

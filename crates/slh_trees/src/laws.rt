@@ -1,20 +1,20 @@
 //! Laws of trees, layers and forests, each the contract of a function that does nothing.
 ghost use Rattle.std.specs.Prelude.{◌≡◌, ℕ, suc, ◌+◌, ◌/◌, ◌*◌, ◌^◌, ◌<◌, ◌≤◌, List, length};
-ghost use Rattle.slh_chains.specs.Bytes.{part};
-ghost use Rattle.slh_chains.specs.Chain.{leaf};
-ghost use Rattle.slh_chains.specs.Suite.{seeded};
-ghost use Rattle.slh_trees.specs.Checking.{checked_fors_key, checked_message, checked_node};
+ghost use Rattle.slh_core.specs.Bytes.{part};
+ghost use Rattle.slh_core.specs.Wots.{wots_pk};
+ghost use Rattle.slh_core.specs.Suite.{seeded};
+ghost use Rattle.slh_trees.specs.Checking.{fors_pk_from_sig, checked_message, checked_node};
 ghost use Rattle.slh_trees.specs.Checking.{checked_root, digest_root, signature_size};
-ghost use Rattle.slh_trees.specs.Forest.{fors_key, fors_signature};
+ghost use Rattle.slh_trees.specs.Fors.{fors_pk, fors_sig};
 ghost use Rattle.slh_trees.specs.Keys.{top_root};
-ghost use Rattle.slh_trees.specs.Layers.{hypertree_signature, layer_message};
+ghost use Rattle.slh_trees.specs.Hypertree.{ht_sig, layer_message};
 ghost use Rattle.slh_trees.specs.Merkle.{climb};
 ghost use Rattle.slh_trees.specs.Signing.{digest_signature, signature_with};
-ghost use Rattle.slh_trees.specs.Tree.{tree_place, node, node_path, signed_leaf};
+ghost use Rattle.slh_trees.specs.Xmss.{tree_place, xmss_node, auth_path, xmss_sig};
 
 use hybrid_array::ArraySize;
-pub use slh_chains::laws::{chain_continues, signature_leads_to_leaf};
-use slh_chains::params::{ForsParams, HypertreeParams, XmssParams};
+pub use slh_core::laws::{chain_continues, signature_leads_to_leaf};
+use slh_core::params::{ForsParams, HypertreeParams, XmssParams};
 
 /// A leaf of a tree and the siblings on the way up from it lead to the tree's root.
 pub fn path_leads_to_root<P: XmssParams>()
@@ -22,8 +22,8 @@ pub fn path_leads_to_root<P: XmssParams>()
         → y < 2 ^ P.HPrime.USIZE
         → let K = seeded P.suite P.N.USIZE s in
         let hp = P.HPrime.USIZE in
-        let path = node_path K sk j t y hp in
-        climb K (tree_place j t) (leaf K sk j t y) y path hp ≡ node K sk j t hp 0 }
+        let path = auth_path K sk j t y hp in
+        climb K (tree_place j t) (wots_pk K sk j t y) y path hp ≡ xmss_node K sk j t hp 0 }
 {}
 
 /// The signature of a message under a leaf of a tree leads to the tree's root.
@@ -32,7 +32,7 @@ pub fn signature_leads_to_root<P: XmssParams>()
         → y < 2 ^ P.HPrime.USIZE
         → let K = seeded P.suite P.N.USIZE s in
         let hp = P.HPrime.USIZE in
-        checked_node K j t y (signed_leaf K sk j t y m hp) m hp ≡ node K sk j t hp 0 }
+        checked_node K j t y (xmss_sig K sk j t y m hp) m hp ≡ xmss_node K sk j t hp 0 }
 {}
 
 /// What the layers of a signature lead to, below any layer, is the message that this layer signs,
@@ -43,12 +43,12 @@ pub fn layers_sign_roots<P: HypertreeParams>()
         → j ≤ d
         → let K = seeded P.suite P.N.USIZE s in
         let hp = P.HPrime.USIZE in
-        let sig = hypertree_signature K hp sk t l m d in
+        let sig = ht_sig K hp sk t l m d in
         checked_message K hp t l sig m j ≡ layer_message K hp sk t l m j }
     ensures root { (s sk m : List ℕ) (t l j : ℕ)
         → let K = seeded P.suite P.N.USIZE s in
         let hp = P.HPrime.USIZE in
-        layer_message K hp sk t l m (suc j) ≡ node K sk j (t / 2 ^ (j * hp)) hp 0 }
+        layer_message K hp sk t l m (suc j) ≡ xmss_node K sk j (t / 2 ^ (j * hp)) hp 0 }
 {}
 
 /// The signature of the digest's first part leads to the forest's own public key.
@@ -57,8 +57,8 @@ pub fn forest_leads_to_key<P: ForsParams>()
         → let K = seeded P.suite P.N.USIZE s in
         let k = P.K.USIZE in
         let a = P.A.USIZE in
-        let sig = fors_signature K sk t l k a md in
-        checked_fors_key K t l k a sig md ≡ fors_key K sk t l k a }
+        let sig = fors_sig K sk t l k a md in
+        fors_pk_from_sig K t l k a sig md ≡ fors_pk K sk t l k a }
 {}
 
 /// The signature of a digest with any randomizer leads to the root of the key's top tree.

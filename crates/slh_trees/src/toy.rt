@@ -1,14 +1,14 @@
 //! A suite of one byte, whose values can be computed by hand. It hides nothing.
 ghost use Rattle.std.specs.Prelude.{◌≡◌, ◌%◌, ◌<◌, ◌++◌, [], ◌∷◌, sum, slice_index, refl};
-ghost use Rattle.slh_chains.specs.Parameters.{scheme_of};
+ghost use Rattle.slh_core.specs.Parameters.{scheme_of};
 ghost use Rattle.slh_trees.specs.ToySuite.{toy, toy_lengths, toy_digest_length};
 
 use hybrid_array::sizes::{U1, U2, U3, U4, U5};
-use slh_chains::address::Address;
-use slh_chains::nbytes::NBytes;
-use slh_chains::params::{ForsParams, HypertreeParams, WotsParams, XmssParams};
-use slh_chains::steps::Steps;
-use slh_chains::suite::HashSuite;
+use slh_core::address::Address;
+use slh_core::nbytes::NBytes;
+use slh_core::params::{ForsParams, HypertreeParams, WotsParams, XmssParams};
+use slh_core::steps::Steps;
+use slh_core::suite::HashSuite;
 use std::sync::ledger::Ledger;
 
 /// Two layers of trees of height 2, and two trees of height 2 below them, over values of one byte.

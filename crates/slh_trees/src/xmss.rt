@@ -1,20 +1,20 @@
 //! XMSS: the trees of a layer (FIPS 205, section 6).
 ghost use Rattle.std.specs.Prelude.{◌≡◌, ◌+◌, ◌-◌, ◌*◌, ◌^◌, ◌≤◌, ◌<◌, ◌++◌, length, sum};
-ghost use Rattle.slh_chains.specs.Digits.{wots_digits};
-ghost use Rattle.slh_chains.specs.Suite.{seeded};
+ghost use Rattle.slh_core.specs.Digits.{wots_digits};
+ghost use Rattle.slh_core.specs.Suite.{seeded};
 ghost use Rattle.slh_trees.specs.Checking.{checked_node};
-ghost use Rattle.slh_trees.specs.Tree.{node as tree_node, node_path, signed_leaf};
+ghost use Rattle.slh_trees.specs.Xmss.{xmss_node as spec_xmss_node, auth_path, xmss_sig};
 
 use crate::climb::{climb_path, sibling};
 use crate::laws::path_leads_to_root;
-use crate::pass::{node_of, push_leaf};
+use crate::treehash::{node_of, push_leaf};
 use hybrid_array::ArraySize;
-use slh_chains::address::{HashTree, WotsHash};
-use slh_chains::nbytes::NBytes;
-use slh_chains::params::{XmssParams, tree_sizes};
-use slh_chains::parts::put_part;
-use slh_chains::steps::Steps;
-use slh_chains::wots::{wots_pk_from_sig, wots_pk_gen, wots_sign, wots_sign_leaf};
+use slh_core::address::{HashTree, WotsHash};
+use slh_core::nbytes::NBytes;
+use slh_core::params::{XmssParams, tree_sizes};
+use slh_core::parts::put_part;
+use slh_core::steps::Steps;
+use slh_core::wots::{wots_pk_from_sig, wots_pk_gen, wots_sign, wots_sign_leaf};
 use std::sync::ledger::Ledger;
 
 /// The address of another key pair of the same tree.
@@ -56,7 +56,7 @@ pub fn xmss_node<P: XmssParams, L: Ledger>(
     requires node { node < 2 ^ (P.HPrime.USIZE - height) }
     ensures value { let K = seeded P.suite P.N.USIZE (P.seed_of keyed.now) in
         let a = adrs.now in
-        result ≡ tree_node K sk_seed.now a.layer_adrs a.tree_adrs_low height node }
+        result ≡ spec_xmss_node K sk_seed.now a.layer_adrs a.tree_adrs_low height node }
     ensures cost { steps.new + 1 ≡ steps.old + 2 ^ height * (16 * P.WotsSigLen.USIZE + 2) }
 {
     tree_sizes::<P>();
@@ -71,8 +71,8 @@ pub fn xmss_node<P: XmssParams, L: Ledger>(
 }
 
 /// Writes the siblings on the way up from leaf `idx`.
-#[tactic(auto, using(crate::proofs::Powers::twice, crate::proofs::Powers::sibling_below), unfolding(crate::specs::Merkle::merkle_path, slh_chains::specs::Bytes::joined))]
-fn write_path<P: XmssParams, L: Ledger>(
+#[tactic(auto, using(crate::proofs::Powers::twice, crate::proofs::Powers::sibling_below), unfolding(crate::specs::Merkle::merkle_auth_path, slh_core::specs::Bytes::joined))]
+fn write_auth_path<P: XmssParams, L: Ledger>(
     sk_seed: &NBytes<P::N>,
     keyed: &P::Keyed,
     idx: u32,
@@ -84,7 +84,7 @@ fn write_path<P: XmssParams, L: Ledger>(
     requires room { length out.old ≡ P.HPrime.USIZE * P.N.USIZE }
     ensures value { let K = seeded P.suite P.N.USIZE (P.seed_of keyed.now) in
         let a = adrs.now in
-        out.new ≡ node_path K sk_seed.now a.layer_adrs a.tree_adrs_low idx P.HPrime.USIZE }
+        out.new ≡ auth_path K sk_seed.now a.layer_adrs a.tree_adrs_low idx P.HPrime.USIZE }
     ensures cost { let leaf_cost = 16 * P.WotsSigLen.USIZE + 2 in
         steps.new + P.HPrime.USIZE + leaf_cost ≡ steps.old + 2 ^ P.HPrime.USIZE * leaf_cost }
 {
@@ -113,7 +113,7 @@ pub fn xmss_sign<P: XmssParams, L: Ledger>(
     ensures value { let K = seeded P.suite P.N.USIZE (P.seed_of keyed.now) in
         let a = adrs.now in
         let hp = P.HPrime.USIZE in
-        out.new ≡ signed_leaf K sk_seed.now a.layer_adrs a.tree_adrs_low idx m.now hp }
+        out.new ≡ xmss_sig K sk_seed.now a.layer_adrs a.tree_adrs_low idx m.now hp }
     ensures cost { let digits = wots_digits P.N.USIZE m.now in
         let tree_cost = 2 ^ P.HPrime.USIZE * (16 * P.WotsSigLen.USIZE + 2) in
         steps.new + P.HPrime.USIZE + (15 * P.WotsSigLen.USIZE + 2)
@@ -124,7 +124,7 @@ pub fn xmss_sign<P: XmssParams, L: Ledger>(
     let split = P::WotsSigLen::USIZE * P::N::USIZE;
     let (chains, path) = out.split_at_mut(split);
     wots_sign::<P, L>(m, sk_seed, keyed, &at_leaf(adrs, idx), chains, steps);
-    write_path::<P, L>(sk_seed, keyed, idx, adrs, path, steps);
+    write_auth_path::<P, L>(sk_seed, keyed, idx, adrs, path, steps);
 }
 
 /// The root that the signature of a message under leaf `idx` leads to (FIPS 205, algorithm 11).
@@ -169,11 +169,11 @@ pub fn xmss_sign_root<P: XmssParams, L: Ledger>(
     requires room { length out.old ≡ (P.WotsSigLen.USIZE + P.HPrime.USIZE) * P.N.USIZE }
     ensures root { let K = seeded P.suite P.N.USIZE (P.seed_of keyed.now) in
         let a = adrs.now in
-        result ≡ tree_node K sk_seed.now a.layer_adrs a.tree_adrs_low P.HPrime.USIZE 0 }
+        result ≡ spec_xmss_node K sk_seed.now a.layer_adrs a.tree_adrs_low P.HPrime.USIZE 0 }
     ensures value { let K = seeded P.suite P.N.USIZE (P.seed_of keyed.now) in
         let a = adrs.now in
         let hp = P.HPrime.USIZE in
-        out.new ≡ signed_leaf K sk_seed.now a.layer_adrs a.tree_adrs_low idx m.now hp }
+        out.new ≡ xmss_sig K sk_seed.now a.layer_adrs a.tree_adrs_low idx m.now hp }
     ensures cost { steps.new + 1 ≡ steps.old + 2 ^ P.HPrime.USIZE * (16 * P.WotsSigLen.USIZE + 2) }
 {
     tree_sizes::<P>();
@@ -181,6 +181,6 @@ pub fn xmss_sign_root<P: XmssParams, L: Ledger>(
     let height = P::HPrime::USIZE;
     let (chains, path) = out.split_at_mut(P::WotsSigLen::USIZE * P::N::USIZE);
     let leaf = wots_sign_leaf::<P, L>(m, sk_seed, keyed, &at_leaf(adrs, idx), chains, steps);
-    write_path::<P, L>(sk_seed, keyed, idx, adrs, path, steps);
+    write_auth_path::<P, L>(sk_seed, keyed, idx, adrs, path, steps);
     climb_path::<P, HashTree, L>(&leaf, idx, height, path, keyed, &adrs.tree_adrs(), steps)
 }

@@ -1,4 +1,4 @@
-use Rattle.slh_chains.specs.Parameters.{scheme_of}
+use Rattle.slh_core.specs.Parameters.{scheme_of}
 use Rattle.slh_dsa.proofs.Accepted.{accepted_message}
 use Rattle.slh_dsa.proofs.laws.signed_is_accepted.Goals as goal
 

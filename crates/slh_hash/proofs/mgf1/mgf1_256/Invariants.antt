@@ -1,6 +1,6 @@
 use Rattle.std.proofs.Common.{◌≡◌, ◌++◌, ◌*◌, take}
 use Rattle.hmac_sha256.specs.Sha256.{sha256}
-use Rattle.slh_chains.specs.Bytes.{big_endian, joined}
+use Rattle.slh_core.specs.Bytes.{big_endian, joined}
 use Rattle.slh_hash.proofs.mgf1.mgf1_256.Given as goal
 
 -- the first i hashes stand at the front of the blocks

@@ -1,5 +1,5 @@
 use Rattle.std.proofs.Common.{◌≡◌, ◌*◌, ◌^◌, ◌<◌, take}
-use Rattle.slh_chains.specs.Bytes.{number_of}
+use Rattle.slh_core.specs.Bytes.{number_of}
 use Rattle.slh_trees.proofs.digest.number.Given as goal
 
 -- the number of the bytes so far

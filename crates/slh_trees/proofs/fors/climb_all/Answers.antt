@@ -1,6 +1,6 @@
 use Rattle.std.proofs.Common.{arith, refl}
 use Rattle.std.proofs.lemmas.Grind.{common_steps}
-use Rattle.slh_chains.proofs.Joins.{joined_more}
+use Rattle.slh_core.proofs.Joins.{joined_more}
 use Rattle.slh_trees.specs.Checking.{checked_fors_node}
 use Rattle.slh_trees.proofs.fors.climb_all.Goals as goal
 

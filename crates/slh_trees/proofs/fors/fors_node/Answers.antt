@@ -1,9 +1,9 @@
 use Rattle.std.proofs.Common.{rules, arith, ◌≡◌, ◌^◌, ◌<◌, ◌∙◌, ap}
 use Rattle.std.specs.Prelude.{count_ones}
 use Rattle.std.proofs.lemmas.Nat.{one_shl}
-use Rattle.slh_chains.specs.Suite.{seeded}
-use Rattle.slh_trees.specs.Forest.{fors_leaf, fors_node}
-use Rattle.slh_trees.proofs.PassSteps.{HoldsNodes-none, HoldsNodes-all, ones-zero, ones-pow}
+use Rattle.slh_core.specs.Suite.{seeded}
+use Rattle.slh_trees.specs.Fors.{fors_leaf, fors_node}
+use Rattle.slh_trees.proofs.TreehashSteps.{HoldsNodes-none, HoldsNodes-all, ones-zero, ones-pow}
 use Rattle.slh_trees.proofs.fors.fors_node.Goals as goal
 
 pub loop-q-init : goal.loop-q-init

@@ -1,8 +1,8 @@
 use Rattle.std.proofs.Common.{◌≡◌, ◌+◌, ◌*◌, length}
 use Rattle.std.specs.Prelude.{count_ones}
-use Rattle.slh_chains.specs.Suite.{seeded}
-use Rattle.slh_trees.specs.Forest.{fors_node}
-use Rattle.slh_trees.specs.Stack.{HoldsNodes}
+use Rattle.slh_core.specs.Suite.{seeded}
+use Rattle.slh_trees.specs.Fors.{fors_node}
+use Rattle.slh_trees.specs.Treehash.{HoldsNodes}
 use Rattle.slh_trees.proofs.fors.fors_node.Given as goal
 
 -- the nodes that are finished after q leaves, and their steps

@@ -1,5 +1,5 @@
 use Rattle.std.proofs.Common.{rules, arith, ◌+◌, ◌*◌, ◌^◌, ◌<◌, refl}
-use Rattle.slh_trees.proofs.PassSteps.{leaf_below_of, shifted_whole}
+use Rattle.slh_trees.proofs.TreehashSteps.{leaf_below_of, shifted_whole}
 use Rattle.slh_trees.proofs.fors.leaf_below.Goals as goal
 
 pub overflow_add-result : goal.overflow_add-result

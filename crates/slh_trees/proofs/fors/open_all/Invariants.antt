@@ -1,7 +1,7 @@
 use Rattle.std.proofs.Common.{◌≡◌, ◌+◌, ◌*◌, ◌^◌, take}
-use Rattle.slh_chains.specs.Bytes.{joined}
-use Rattle.slh_chains.specs.Suite.{seeded}
-use Rattle.slh_trees.specs.Forest.{fors_opened}
+use Rattle.slh_core.specs.Bytes.{joined}
+use Rattle.slh_core.specs.Suite.{seeded}
+use Rattle.slh_trees.specs.Fors.{fors_opened}
 use Rattle.slh_trees.proofs.fors.open_all.Given as goal
 
 -- the trees so far

@@ -1,7 +1,7 @@
 use Rattle.std.proofs.Common.{◌≡◌, ◌+◌, ◌*◌, ◌^◌, ◌<◌, ◌≤◌}
-use Rattle.slh_chains.specs.Suite.{seeded}
+use Rattle.slh_core.specs.Suite.{seeded}
 use Rattle.slh_trees.specs.Checking.{checked_message}
-use Rattle.slh_trees.specs.Layers.{leaf_at, tree_at}
+use Rattle.slh_trees.specs.Hypertree.{leaf_at, tree_at}
 use Rattle.slh_trees.proofs.hypertree.ht_root.Given as goal
 
 -- the root so far, and the place of the next layer

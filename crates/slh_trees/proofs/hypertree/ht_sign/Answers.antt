@@ -1,10 +1,10 @@
 use Rattle.std.proofs.Common.{arith, ◌≡◌, ◌+◌, ◌-◌, ◌*◌, ◌≤◌, [], length, refl}
 use Rattle.std.proofs.lemmas.Grind.{common_steps}
 use Rattle.std.proofs.lemmas.Slice.{take-put_mid}
-use Rattle.slh_chains.specs.Bytes.{joined}
-use Rattle.slh_chains.specs.Suite.{seeded}
-use Rattle.slh_chains.proofs.Joins.{joined_more}
-use Rattle.slh_trees.specs.Layers.{layer_signature}
+use Rattle.slh_core.specs.Bytes.{joined}
+use Rattle.slh_core.specs.Suite.{seeded}
+use Rattle.slh_core.proofs.Joins.{joined_more}
+use Rattle.slh_trees.specs.Hypertree.{layer_signature}
 use Rattle.slh_trees.proofs.Layers.{tree_at-zero, tree_at-more, leaf_at-more, layer_message-more, part_fits}
 use Rattle.slh_trees.proofs.hypertree.ht_sign.Goals as goal
 

@@ -1,9 +1,9 @@
-use Rattle.slh_chains.specs.Suite.{seeded}
-use Rattle.slh_trees.proofs.Forests.{checked_fors_key-signature}
+use Rattle.slh_core.specs.Suite.{seeded}
+use Rattle.slh_trees.proofs.Forests.{fors_pk_from_sig-signature}
 use Rattle.slh_trees.proofs.laws.forest_leads_to_key.Goals as goal
 
 pub returns : goal.returns
 returns g c = λ s sk md t l.
     let K = seeded g.P.HashSuite.suite g.P.N.ArraySize.USIZE s in
     let law = g.met.P.HashSuite.lengths g.met.P.WotsParams.valid_wots.n_high in
-    checked_fors_key-signature K sk t l g.P.K.ArraySize.USIZE g.P.A.ArraySize.USIZE md law
+    fors_pk_from_sig-signature K sk t l g.P.K.ArraySize.USIZE g.P.A.ArraySize.USIZE md law

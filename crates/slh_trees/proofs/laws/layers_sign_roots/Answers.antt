@@ -1,4 +1,4 @@
-use Rattle.slh_chains.specs.Suite.{seeded}
+use Rattle.slh_core.specs.Suite.{seeded}
 use Rattle.slh_trees.proofs.Layers.{checked_message-signature}
 use Rattle.slh_trees.proofs.laws.layers_sign_roots.Goals as goal
 

@@ -1,4 +1,4 @@
-use Rattle.slh_chains.specs.Parameters.{scheme_of}
+use Rattle.slh_core.specs.Parameters.{scheme_of}
 use Rattle.slh_trees.proofs.Signatures.{checked_root-signature}
 use Rattle.slh_trees.proofs.laws.made_leads_to_top.Goals as goal
 

@@ -1,10 +1,10 @@
 use Rattle.std.proofs.Common.{rules, arith, ◌≡◌, ◌^◌, ◌<◌, ◌∙◌, ap, refl}
 use Rattle.std.specs.Prelude.{count_ones}
 use Rattle.std.proofs.lemmas.Nat.{one_shl}
-use Rattle.slh_chains.specs.Chain.{leaf}
-use Rattle.slh_chains.specs.Suite.{seeded}
-use Rattle.slh_trees.specs.Tree.{node}
-use Rattle.slh_trees.proofs.PassSteps.{HoldsNodes-none, HoldsNodes-all, ones-zero, ones-pow}
+use Rattle.slh_core.specs.Wots.{wots_pk}
+use Rattle.slh_core.specs.Suite.{seeded}
+use Rattle.slh_trees.specs.Xmss.{xmss_node}
+use Rattle.slh_trees.proofs.TreehashSteps.{HoldsNodes-none, HoldsNodes-all, ones-zero, ones-pow}
 use Rattle.slh_trees.proofs.xmss.xmss_node.Goals as goal
 
 pub loop-q-init : goal.loop-q-init
@@ -20,7 +20,7 @@ leaf_below-index-requires-clause-leaf g c = omega (arith, one_shl c.args.height 
 pub loop-q-preserved : goal.loop-q-preserved
 loop-q-preserved g c =
     let K = seeded g.P.HashSuite.suite g.P.N.ArraySize.USIZE (g.P.HashSuite.seed_of c.args.keyed.now) in
-    let leaves = leaf K c.args.sk_seed.now c.args.adrs.now.layer_adrs c.args.adrs.now.tree_adrs_low in
+    let leaves = wots_pk K c.args.sk_seed.now c.args.adrs.now.layer_adrs c.args.adrs.now.tree_adrs_low in
     let below : c.loop-q.q < 2 ^ c.args.height = omega (arith, one_shl c.args.height 32 (omega arith)) in
     let holds = rw c.tree_adrs-place.ensures at c.push_leaf.ensures.holds in
     record {
@@ -33,7 +33,7 @@ pub returns-clause-value : goal.returns-clause-value
 returns-clause-value g c =
     let K = seeded g.P.HashSuite.suite g.P.N.ArraySize.USIZE (g.P.HashSuite.seed_of c.args.keyed.now) in
     let all : c.loop-q.q ≡ 2 ^ c.args.height = omega (arith, one_shl c.args.height 32 (omega arith)) in
-    rw c.node_of.ensures (HoldsNodes-all g.P.N.ArraySize.USIZE (node K c.args.sk_seed.now c.args.adrs.now.layer_adrs c.args.adrs.now.tree_adrs_low) c.args.height c.args.node c.loop-q.q c.loop-q.store all c.loop-q.invariant.holds)
+    rw c.node_of.ensures (HoldsNodes-all g.P.N.ArraySize.USIZE (xmss_node K c.args.sk_seed.now c.args.adrs.now.layer_adrs c.args.adrs.now.tree_adrs_low) c.args.height c.args.node c.loop-q.q c.loop-q.store all c.loop-q.invariant.holds)
 
 pub returns-clause-cost : goal.returns-clause-cost
 returns-clause-cost g c =

@@ -1,6 +1,6 @@
 use Rattle.std.proofs.Common.{◌≡◌, ap}
 use Rattle.std.specs.Option.{option_copied}
-use Rattle.slh_chains.specs.Parameters.{Scheme}
+use Rattle.slh_core.specs.Parameters.{Scheme}
 use Rattle.slh_dsa.proofs.KeyParts.{signature_by_parts}
 use Rattle.slh_dsa.proofs.signing_key.SigningKey.slh_sign_counted.Goals as goal
 

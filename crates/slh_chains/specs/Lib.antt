@@ -1,6 +1,0 @@
-pub mod Bytes
-pub mod Address
-pub mod Suite
-pub mod Parameters
-pub mod Digits
-pub mod Chain

@@ -1,0 +1,64 @@
+-- Chains that go on from their middle, and the signatures made of them.
+use Rattle.std.proofs.Common.{◌≡◌, ℕ, zero, suc, ◌+◌, ◌-◌, ◌*◌, ◌<◌, List, length, arith, ap, sym, refl, ◌∙◌, add-zero, add-suc, zero-add}
+use Rattle.std.specs.Prelude.{slice_index}
+use Rattle.slh_core.specs.Address.{address_bytes}
+use Rattle.slh_core.specs.Wots.{chain, chain_secret, chain_value, wots_pk, chain_values, wots_sig, checked_ends, wots_pk_from_sig}
+use Rattle.slh_core.specs.Digits.{wots_digits}
+use Rattle.slh_core.specs.Parameters.{chain_count}
+use Rattle.slh_core.specs.Suite.{HasLength, Seeded}
+use Rattle.slh_core.proofs.DigitSteps.{wots_digits_below}
+use Rattle.slh_core.proofs.Joins.{joined_same, length-joined, part-joined}
+
+pub chain-add : (K : Seeded) (x : List ℕ) (j t l c i q r : ℕ) → chain K j t l c x i (q + r) ≡ chain K j t l c (chain K j t l c x i q) (i + q) r
+unfolding chain
+chain-add K x j t l c i q zero = rw add-zero refl
+chain-add K x j t l c i q (suc r) =
+    let on = chain-add K x j t l c i q r in
+    let place : i + (q + r) ≡ (i + q) + r = omega arith in
+    rw add-suc cc
+
+-- a chain keeps its length
+pub length-chain : (K : Seeded) (x : List ℕ) (j t l c i q : ℕ) → HasLength K.suite K.n → length x ≡ K.n → length (chain K j t l c x i q) ≡ K.n
+unfolding chain
+length-chain K x j t l c i zero law h = h
+length-chain K x j t l c i (suc q) law h = law.f K.seed _ _
+
+pub length-chain_value : (K : Seeded) (sk : List ℕ) (j t l c q : ℕ) → HasLength K.suite K.n → length (chain_value K sk j t l c q) ≡ K.n
+length-chain_value K sk j t l c q law =
+    length-chain K (chain_secret K sk j t l c) j t l c 0 q law (law.prf _ _ _)
+
+pub length-wots_pk : (K : Seeded) (sk : List ℕ) (j t l : ℕ) → HasLength K.suite K.n → length (wots_pk K sk j t l) ≡ K.n
+unfolding wots_pk
+length-wots_pk K sk j t l law = law.t _ _ _
+
+pub length-wots_sig : (K : Seeded) (sk : List ℕ) (j t l : ℕ) (m : List ℕ) → HasLength K.suite K.n → length (wots_sig K sk j t l m) ≡ chain_count K.n * K.n
+unfolding chain_values
+length-wots_sig K sk j t l m law =
+    length-joined _ K.n (chain_count K.n) (λ c. length-chain_value K sk j t l c (slice_index (wots_digits K.n m) c) law)
+
+-- chain values at any digits lead to the leaf of the key
+ends-chain_values : (K : Seeded) (sk : List ℕ) (j t l : ℕ) (w : List ℕ) → HasLength K.suite K.n → ((c : ℕ) → slice_index w c < 16) → K.suite.t K.seed (address_bytes j t 1 l 0 0) (checked_ends K j t l (chain_values K sk j t l w) w) ≡ wots_pk K sk j t l
+unfolding checked_ends chain_values wots_pk
+ends-chain_values K sk j t l w law small =
+    ap (K.suite.t K.seed (address_bytes j t 1 l 0 0)) (joined_same _ _ (chain_count K.n) (λ c below.
+    let digit = slice_index w c in
+    let short : digit < 16 = small c in
+    let whole : digit + (15 - digit) ≡ 15 = omega arith in
+    let sizes : (k : ℕ) → length (chain_value K sk j t l k (slice_index w k)) ≡ K.n
+    = λ k. length-chain_value K sk j t l k (slice_index w k) law in
+    rw (part-joined (λ k. chain_value K sk j t l k (slice_index w k)) K.n (chain_count K.n) c sizes below)
+    (sym (rw zero-add at (chain-add K (chain_secret K sk j t l c) j t l c 0 digit (15 - digit)))
+    ∙ ap (λ q. chain_value K sk j t l c q) whole)))
+
+-- a signature's chains lead to the leaf of the key
+pub wots_pk_from_sig-wots_sig : (K : Seeded) (sk : List ℕ) (j t l : ℕ) (m : List ℕ) → HasLength K.suite K.n → wots_pk_from_sig K j t l (wots_sig K sk j t l m) m ≡ wots_pk K sk j t l
+unfolding wots_pk_from_sig
+wots_pk_from_sig-wots_sig K sk j t l m law =
+    ends-chain_values K sk j t l (wots_digits K.n m) law (λ c. wots_digits_below K.n m c)
+
+-- a key's own chain, taken on from a value on it to its end
+pub chain-chain_value : (K : Seeded) (sk : List ℕ) (j t l c q : ℕ) → q < 16 → chain K j t l c (chain_value K sk j t l c q) q (15 - q) ≡ chain_value K sk j t l c 15
+chain-chain_value K sk j t l c q small =
+    let whole : q + (15 - q) ≡ 15 = omega arith in
+    sym (rw zero-add at (chain-add K (chain_secret K sk j t l c) j t l c 0 q (15 - q)))
+    ∙ ap (λ e. chain_value K sk j t l c e) whole

@@ -1,0 +1,57 @@
+-- Parts that are joined, and found again.
+use Rattle.std.proofs.Common.{◌≡◌, ℕ, zero, suc, ◌+◌, ◌-◌, ◌*◌, ◌<◌, ◌≤◌, List, ◌++◌, length, take, drop, arith, refl, ◌∙◌, add-one, length-append, inl, inr}
+use Rattle.std.specs.Prelude.{slice_range}
+use Rattle.std.proofs.lemmas.List.{drop-append-le, take-append-le, length-drop}
+use Rattle.std.proofs.lemmas.Bool.{cases_lt}
+use Rattle.std.proofs.lemmas.Nat.{mul-le}
+use Rattle.std.proofs.Math.Seq.{drop-append_seam, take-append_seam, take-length}
+use Rattle.slh_core.specs.Bytes.{joined, part}
+
+pub joined_more : (f : ℕ → List ℕ) (k : ℕ) → joined f (k + 1) ≡ joined f k ++ f k
+unfolding joined
+joined_more f k = rw add-one refl
+
+-- parts of n bytes, joined
+pub length-joined : (f : ℕ → List ℕ) (n k : ℕ) → ((c : ℕ) → length (f c) ≡ n) → length (joined f k) ≡ k * n
+unfolding joined
+length-joined f n zero h = omega arith
+length-joined f n (suc k) h =
+    rw (length-append (joined f k) (f k), length-joined f n k h, h k) (omega arith)
+
+-- parts that agree make the same whole
+pub joined_same : (f g : ℕ → List ℕ) (k : ℕ) → ((c : ℕ) → c < k → f c ≡ g c) → joined f k ≡ joined g k
+unfolding joined
+joined_same f g zero h = refl
+joined_same f g (suc k) h =
+    rw (joined_same f g k (λ c below. h c (omega arith)), h k (omega arith)) refl
+
+-- a range within the front, and the range that is the back
+pub range_left : (xs ys : List ℕ) (a b : ℕ) → a ≤ b → b ≤ length xs → slice_range (xs ++ ys) a b ≡ slice_range xs a b
+range_left xs ys a b h k =
+    let inside : b - a ≤ length (drop a xs) = rw (length-drop a xs) (omega arith) in
+    rw (drop-append-le a xs ys (omega arith), take-append-le (b - a) (drop a xs) ys inside) refl
+
+pub range_right : (xs ys : List ℕ) (a b : ℕ) → length xs ≡ a → a + length ys ≡ b → slice_range (xs ++ ys) a b ≡ ys
+range_right xs ys a b h k =
+    let size : b - a ≡ length ys = omega arith in
+    rw (size, ← h, drop-append_seam xs ys, take-length ys) refl
+
+-- each part is found again
+pub part-joined : (f : ℕ → List ℕ) (n k c : ℕ) → ((c : ℕ) → length (f c) ≡ n) → c < k → part n (joined f k) c ≡ f c
+unfolding joined
+part-joined f n zero c h below = absurd (omega arith)
+part-joined f n (suc k) c h below =
+    let size = length-joined f n k h in
+    elim (cases_lt c k) [
+      | inl inside ↦ (let fits : (c + 1) * n ≤ k * n = mul-le (c + 1) n k n (omega arith) (omega arith) in
+          range_left (joined f k) (f k) (c * n) ((c + 1) * n) (omega arith) (omega arith) ∙ part-joined f n k c h inside)
+      | inr past ↦ (let last : c ≡ k = omega arith in
+          rw last (range_right (joined f k) (f k) (k * n) ((k + 1) * n) size (rw (h k) (omega arith))))
+    ]
+
+-- the front of a known length, and what follows it
+pub take_front : (n : ℕ) (xs ys : List ℕ) → length xs ≡ n → take n (xs ++ ys) ≡ xs
+take_front n xs ys size = rw (← size) (take-append_seam xs ys)
+
+pub drop_front : (n : ℕ) (xs ys : List ℕ) → length xs ≡ n → drop n (xs ++ ys) ≡ ys
+drop_front n xs ys size = rw (← size) (drop-append_seam xs ys)

@@ -1,0 +1,17 @@
+use Rattle.std.proofs.Common.{◌≡◌, ◌+◌, ◌*◌, take, length}
+use Rattle.slh_core.specs.Bytes.{joined}
+use Rattle.slh_core.specs.Wots.{chain_value}
+use Rattle.slh_core.specs.Suite.{seeded}
+use Rattle.slh_core.proofs.wots.wots_pk_gen.Given as goal
+
+-- the ends so far, and their steps
+abbrev pub invariant-loop-c : goal.invariant-loop-c
+invariant-loop-c g l =
+    let K = seeded g.P.HashSuite.suite g.P.N.ArraySize.USIZE (g.P.HashSuite.seed_of l.keyed) in
+    let a = l.adrs in
+    record {
+      ends : take (l.c * l.n) l.ends
+          ≡ joined (λ k. chain_value K l.sk_seed a.layer_adrs a.tree_adrs_low a.key_pair_adrs k 15) l.c;
+      room : length l.ends ≡ 2144;
+      cost : l.steps ≡ l.initial.steps + 16 * l.c;
+    }

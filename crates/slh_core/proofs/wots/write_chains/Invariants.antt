@@ -1,0 +1,17 @@
+use Rattle.std.proofs.Common.{◌≡◌, ◌+◌, ◌*◌, take}
+use Rattle.std.specs.Prelude.{sum, slice_index}
+use Rattle.slh_core.specs.Bytes.{joined}
+use Rattle.slh_core.specs.Wots.{chain_value}
+use Rattle.slh_core.specs.Suite.{seeded}
+use Rattle.slh_core.proofs.wots.write_chains.Given as goal
+
+-- the chain values so far, and their steps
+abbrev pub invariant-loop-c : goal.invariant-loop-c
+invariant-loop-c g l =
+    let K = seeded g.P.HashSuite.suite g.P.N.ArraySize.USIZE (g.P.HashSuite.seed_of l.keyed) in
+    let a = l.adrs in
+    record {
+      values : take (l.c * l.n) l.out
+          ≡ joined (λ k. chain_value K l.sk_seed a.layer_adrs a.tree_adrs_low a.key_pair_adrs k (slice_index l.digits k)) l.c;
+      cost : l.steps ≡ l.initial.steps + (l.c + sum (take l.c l.digits));
+    }

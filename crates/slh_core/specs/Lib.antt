@@ -1,0 +1,6 @@
+pub mod Bytes
+pub mod Address
+pub mod Suite
+pub mod Parameters
+pub mod Digits
+pub mod Wots

@@ -1,0 +1,94 @@
+//! Digits cut from the bits of a byte string.
+ghost use Rattle.std.specs.Prelude.{◌≡◌, ◌+◌, ◌-◌, ◌*◌, ◌^◌, ◌≤◌, ◌<◌, length, take, sum_by};
+ghost use Rattle.std.specs.Prelude.{slice_index, EachIndex};
+ghost use Rattle.slh_core.specs.Digits.{digits, wots_digits};
+ghost use Rattle.slh_core.specs.Parameters.{chain_count};
+
+use crate::nbytes::NBytes;
+use hybrid_array::ArraySize;
+
+/// Cuts the front of `x` into digits of `b` bits, one for each place of `out` (FIPS 205, algorithm
+/// 4).
+#[tactic(auto, unfolding(crate::specs::Digits::listed))]
+pub fn base_2b(x: &[u8], b: u32, out: &mut [u16])
+    requires low { 1 ≤ b }
+    requires high { b ≤ 16 }
+    requires enough { b * length out.old ≤ 8 * length x.now }
+    ensures value { out.new ≡ digits x.now b (length out.old) }
+    ensures below { EachIndex out.new (λ k. slice_index out.new k < 2 ^ b) }
+{
+    let mut at = 0usize;
+    let mut bits = 0u32;
+    let mut total = 0u32;
+    for slot in out.iter_mut() {
+        while bits < b {
+            total = total * 256 + u32::from(x[at]);
+            at += 1;
+            bits += 8;
+        }
+        bits -= b;
+        *slot = (total >> bits) as u16;
+        total &= (1 << bits) - 1;
+    }
+}
+
+/// The digits of a message and of its checksum, in the front of 67 places.
+#[tactic(auto, unfolding(crate::specs::Digits::wots_digits))]
+pub(crate) fn message_digits<N: ArraySize>(m: &NBytes<N>) -> [u16; 67]
+    ensures { take (chain_count N.USIZE) result ≡ wots_digits N.USIZE m.now }
+{
+    let bytes = m.as_slice();
+    let mut all = [0u16; 67];
+    let len = 2 * N::USIZE;
+    base_2b(bytes, 4, &mut all[..len]);
+    let sum = checksum_of(&all[..len]);
+    all[len] = sum / 256 % 16;
+    all[len + 1] = sum / 16 % 16;
+    all[len + 2] = sum % 16;
+    all
+}
+
+/// The sum of what each digit lacks of fifteen.
+fn checksum_of(digits: &[u16]) -> u16
+    requires few { length digits.now ≤ 64 }
+    requires below { EachIndex digits.now (λ k. slice_index digits.now k < 16) }
+    ensures { result ≡ sum_by (λ d. 15 - d) digits.now }
+{
+    let mut sum = 0;
+    for digit in digits {
+        sum += 15 - *digit;
+    }
+    sum
+}
+
+#[cfg(test)]
+mod tests {
+    use super::*;
+    use hybrid_array::sizes::U1;
+    use std::test::Fail;
+
+    // Worked by hand: the two hexadecimal digits, and the checksum's three.
+    #[test]
+    fn digits_of_one_byte(rt: HostRuntime) {
+        let rows = [
+            (0x12, [1, 2, 0, 1, 11]),
+            (0xff, [15, 15, 0, 0, 0]),
+            (0x00, [0, 0, 0, 1, 14]),
+        ];
+        for (byte, want) in rows {
+            let m = NBytes::<U1>::exact(&[byte]);
+            assert_eq!(rt; message_digits(&m)[..5], want[..], "at {byte}");
+        }
+    }
+
+    // Worked by hand: digits that end within a byte, and digits over a byte's end.
+    #[test]
+    fn digits_of_four_and_six_bits(rt: HostRuntime) {
+        let mut three = [0; 3];
+        base_2b(&[0x12, 0x30], 4, &mut three);
+        assert_eq!(rt; three, [1, 2, 3]);
+        let mut two = [0; 2];
+        base_2b(&[0xff, 0x00], 6, &mut two);
+        assert_eq!(rt; two, [63, 48]);
+    }
+}

@@ -1,0 +1,27 @@
+//! Values that stand one after the other in a slice.
+ghost use Rattle.std.specs.Prelude.{◌≡◌, ◌+◌, ◌*◌, ◌≤◌, ◌++◌, length, take};
+ghost use Rattle.slh_core.specs.Bytes.{part as spec_part};
+
+use crate::nbytes::NBytes;
+use hybrid_array::ArraySize;
+
+/// Puts part number `c` of `n` bytes in its place.
+#[inline]
+pub fn put_part(out: &mut [u8], n: usize, c: usize, part: &[u8])
+    requires fits { (c + 1) * n ≤ length out.old }
+    requires len { length part.now ≡ n }
+    ensures front { take ((c + 1) * n) out.new ≡ take (c * n) out.old ++ part.now }
+{
+    out[c * n..c * n + n].copy_from_slice(part);
+}
+
+/// Part number `c`.
+#[inline]
+pub fn part_of<N: ArraySize>(bytes: &[u8], c: usize) -> NBytes<N>
+    requires small { N.USIZE ≤ 32 }
+    requires fits { (c + 1) * N.USIZE ≤ length bytes.now }
+    ensures { result ≡ spec_part N.USIZE bytes.now c }
+{
+    let n = N::USIZE;
+    NBytes::exact(&bytes[c * n..c * n + n])
+}

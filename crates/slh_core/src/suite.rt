@@ -1,0 +1,109 @@
+//! What a hash suite is.
+ghost use Rattle.std.specs.Prelude.{◌≡◌, ℕ, ◌+◌, ◌^◌, ◌≤◌, List, ◌++◌, length};
+ghost use Rattle.slh_core.specs.Suite.{Suite, HasLength, HasDigestLength};
+
+use crate::address::Address;
+use crate::nbytes::NBytes;
+use crate::steps::Steps;
+use hybrid_array::ArraySize;
+use std::sync::ledger::Ledger;
+
+/// The hash functions of a parameter set (FIPS 205, section 4.1). Those that take an address also
+/// take a state that stands for a public seed, and count one step each. A message comes as three
+/// slices, which are hashed one after the other.
+pub trait HashSuite {
+    /// How many bytes a value has.
+    type N: ArraySize;
+
+    /// How many bytes the digest of a message has.
+    type M: ArraySize;
+
+    /// A state for one public seed.
+    type Keyed: Drop;
+
+    /// What the functions compute.
+    ghost suite: { Suite };
+
+    /// The public seed that a state stands for.
+    ghost seed_of: { Self.Keyed → List ℕ };
+
+    /// The state for a public seed.
+    fn keyed(pk_seed: &NBytes<Self::N>) -> Self::Keyed
+        ensures { seed_of result ≡ pk_seed.now };
+
+    /// F: the hash of one value.
+    fn f<A: Address, L: Ledger>(
+        keyed: &Self::Keyed,
+        adrs: &A,
+        m: &NBytes<Self::N>,
+        steps: &mut Steps<L>,
+    ) -> NBytes<Self::N>
+        ensures value { result ≡ suite.f (seed_of keyed.now) (A.bytes adrs.now) m.now }
+        ensures step { steps.new ≡ steps.old + 1 };
+
+    /// H: the hash of a left and a right value.
+    fn h<A: Address, L: Ledger>(
+        keyed: &Self::Keyed,
+        adrs: &A,
+        m1: &NBytes<Self::N>,
+        m2: &NBytes<Self::N>,
+        steps: &mut Steps<L>,
+    ) -> NBytes<Self::N>
+        ensures value { result ≡ suite.h (seed_of keyed.now) (A.bytes adrs.now) m1.now m2.now }
+        ensures step { steps.new ≡ steps.old + 1 };
+
+    /// T: the hash of many values, joined. There are at most 67, of at most 32 bytes each.
+    fn t<A: Address, L: Ledger>(
+        keyed: &Self::Keyed,
+        adrs: &A,
+        m: &[u8],
+        steps: &mut Steps<L>,
+    ) -> NBytes<Self::N>
+        requires { length m.now ≤ 2144 }
+        ensures value { result ≡ suite.t (seed_of keyed.now) (A.bytes adrs.now) m.now }
+        ensures step { steps.new ≡ steps.old + 1 };
+
+    /// PRF: a secret value, made from the secret seed.
+    fn prf_sk<A: Address, L: Ledger>(
+        keyed: &Self::Keyed,
+        sk_seed: &NBytes<Self::N>,
+        adrs: &A,
+        steps: &mut Steps<L>,
+    ) -> NBytes<Self::N>
+        ensures value { result ≡ suite.prf (seed_of keyed.now) (A.bytes adrs.now) sk_seed.now }
+        ensures step { steps.new ≡ steps.old + 1 };
+
+    /// PRF_msg: the randomizer of a signature.
+    fn prf_msg(
+        sk_prf: &NBytes<Self::N>,
+        opt_rand: &NBytes<Self::N>,
+        head: &[u8],
+        ctx: &[u8],
+        msg: &[u8],
+    ) -> NBytes<Self::N>
+        requires { length head.now + length ctx.now + length msg.now ≤ 2 ^ 60 + 512 }
+        ensures { let message = head.now ++ ctx.now ++ msg.now in
+            result ≡ suite.prf_msg sk_prf.now opt_rand.now message };
+
+    /// H_msg: the digest of a message, written into `out`.
+    fn h_msg(
+        rand: &NBytes<Self::N>,
+        pk_seed: &NBytes<Self::N>,
+        pk_root: &NBytes<Self::N>,
+        head: &[u8],
+        ctx: &[u8],
+        msg: &[u8],
+        out: &mut [u8],
+    )
+        requires message { length head.now + length ctx.now + length msg.now ≤ 2 ^ 60 + 512 }
+        requires room { length out.old ≡ Self.M.USIZE }
+        requires small { Self.M.USIZE ≤ 256 }
+        ensures { let message = head.now ++ ctx.now ++ msg.now in
+            out.new ≡ suite.h_msg rand.now pk_seed.now pk_root.now message };
+
+    /// Each function gives as many bytes as its type says.
+    ghost lengths: { Self.N.USIZE ≤ 32 → HasLength suite Self.N.USIZE };
+
+    /// So does the digest of a message.
+    ghost digest_length: { Self.M.USIZE ≤ 256 → HasDigestLength suite Self.M.USIZE };
+}

@@ -1,0 +1,272 @@
+//! WOTS+: chains and key pairs (FIPS 205, section 5).
+ghost use Rattle.std.specs.Prelude.{◌≡◌, ◌+◌, ◌*◌, ◌≤◌, ◌<◌, length, sum, EachIndex, slice_index};
+ghost use Rattle.slh_core.specs.Bytes.{joined};
+ghost use Rattle.slh_core.specs.Wots.{chain, chain_value, wots_pk, chain_values, wots_sig};
+ghost use Rattle.slh_core.specs.Wots.{checked_ends, wots_pk_from_sig as spec_wots_pk_from_sig};
+ghost use Rattle.slh_core.specs.Digits.{wots_digits};
+ghost use Rattle.slh_core.specs.Parameters.{chain_count};
+ghost use Rattle.slh_core.specs.Suite.{seeded};
+
+use crate::address::{WotsHash, WotsPrf};
+use crate::digits::message_digits;
+use crate::nbytes::NBytes;
+use crate::params::{WotsParams, chain_sizes};
+use crate::parts::{part_of, put_part};
+use crate::steps::Steps;
+use hybrid_array::ArraySize;
+use std::sync::ledger::Ledger;
+
+/// `x`, taken `s` steps on from step `i` of the chain of an address, whose own step doesn't matter
+/// (FIPS 205, algorithm 5).
+#[tactic(auto, unfolding(crate::specs::Wots::chain))]
+pub fn wots_chain<P: WotsParams, L: Ledger>(
+    x: &NBytes<P::N>,
+    i: u32,
+    s: u32,
+    keyed: &P::Keyed,
+    adrs: &WotsHash,
+    steps: &mut Steps<L>,
+) -> NBytes<P::N>
+    requires { i + s ≤ 15 }
+    ensures value { let K = seeded P.suite P.N.USIZE (P.seed_of keyed.now) in
+        let a = adrs.now in
+        result ≡ chain K a.layer_adrs a.tree_adrs_low a.key_pair_adrs a.chain_adrs x.now i s }
+    ensures cost { steps.new ≡ steps.old + s }
+{
+    let mut value = x.copy();
+    for q in 0..s {
+        let at = adrs.at_step(adrs.chain_adrs, i + q);
+        value = P::f(keyed, &at, &value, steps);
+    }
+    value
+}
+
+/// The key's own chain `c` after `q` steps.
+fn own_chain<P: WotsParams, L: Ledger>(
+    sk_seed: &NBytes<P::N>,
+    keyed: &P::Keyed,
+    adrs: &WotsHash,
+    c: u32,
+    q: u32,
+    steps: &mut Steps<L>,
+) -> NBytes<P::N>
+    requires { q ≤ 15 }
+    ensures value { let K = seeded P.suite P.N.USIZE (P.seed_of keyed.now) in
+        let a = adrs.now in
+        result ≡ chain_value K sk_seed.now a.layer_adrs a.tree_adrs_low a.key_pair_adrs c q }
+    ensures cost { steps.new ≡ steps.old + (q + 1) }
+{
+    let secret_at = WotsPrf {
+        chain_adrs: c,
+        ..adrs.prf_adrs()
+    };
+    let secret = P::prf_sk(keyed, sk_seed, &secret_at, steps);
+    wots_chain::<P, L>(&secret, 0, q, keyed, &adrs.at_step(c, 0), steps)
+}
+
+/// The public key of a key pair, which is its tree's leaf (FIPS 205, algorithm 6).
+#[tactic(auto, unfolding(crate::specs::Wots::wots_pk, crate::specs::Bytes::joined))]
+pub fn wots_pk_gen<P: WotsParams, L: Ledger>(
+    sk_seed: &NBytes<P::N>,
+    keyed: &P::Keyed,
+    adrs: &WotsHash,
+    steps: &mut Steps<L>,
+) -> NBytes<P::N>
+    ensures value { let K = seeded P.suite P.N.USIZE (P.seed_of keyed.now) in
+        let a = adrs.now in
+        result ≡ wots_pk K sk_seed.now a.layer_adrs a.tree_adrs_low a.key_pair_adrs }
+    ensures cost { steps.new ≡ steps.old + (16 * P.WotsSigLen.USIZE + 1) }
+{
+    chain_sizes::<P>();
+    let n = P::N::USIZE;
+    let len = P::WotsSigLen::USIZE;
+    let mut ends = [0u8; 2144];
+    for c in 0..len {
+        let end = own_chain::<P, L>(sk_seed, keyed, adrs, c as u32, 15, steps);
+        put_part(&mut ends, n, c, end.as_slice());
+    }
+    P::t(keyed, &adrs.pk_adrs(), &ends[..len * n], steps)
+}
+
+/// Writes the signature of a message: each chain's value at its digit (FIPS 205, algorithm 7).
+#[tactic(auto, using(crate::proofs::DigitSteps::wots_digits_below))]
+pub fn wots_sign<P: WotsParams, L: Ledger>(
+    m: &NBytes<P::N>,
+    sk_seed: &NBytes<P::N>,
+    keyed: &P::Keyed,
+    adrs: &WotsHash,
+    out: &mut [u8],
+    steps: &mut Steps<L>,
+)
+    requires { length out.old ≡ P.WotsSigLen.USIZE * P.N.USIZE }
+    ensures value { let K = seeded P.suite P.N.USIZE (P.seed_of keyed.now) in
+        let a = adrs.now in
+        out.new ≡ wots_sig K sk_seed.now a.layer_adrs a.tree_adrs_low a.key_pair_adrs m.now }
+    ensures cost { let digits = wots_digits P.N.USIZE m.now in
+        steps.new ≡ steps.old + (P.WotsSigLen.USIZE + sum digits) }
+    ensures bound { steps.new ≤ steps.old + 16 * P.WotsSigLen.USIZE }
+{
+    chain_sizes::<P>();
+    let all = message_digits(m);
+    let digits = &all[..P::WotsSigLen::USIZE];
+    write_chains::<P, L>(digits, sk_seed, keyed, adrs, out, steps);
+}
+
+/// Writes the chain values that belong to digits.
+#[tactic(auto, unfolding(crate::specs::Wots::chain_values, crate::specs::Bytes::joined))]
+fn write_chains<P: WotsParams, L: Ledger>(
+    digits: &[u16],
+    sk_seed: &NBytes<P::N>,
+    keyed: &P::Keyed,
+    adrs: &WotsHash,
+    out: &mut [u8],
+    steps: &mut Steps<L>,
+)
+    requires n { P.N.USIZE ≤ 32 }
+    requires count { length digits.now ≡ chain_count P.N.USIZE }
+    requires below { EachIndex digits.now (λ k. slice_index digits.now k < 16) }
+    requires room { length out.old ≡ length digits.now * P.N.USIZE }
+    ensures value { let K = seeded P.suite P.N.USIZE (P.seed_of keyed.now) in
+        let a = adrs.now in
+        let sk = sk_seed.now in
+        out.new ≡ chain_values K sk a.layer_adrs a.tree_adrs_low a.key_pair_adrs digits.now }
+    ensures cost { steps.new ≡ steps.old + (length digits.now + sum digits.now) }
+{
+    let n = P::N::USIZE;
+    for (c, digit) in digits.iter().enumerate() {
+        let value = own_chain::<P, L>(sk_seed, keyed, adrs, c as u32, u32::from(*digit), steps);
+        put_part(out, n, c, value.as_slice());
+    }
+}
+
+/// Writes the signature of a message, and answers the public key: each chain is taken to its digit,
+/// and on from there to its end.
+#[tactic(auto, using(crate::proofs::DigitSteps::wots_digits_below), unfolding(crate::specs::Wots::wots_pk))]
+pub fn wots_sign_leaf<P: WotsParams, L: Ledger>(
+    m: &NBytes<P::N>,
+    sk_seed: &NBytes<P::N>,
+    keyed: &P::Keyed,
+    adrs: &WotsHash,
+    out: &mut [u8],
+    steps: &mut Steps<L>,
+) -> NBytes<P::N>
+    requires { length out.old ≡ P.WotsSigLen.USIZE * P.N.USIZE }
+    ensures leaf { let K = seeded P.suite P.N.USIZE (P.seed_of keyed.now) in
+        let a = adrs.now in
+        result ≡ wots_pk K sk_seed.now a.layer_adrs a.tree_adrs_low a.key_pair_adrs }
+    ensures value { let K = seeded P.suite P.N.USIZE (P.seed_of keyed.now) in
+        let a = adrs.now in
+        out.new ≡ wots_sig K sk_seed.now a.layer_adrs a.tree_adrs_low a.key_pair_adrs m.now }
+    ensures cost { steps.new ≡ steps.old + (16 * P.WotsSigLen.USIZE + 1) }
+{
+    chain_sizes::<P>();
+    let len = P::WotsSigLen::USIZE;
+    let size = len * P::N::USIZE;
+    let all = message_digits(m);
+    let mut ends = [0u8; 2144];
+    write_both::<P, L>(
+        &all[..len],
+        sk_seed,
+        keyed,
+        adrs,
+        out,
+        &mut ends[..size],
+        steps,
+    );
+    P::t(keyed, &adrs.pk_adrs(), &ends[..size], steps)
+}
+
+/// Writes the chain values that belong to digits, and the ends of the chains.
+#[tactic(auto, unfolding(crate::specs::Wots::chain_values, crate::specs::Bytes::joined))]
+fn write_both<P: WotsParams, L: Ledger>(
+    digits: &[u16],
+    sk_seed: &NBytes<P::N>,
+    keyed: &P::Keyed,
+    adrs: &WotsHash,
+    out: &mut [u8],
+    ends: &mut [u8],
+    steps: &mut Steps<L>,
+)
+    requires n { P.N.USIZE ≤ 32 }
+    requires count { length digits.now ≡ chain_count P.N.USIZE }
+    requires below { EachIndex digits.now (λ k. slice_index digits.now k < 16) }
+    requires room { length out.old ≡ length digits.now * P.N.USIZE }
+    requires ends_room { length ends.old ≡ length digits.now * P.N.USIZE }
+    ensures value { let K = seeded P.suite P.N.USIZE (P.seed_of keyed.now) in
+        let sk = sk_seed.now in
+        let a = adrs.now in
+        out.new ≡ chain_values K sk a.layer_adrs a.tree_adrs_low a.key_pair_adrs digits.now }
+    ensures ends { let K = seeded P.suite P.N.USIZE (P.seed_of keyed.now) in
+        let sk = sk_seed.now in
+        let a = adrs.now in
+        let j = a.layer_adrs in
+        let t = a.tree_adrs_low in
+        ends.new ≡ joined (λ c. chain_value K sk j t a.key_pair_adrs c 15) (length digits.now) }
+    ensures cost { steps.new ≡ steps.old + 16 * length digits.now }
+{
+    let n = P::N::USIZE;
+    for (c, digit) in digits.iter().enumerate() {
+        let step = u32::from(*digit);
+        let at = adrs.at_step(c as u32, 0);
+        let value = own_chain::<P, L>(sk_seed, keyed, adrs, c as u32, step, steps);
+        let end = wots_chain::<P, L>(&value, step, 15 - step, keyed, &at, steps);
+        put_part(out, n, c, value.as_slice());
+        put_part(ends, n, c, end.as_slice());
+    }
+}
+
+/// The public key that the signature of a message leads to (FIPS 205, algorithm 8).
+#[tactic(auto, using(crate::proofs::DigitSteps::wots_digits_below), unfolding(crate::specs::Wots::wots_pk_from_sig))]
+pub fn wots_pk_from_sig<P: WotsParams, L: Ledger>(
+    sig: &[u8],
+    m: &NBytes<P::N>,
+    keyed: &P::Keyed,
+    adrs: &WotsHash,
+    steps: &mut Steps<L>,
+) -> NBytes<P::N>
+    requires { length sig.now ≡ P.WotsSigLen.USIZE * P.N.USIZE }
+    ensures value { let K = seeded P.suite P.N.USIZE (P.seed_of keyed.now) in
+        let a = adrs.now in
+        result ≡ spec_wots_pk_from_sig K a.layer_adrs a.tree_adrs_low a.key_pair_adrs sig.now m.now }
+    ensures cost { let digits = wots_digits P.N.USIZE m.now in
+        steps.new + sum digits ≡ steps.old + (15 * P.WotsSigLen.USIZE + 1) }
+    ensures bound { steps.new ≤ steps.old + (15 * P.WotsSigLen.USIZE + 1) }
+{
+    chain_sizes::<P>();
+    let len = P::WotsSigLen::USIZE;
+    let size = len * P::N::USIZE;
+    let all = message_digits(m);
+    let mut ends = [0u8; 2144];
+    finish_chains::<P, L>(&all[..len], sig, keyed, adrs, &mut ends[..size], steps);
+    P::t(keyed, &adrs.pk_adrs(), &ends[..size], steps)
+}
+
+/// Takes the chain values that belong to digits to their ends.
+#[tactic(auto, unfolding(crate::specs::Wots::checked_ends, crate::specs::Bytes::joined))]
+fn finish_chains<P: WotsParams, L: Ledger>(
+    digits: &[u16],
+    sig: &[u8],
+    keyed: &P::Keyed,
+    adrs: &WotsHash,
+    out: &mut [u8],
+    steps: &mut Steps<L>,
+)
+    requires n { P.N.USIZE ≤ 32 }
+    requires count { length digits.now ≡ chain_count P.N.USIZE }
+    requires below { EachIndex digits.now (λ k. slice_index digits.now k < 16) }
+    requires whole { length sig.now ≡ length digits.now * P.N.USIZE }
+    requires room { length out.old ≡ length digits.now * P.N.USIZE }
+    ensures value { let K = seeded P.suite P.N.USIZE (P.seed_of keyed.now) in
+        let a = adrs.now in
+        out.new ≡ checked_ends K a.layer_adrs a.tree_adrs_low a.key_pair_adrs sig.now digits.now }
+    ensures cost { steps.new + sum digits.now ≡ steps.old + 15 * length digits.now }
+{
+    let n = P::N::USIZE;
+    for (c, digit) in digits.iter().enumerate() {
+        let value = part_of::<P::N>(sig, c);
+        let from = u32::from(*digit);
+        let at = adrs.at_step(c as u32, 0);
+        let end = wots_chain::<P, L>(&value, from, 15 - from, keyed, &at, steps);
+        put_part(out, n, c, end.as_slice());
+    }
+}

@@ -1,0 +1,15 @@
+use Rattle.std.proofs.Common.{arith, refl}
+use Rattle.slh_core.proofs.Joins.{joined_more}
+use Rattle.slh_trees.proofs.Powers.{twice_more, sibling_below_of}
+use Rattle.slh_trees.proofs.fors.write_fors_auth_path.Goals as goal
+
+pub loop-z-preserved : goal.loop-z-preserved
+loop-z-preserved g c = record {
+  values = rw (c.put_part.ensures.front, c.loop-z.invariant.values, joined_more, c.as_slice.ensures.value, c.fors_node-value.ensures.value, c.sibling.ensures) refl;
+  cost = omega (arith, twice_more c.loop-z.z 3);
+}
+
+pub fors_node-value-requires-clause-node : goal.fors_node-value-requires-clause-node
+fors_node-value-requires-clause-node g c =
+    rw c.sibling.ensures
+    (sibling_below_of c.args.y c.loop-z.z g.P.A.ArraySize.USIZE g.P.K.ArraySize.USIZE (omega arith) c.requires.leaf)

@@ -1,0 +1,28 @@
+use Rattle.std.proofs.Common.{◌≡◌, ℕ, ◌+◌, ◌*◌, ◌/◌, ◌^◌, ◌<◌, List}
+use Rattle.std.specs.Prelude.{count_ones}
+use Rattle.slh_core.specs.Suite.{seeded}
+use Rattle.slh_trees.specs.Merkle.{merkle}
+use Rattle.slh_trees.specs.Treehash.{HoldsNodes}
+use Rattle.slh_trees.proofs.treehash.push_leaf.Given as goal
+
+-- the node that is carried up, at the height of the low bits that were ones
+abbrev pub invariant-loop-bits : goal.invariant-loop-bits
+invariant-loop-bits g l =
+    let n = g.P.N.ArraySize.USIZE in
+    let K = seeded g.P.HashSuite.suite n (g.P.HashSuite.seed_of l.keyed) in
+    let B = g.A.NodeAddress.place l.adrs in
+    record {
+      bits : l.bits ≡ l.q / 2 ^ l.h;
+      index : l.index ≡ l.fn.index / 2 ^ l.h;
+      carried : l.q + 1 ≡ 2 ^ l.h * (l.bits + 1);
+      value : (leaves : ℕ → List ℕ) (i z : ℕ)
+          → l.fn.index ≡ i * 2 ^ z + l.q
+          → l.q < 2 ^ z
+          → l.leaf ≡ leaves l.fn.index
+          → HoldsNodes n (merkle K B leaves) z i l.q l.store
+          → l.current ≡ merkle K B leaves l.h l.index;
+      cost : l.steps + count_ones l.bits ≡ l.fn.steps + count_ones l.q;
+    }
+
+abbrev pub decreases-loop-bits : goal.decreases-loop-bits
+decreases-loop-bits g l = l.bits
