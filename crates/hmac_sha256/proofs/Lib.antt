@@ -1,5 +1,6 @@
 mod Words
 pub mod Schedule
 pub mod Absorbing
+mod Vectors
 mod Keys
 pub mod Digest

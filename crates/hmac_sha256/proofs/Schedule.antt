@@ -1,13 +1,15 @@
--- The words of a block's schedule by their places, the ring that holds the last sixteen of them,
--- and the rounds one by one.
-use Rattle.std.proofs.Common.{◌≡◌, ◌≢◌, ℕ, zero, suc, ◌+◌, ◌-◌, ◌*◌, ◌%◌, ◌<◌, ◌≤◌, List, length, take, slice_index, slice_set, nat_lt, true, false, refl, sym, ◌∙◌, arith, inl, inr}
-use Rattle.std.proofs.lemmas.List.{get_or_append_left, get_or_push, length_push, get_or-set_same, get_or-set_other, length-set, take_all, take_more}
+-- The words of a block's schedule by their places, sixteen of them at a time, and the rounds one by one.
+use Rattle.std.proofs.Common.{◌≡◌, ℕ, zero, suc, ◌+◌, ◌-◌, ◌*◌, ◌<◌, ◌≤◌, List, [], ◌∷◌, ◌++◌, ap, length, take, drop, slice_index, nat_lt, true, false, refl, sym, ◌∙◌, arith, inl, inr}
+use Rattle.std.proofs.lemmas.List.{get_or_append_left, get_or_push, length_push, take_all, take_more, drop-take, drop-drop, get_or-take, get_or-drop}
+use Rattle.std.proofs.lemmas.List.{length-take-le, length-drop}
+use Rattle.std.proofs.lemmas.Grind.{same_number_lists}
+use Rattle.hmac_sha256.proofs.Vectors.{below_sixteen}
 use Rattle.std.proofs.lemmas.List.Sums.{fold-append}
 use Rattle.std.proofs.lemmas.Slice.Zip.{get_or-zip, length-zip}
 use Rattle.std.proofs.lemmas.Bool.{cases_lt, le-ltb, lt-ltb}
 use Rattle.std.specs.Prelude.{zip}
 use Rattle.hmac_sha256.specs.Sha256.{added_words, block_word, compress, constants, later_word, round, schedule, schedule_word}
-use Rattle.hmac_sha256.specs.Rounds.{IsBeforeRound, IsRing, ring_word, rounds_until}
+use Rattle.hmac_sha256.specs.Rounds.{rounds_until, words_from, next_in, block_words, IsBefore}
 
 pub length-schedule : (b : List ℕ) (n : ℕ) → length (schedule b n) ≡ n
 unfolding schedule
@@ -26,67 +28,6 @@ slice_index-schedule b (suc n) s within =
           let same : s ≡ n = omega arith in
           rw same (get_or_push (schedule b n) (schedule_word b (schedule b n)) 0 n count)
     ]
-
--- a word is the same in a longer schedule
-slice_index-schedule_64 : (b : List ℕ) (n s : ℕ) → s < n → n ≤ 64 → slice_index (schedule b n) s ≡ slice_index (schedule b 64) s
-slice_index-schedule_64 b n s within most = slice_index-schedule b n s within ∙ sym (slice_index-schedule b 64 s (omega arith))
-
--- the first sixteen words are the block's
-early_word_is : (b : List ℕ) (s : ℕ) → s < 16 → slice_index (schedule b 64) s ≡ block_word b (4 * s)
-early_word_is b s early =
-    let count : length (schedule b s) ≡ s = length-schedule b s in
-    let yes : nat_lt s 16 ≡ true = lt-ltb s 16 early in
-    slice_index-schedule b 64 s (omega arith) ∙ rw (count, yes) refl
-
--- each later word follows from those before it
-late_word_is : (b : List ℕ) (t : ℕ) → 16 ≤ t → t < 64 → slice_index (schedule b 64) t ≡ later_word (schedule b 64) t
-late_word_is b t late within =
-    let count : length (schedule b t) ≡ t = length-schedule b t in
-    let no : nat_lt t 16 ≡ false = le-ltb t 16 late in
-    let w2 = slice_index-schedule_64 b t (t - 2) (omega arith) (omega arith) in
-    let w7 = slice_index-schedule_64 b t (t - 7) (omega arith) (omega arith) in
-    let w15 = slice_index-schedule_64 b t (t - 15) (omega arith) (omega arith) in
-    let w16 = slice_index-schedule_64 b t (t - 16) (omega arith) (omega arith) in
-    slice_index-schedule b 64 t within ∙ rw (count, no, w2, w7, w15, w16) refl
-
--- the ring that the block's words fill
-pub IsRing_first : (b w : List ℕ) → length w ≡ 16 → ((k : ℕ) → k < 16 → slice_index w k ≡ block_word b (4 * k)) → IsRing b w 16
-IsRing_first b w len words = (
-  len,
-  λ s within _.
-      let place : s % 16 ≡ s = omega arith in
-      rw place (words s within ∙ sym (early_word_is b s within)),
-)
-
--- the word that the ring gives is the schedule's
-ring_word_is : (b w : List ℕ) (t place : ℕ) → 16 ≤ t → t < 64 → place ≡ t % 16 → IsRing b w t
-    → ring_word w place ≡ slice_index (schedule b 64) t
-ring_word_is b w t place late within at ring =
-    let p2 : (t - 2) % 16 ≡ (place + 14) % 16 = omega arith in
-    let p7 : (t - 7) % 16 ≡ (place + 9) % 16 = omega arith in
-    let p15 : (t - 15) % 16 ≡ (place + 1) % 16 = omega arith in
-    let p16 : (t - 16) % 16 ≡ place % 16 = omega arith in
-    let w2 = rw p2 at (ring.1 (t - 2) (omega arith) (omega arith)) in
-    let w7 = rw p7 at (ring.1 (t - 7) (omega arith) (omega arith)) in
-    let w15 = rw p15 at (ring.1 (t - 15) (omega arith) (omega arith)) in
-    let w16 = rw p16 at (ring.1 (t - 16) (omega arith) (omega arith)) in
-    rw (w2, w7, w15, w16) (sym (late_word_is b t late within))
-
--- the ring one word on
-IsRing_next : (b w : List ℕ) (t place x : ℕ) → 16 ≤ t → t < 64 → place ≡ t % 16 → x ≡ slice_index (schedule b 64) t → IsRing b w t
-    → IsRing b (slice_set w place x) (t + 1)
-IsRing_next b w t place x late within at word ring = (
-  length-set w place x ∙ ring.0,
-  λ s below recent. elim (cases_lt s t) [
-    | inl old ↦
-        let other : s % 16 ≢ place = omega arith in
-        get_or-set_other w place (s % 16) x 0 other ∙ ring.1 s old (omega arith)
-    | inr last ↦
-        let same : s ≡ t = omega arith in
-        let here : t % 16 ≡ place = sym at in
-        rw (same, here) (get_or-set_same w place x 0 (omega (arith, ring.0)) ∙ word)
-  ],
-)
 
 -- one more round
 pub rounds_until_next : (h b : List ℕ) (t : ℕ) → t < 64
@@ -111,25 +52,102 @@ pub rounds_until_none : (h b : List ℕ) → h ≡ rounds_until h b 0
 unfolding rounds_until
 rounds_until_none h b = refl
 
--- one of the first sixteen rounds: the ring stays
-pub early_round_done : (b h w v : List ℕ) (t k x : ℕ) (next : List ℕ) → t < 16 → IsRing b w 16 → v ≡ rounds_until h b t
-    → k ≡ slice_index constants t → x ≡ slice_index w t → next ≡ round v k x → next ≡ rounds_until h b (t + 1)
-early_round_done b h w v t k x next early ring done constant word made =
-    let place : t % 16 ≡ t = omega arith in
-    let is : slice_index w t ≡ slice_index (schedule b 64) t = rw place at (ring.1 t early (omega arith)) in
-    rw (rounds_until_next h b t (omega arith), ← is, ← word, ← constant, ← done) made
+-- the word that follows sixteen others
+abbrev pub later_in : List ℕ → ℕ
+later_in w = next_in (slice_index w 0) (slice_index w 1) (slice_index w 9) (slice_index w 14)
 
--- a later round: the ring moves on by one word
-pub late_round_done : (b h w v : List ℕ) (t place k x : ℕ) (next_w next_v : List ℕ) → 16 ≤ t → t < 64 → place ≡ t % 16
-    → IsBeforeRound b h w v t → x ≡ ring_word w place → next_w ≡ slice_set w place x
-    → k ≡ slice_index constants t → next_v ≡ round v k x
-    → IsBeforeRound b h next_w next_v (t + 1)
-late_round_done b h w v t place k x next_w next_v late within at before word moved constant made =
-    let is : x ≡ slice_index (schedule b 64) t = word ∙ ring_word_is b w t place late within at before.0 in (
-      rw moved (IsRing_next b w t place x late within at is before.0),
-      rw (rounds_until_next h b t within, ← is, ← constant, ← before.1) made,
+-- a word is the same in each schedule that has it
+schedule_same : (b : List ℕ) (m n s : ℕ) → s < m → s < n → slice_index (schedule b m) s ≡ slice_index (schedule b n) s
+schedule_same b m n s in_m in_n = slice_index-schedule b m s in_m ∙ sym (slice_index-schedule b n s in_n)
+
+-- each later word follows from those before it
+later_word_is : (b : List ℕ) (n t : ℕ) → 16 ≤ t → t < n → slice_index (schedule b n) t ≡ later_word (schedule b n) t
+later_word_is b n t late within =
+    let count : length (schedule b t) ≡ t = length-schedule b t in
+    let no : nat_lt t 16 ≡ false = le-ltb t 16 late in
+    let w2 = schedule_same b t n (t - 2) (omega arith) (omega arith) in
+    let w7 = schedule_same b t n (t - 7) (omega arith) (omega arith) in
+    let w15 = schedule_same b t n (t - 15) (omega arith) (omega arith) in
+    let w16 = schedule_same b t n (t - 16) (omega arith) (omega arith) in
+    slice_index-schedule b n t within ∙ rw (count, no, w2, w7, w15, w16) refl
+
+-- word k of the sixteen from t on
+word_at : (b : List ℕ) (t k : ℕ) → k < 16 → slice_index (words_from b t) k ≡ slice_index (schedule b 80) (t + k)
+unfolding words_from
+word_at b t k low = get_or-take 16 (drop t (schedule b 80)) k 0 low ∙ get_or-drop t (schedule b 80) k 0
+
+later_is : (b : List ℕ) (t : ℕ) → t < 64 → later_in (words_from b t) ≡ slice_index (schedule b 80) (t + 16)
+later_is b t within =
+    let p2 : t + 16 - 2 ≡ t + 14 = omega arith in
+    let p7 : t + 16 - 7 ≡ t + 9 = omega arith in
+    let p15 : t + 16 - 15 ≡ t + 1 = omega arith in
+    let p16 : t + 16 - 16 ≡ t + 0 = omega arith in
+    rw (
+      word_at b t 14 (omega arith),
+      word_at b t 9 (omega arith),
+      word_at b t 1 (omega arith),
+      word_at b t 0 (omega arith),
+      later_word_is b 80 (t + 16) (omega arith) (omega arith),
+      p2,
+      p7,
+      p15,
+      p16,
+    ) refl
+
+-- the sixteen words one on
+words_moved : (b : List ℕ) (t : ℕ) → t < 64 → words_from b (t + 1) ≡ drop 1 (words_from b t) ++ slice_index (schedule b 80) (t + 16) ∷ []
+unfolding words_from
+words_moved b t within =
+    let s = schedule b 80 in
+    let count : length s ≡ 80 = length-schedule b 80 in
+    let rest : drop 1 (take 16 (drop t s)) ≡ take 15 (drop (t + 1) s) = drop-take 1 15 (drop t s) ∙ ap (take 15) (drop-drop 1 t s) in
+    let last : slice_index (drop (t + 1) s) 15 ≡ slice_index s (t + 16) = get_or-drop (t + 1) s 15 0 ∙ ap (slice_index s) (omega arith) in
+    take_more (drop (t + 1) s) 15 0 (omega (arith, length-drop (t + 1) s)) ∙ rw (rest, last) refl
+
+words_from_next : (b : List ℕ) (t : ℕ) → t < 64 → words_from b (t + 1) ≡ drop 1 (words_from b t) ++ later_in (words_from b t) ∷ []
+words_from_next b t within = words_moved b t within ∙ ap (λ x. drop 1 (words_from b t) ++ x ∷ []) (sym (later_is b t within))
+
+block_word_is : (b : List ℕ) (k : ℕ) → k < 16 → slice_index (schedule b 80) k ≡ block_word b (4 * k)
+block_word_is b k low =
+    let count : length (schedule b k) ≡ k = length-schedule b k in
+    let yes : nat_lt k 16 ≡ true = lt-ltb k 16 low in
+    slice_index-schedule b 80 k (omega arith) ∙ rw (count, yes) refl
+
+length-words_from : (b : List ℕ) → length (words_from b 0) ≡ 16
+unfolding words_from
+length-words_from b = length-take-le 16 (drop 0 (schedule b 80)) (omega (arith, length-drop 0 (schedule b 80), length-schedule b 80))
+
+-- the first sixteen words are the block's
+pub block_words_are : (b : List ℕ) → block_words b ≡ words_from b 0
+block_words_are b =
+    same_number_lists (block_words b) (words_from b 0) (sym (length-words_from b)) (λ k low.
+    let first : 0 + k ≡ k = omega arith in
+    below_sixteen (λ k. slice_index (block_words b) k ≡ block_word b (4 * k)) refl refl refl refl refl refl refl refl refl refl refl refl refl refl refl refl k low
+    ∙ sym (word_at b 0 k low ∙ ap (slice_index (schedule b 80)) first ∙ block_word_is b k low))
+
+-- one step: a round, and the window one word on
+pub step_done : (h b v w : List ℕ) (t k x : ℕ) (next_v next_w : List ℕ) → t < 64 → IsBefore h b t v w
+    → k ≡ slice_index constants t → x ≡ slice_index w 0 → next_v ≡ round v k x → next_w ≡ drop 1 w ++ later_in w ∷ []
+    → IsBefore h b (t + 1) next_v next_w
+step_done h b v w t k x next_v next_w within before constant word made slid =
+    let first : slice_index (words_from b t) 0 ≡ slice_index (schedule b 64) t =
+    word_at b t 0 (omega arith) ∙ ap (slice_index (schedule b 80)) (omega arith) ∙ schedule_same b 80 64 t (omega arith) (omega arith) in
+    let is : x ≡ slice_index (schedule b 64) t = word ∙ ap (λ u. slice_index u 0) before.1 ∙ first in (
+      rw (rounds_until_next h b t within, ← is, ← constant, ← before.0) made,
+      slid ∙ ap (λ u. drop 1 u ++ later_in u ∷ []) before.1 ∙ sym (words_from_next b t within),
     )
 
 -- the same round, spelled another way
-pub IsBeforeRound_at : (b h w v : List ℕ) (n k : ℕ) → n ≡ k → IsBeforeRound b h w v n → IsBeforeRound b h w v k
-IsBeforeRound_at b h w v n k same before = rw (← same) before
+pub IsBefore_at : (h b v w : List ℕ) (n k : ℕ) → n ≡ k → IsBefore h b n v w → IsBefore h b k v w
+IsBefore_at h b v w n k same before = rw (← same) before
+
+-- a word of the window is the schedule's
+pub window_word : (b w : List ℕ) (t k : ℕ) → k < 16 → t + k < 64 → w ≡ words_from b t → slice_index w k ≡ slice_index (schedule b 64) (t + k)
+window_word b w t k low within is =
+    ap (λ u. slice_index u k) is ∙ word_at b t k low ∙ schedule_same b 80 64 (t + k) (omega arith) within
+
+-- one more round
+pub round_done : (b h v : List ℕ) (t k x : ℕ) (next : List ℕ) → t < 64 → v ≡ rounds_until h b t
+    → k ≡ slice_index constants t → x ≡ slice_index (schedule b 64) t → next ≡ round v k x → next ≡ rounds_until h b (t + 1)
+round_done b h v t k x next within done constant word made =
+    rw (rounds_until_next h b t within, ← word, ← constant, ← done) made

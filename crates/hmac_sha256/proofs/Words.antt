@@ -51,7 +51,7 @@ majority_short x y z =
 abbrev pub turned : ℕ → ℕ → ℕ
 turned x k = bit_or (x / 2 ^ k) (x * 2 ^ (32 - k) % 2 ^ 32)
 
-turned-lt : (x k : ℕ) → x < 2 ^ 32 → turned x k < 2 ^ 32
+pub turned-lt : (x k : ℕ) → x < 2 ^ 32 → turned x k < 2 ^ 32
 turned-lt x k fits =
     or_lt 32 (x / 2 ^ k) (x * 2 ^ (32 - k) % 2 ^ 32) (omega (arith, shr_le x k)) (mod-lt _ (pow_pos 32))
 

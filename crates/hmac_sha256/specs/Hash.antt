@@ -1,7 +1,7 @@
 -- What a `Hash` stands for: the list of the bytes that it has absorbed.
 use Rattle.std.specs.Prelude.{◌≡◌, ℕ, ◌*◌, ◌/◌, ◌%◌, List, length, take, drop, replicate}
 use Rattle.std.specs.Coded.{Coded-set, coded_list, coded_ℕ}
-use Rattle.hmac_sha256.specs.Sha256.{fold_blocks, initial_words}
+use Rattle.hmac_sha256.specs.Sha256.{compress, fold_blocks, initial_words, sha256, word_bytes}
 use Rattle.hmac_sha256.specs.declared.hashing.Hash.{Hash}
 
 -- the words are the hash value after m's whole blocks, the bytes are the rest of m, and the count
@@ -10,6 +10,14 @@ pub record HasAbsorbed (words bytes : List ℕ) (count : ℕ) (m : List ℕ) : T
   pub folded : words ≡ fold_blocks initial_words m (length m / 64)
   pub rest : bytes ≡ drop (64 * (length m / 64)) m
   pub counted : count ≡ length m
+
+-- The block ends each message of so many bytes of which the bytes before it are held: the digest is
+-- what follows it.
+abbrev pub IsLastBlock : List ℕ → ℕ → List ℕ → Type 0
+IsLastBlock bytes count block =
+    (words m : List ℕ)
+    → HasAbsorbed words bytes count m
+    → word_bytes (compress words block) ≡ sha256 m
 
 -- the hash that has absorbed nothing
 unfoldable pub new_hash : Hash

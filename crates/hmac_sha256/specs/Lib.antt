@@ -1,5 +1,6 @@
 pub mod Sha256
 pub mod Rounds
+pub mod Lanes
 pub mod Hash
 pub mod Hmac
 pub mod Mac

@@ -1,24 +1,29 @@
--- How far the rounds of a block have come, in a ring of sixteen words.
-use Rattle.std.specs.Prelude.{◌≡◌, ℕ, ◌+◌, ◌%◌, ◌<◌, ◌≤◌, List, length, take, zip, slice_index}
-use Rattle.hmac_sha256.specs.Sha256.{constants, lower_sigma0, lower_sigma1, rounds, schedule, sum32}
+-- How far the rounds of a block have come, with the sixteen words that are at hand.
+use Rattle.std.specs.Prelude.{◌≡◌, ℕ, List, [], ◌∷◌, take, drop, zip}
+use Rattle.hmac_sha256.specs.Sha256.{block_word, constants, rounds, schedule}
+use Rattle.hmac_sha256.specs.Sha256.{lower_sigma0, lower_sigma1, sum32}
 
 -- the working variables after the first t rounds of block b, from the hash value h
 unfoldable pub rounds_until : List ℕ → List ℕ → ℕ → List ℕ
 rounds_until h b t = rounds h (take t (zip constants (schedule b 64)))
 
--- the ring w has the last sixteen of the first t schedule words of block b, each word s at the
--- place s % 16
-abbrev pub IsRing : List ℕ → List ℕ → ℕ → Type 0
-IsRing b w t = (length w ≡ 16)
-    × ((s : ℕ) → s < t → t ≤ s + 16 → slice_index w (s % 16) ≡ slice_index (schedule b 64) s)
+-- the sixteen words of the schedule from index t on
+unfoldable pub words_from : List ℕ → ℕ → List ℕ
+words_from b t = take 16 (drop t (schedule b 80))
 
--- before round t of block b from the hash value h, w is the ring and v has the working variables
-abbrev pub IsBeforeRound : List ℕ → List ℕ → List ℕ → List ℕ → ℕ → Type 0
-IsBeforeRound b h w v t = IsRing b w t × (v ≡ rounds_until h b t)
+-- a word of the schedule from those 16, 15, 7 and 2 places before it
+abbrev pub next_in : ℕ → ℕ → ℕ → ℕ → ℕ
+next_in w0 w1 w9 w14 = sum32 (sum32 (sum32 (lower_sigma1 w14) w9) (lower_sigma0 w1)) w0
 
--- the word that comes to a place of the ring, from the words that stand in it
-abbrev pub ring_word : List ℕ → ℕ → ℕ
-ring_word w place =
-    sum32 (sum32 (sum32 (lower_sigma1 (slice_index w ((place + 14) % 16)))
-    (slice_index w ((place + 9) % 16)))
-    (lower_sigma0 (slice_index w ((place + 1) % 16)))) (slice_index w (place % 16))
+-- the sixteen words of block b
+abbrev pub block_words : List ℕ → List ℕ
+block_words b =
+    block_word b 0 ∷ block_word b 4 ∷ block_word b 8 ∷ block_word b 12
+    ∷ block_word b 16 ∷ block_word b 20 ∷ block_word b 24 ∷ block_word b 28
+    ∷ block_word b 32 ∷ block_word b 36 ∷ block_word b 40 ∷ block_word b 44
+    ∷ block_word b 48 ∷ block_word b 52 ∷ block_word b 56 ∷ block_word b 60 ∷ []
+
+-- before round t of block b from the hash value h: v has the working variables, and w the words of
+-- this round and the fifteen after it
+abbrev pub IsBefore : List ℕ → List ℕ → ℕ → List ℕ → List ℕ → Type 0
+IsBefore h b t v w = (v ≡ rounds_until h b t) × (w ≡ words_from b t)

@@ -10,6 +10,7 @@ mod hashing;
 mod mac;
 #[cfg(test)]
 mod tests;
+mod word;
 
 pub use hashing::{Hash, MAX_BYTES};
 pub use mac::HMAC;

@@ -36,6 +36,50 @@ fn digests_of_the_standard(rt: HostRuntime) {
     );
 }
 
+// 64 bytes 07 and then 38 bytes 00, 01, .. or 07. From Python's `hashlib`.
+const DIGESTS_OF_TAILS: [[u8; 64]; 8] = [
+    *b"9cf8e383a90bbe16ca586be4452b70db3dbfc4133f49f50a5da9d236bdc947ca",
+    *b"bec37cf5bba70ea55451c6c8f076310cbcb50d39ab9ab98f65277e73def535e6",
+    *b"2888fad4d29974e5e6c9d14184ec7741efb772e4d5a0ffb304e4b15ba7b643a2",
+    *b"721e6c8fcb654f2ce7d130e520ec0582eb602f8d6064f4685f065a9520a8156e",
+    *b"1eb0f80b3c516bdaff1ebcacedc2cb774037e7c8ee69d856d433b66f0ba51656",
+    *b"fa1398abb4ba0d7f0e6c69d62033e4f11c6f7c631073ff904196a3de1dfbb3e3",
+    *b"a9e13e6c5cb4fdc83a9858c831ad7257f321533bb8ba61c3aad9949e144d7a39",
+    *b"32a89e39291a71601e16694f1b03903a6e251be80cefeaa618161ccd69b4e0b1",
+];
+
+#[test]
+fn digests_of_tails_side_by_side(rt: HostRuntime) {
+    let mut hash = Hash::new();
+    hash.update(&[7; 64]);
+    let mut tails = [[0; 64]; 8];
+    for j in 0..8 {
+        tails[j] = [j as u8; 64];
+    }
+    let eight = hash.finalize_eight(&tails, 38);
+    let four = hash.finalize_four(&[tails[4], tails[5], tails[6], tails[7]], 38);
+    for j in 0..8 {
+        assert_eq!(rt; hex(&eight[j]), DIGESTS_OF_TAILS[j], "tail {j} of eight");
+    }
+    assert_eq!(rt; four[..], eight[4..]);
+}
+
+// The longest tail that ends in its block, and none. From Python's `hashlib`.
+#[test]
+fn digests_of_the_longest_tail_and_of_none(rt: HostRuntime) {
+    let mut hash = Hash::new();
+    hash.update(&[7; 64]);
+    let tails = [[2; 64]; 4];
+    assert_eq!(rt;
+        hex(&hash.finalize_four(&tails, 55)[3]),
+        *b"8d4393857f6cecd5c31bf511ac3b0d31a8c4330c2e7e2a5386cdc3a57a6f70e6"
+    );
+    assert_eq!(rt;
+        hex(&hash.finalize_four(&tails, 0)[0]),
+        *b"6cfeeb3aa25d3f411dae5eec17d7369ca7153e72dcf54bcf4c3daec0f5b21fc7"
+    );
+}
+
 // Byte `i` of the message is `7 * i + 3`, and each digest is that of the one before it and a
 // longer piece of the message. The last is from Python's `hashlib`.
 #[test]

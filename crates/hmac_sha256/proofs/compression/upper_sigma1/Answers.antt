@@ -3,5 +3,6 @@ use Rattle.hmac_sha256.proofs.Words.{turned_three}
 use Rattle.hmac_sha256.proofs.compression.upper_sigma1.Goals as goal
 
 pub returns : goal.returns
-returns c = rw (c.rotate_right-3.ensures, c.rotate_right-2.ensures, c.rotate_right.ensures)
-    (turned_three c.args.x 6 5 14 (omega arith) (omega arith))
+returns g c j h =
+    rw (c.rotated-3.ensures j h, c.xor-2.ensures j h, c.rotated-2.ensures j h, c.xor.ensures j h, c.rotated.ensures j h)
+    (turned_three (g.W.Word.lane c.args.x j) 6 5 14 (omega arith) (g.met.W.Word.lane_lt c.args.x j))
