@@ -29,7 +29,7 @@ impl<L: Ledger> Model for Steps<L> {
 impl<L: Ledger> Steps<L> {
     /// A count of no steps.
     pub fn new(blank: Blank) -> Self
-        requires { IsFresh blank L.name L.parts }
+        requires fresh { IsFresh blank L.name L.parts }
         ensures { result ≡ 0 }
     {
         let (book, share) = blank.open::<L>();

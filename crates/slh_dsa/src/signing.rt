@@ -6,7 +6,9 @@ ghost use Rattle.slh_trees.specs.Signing.{digest_signature};
 use hybrid_array::ArraySize;
 use slh_core::address::ForsTree;
 use slh_core::nbytes::NBytes;
-use slh_core::params::{ForsParams, forest_sizes, layer_sizes};
+use slh_core::params::{
+    ForsParams, MAX_DIGEST_LEN, MAX_MESSAGE_LEN, forest_sizes, layer_sizes,
+};
 use slh_core::steps::Steps;
 use slh_trees::digest::split_digest;
 use slh_trees::fors::fors_sign_root;
@@ -59,7 +61,7 @@ pub(crate) fn sign_message<P: ForsParams, L: Ledger>(
     out: &mut [u8],
     steps: &mut Steps<L>,
 )
-    requires message { length head.now + length ctx.now + length msg.now ≤ 2 ^ 60 + 512 }
+    requires message { length head.now + length ctx.now + length msg.now ≤ MAX_MESSAGE_LEN }
     requires room { length out.old ≡ signature_size P.scheme }
     ensures value { let Z = P.scheme in
         let message = head.now ++ ctx.now ++ msg.now in
@@ -72,7 +74,7 @@ pub(crate) fn sign_message<P: ForsParams, L: Ledger>(
 {
     forest_sizes::<P>();
     let rand = P::prf_msg(sk_prf, opt, head, ctx, msg);
-    let mut store = [0u8; 256];
+    let mut store = [0u8; MAX_DIGEST_LEN];
     let digest = &mut store[..P::M::USIZE];
     P::h_msg(&rand, pk_seed, pk_root, head, ctx, msg, digest);
     sign_digest::<P, L>(sk_seed, pk_seed, &rand, digest, out, steps);

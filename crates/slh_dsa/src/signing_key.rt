@@ -2,6 +2,7 @@
 ghost use Rattle.std.specs.Prelude.{◌≡◌, ◌↔◌, ◌+◌, ◌*◌, ◌^◌, ◌<◌, length, drop, None, Some, unwrap_or, IsOk, IfOk, IfErr, OnOk, OnErr, MatchResult};
 ghost use Rattle.std.specs.Option.{option_copied, ForSome};
 ghost use Rattle.slh_core.specs.Bytes.{part};
+ghost use Rattle.slh_core.specs.Steps.{IsFresh};
 ghost use Rattle.slh_trees.specs.Checking.{signature_size};
 ghost use Rattle.slh_trees.specs.Frame.{frame};
 ghost use Rattle.slh_trees.specs.Keys.{signing_key_bytes};
@@ -64,9 +65,7 @@ impl<P: ParameterSet> SigningKey<P> {
         pk_seed: &[u8],
         blank: Blank,
     ) -> Result<Self, Error>
-        requires name { blank.name ≡ L.name }
-        requires parts { blank.parts ≡ L.parts }
-        requires some { 0 < blank.parts }
+        requires fresh { IsFresh blank L.name L.parts }
         ensures ok { IsOk result ↔ ((length sk_seed.now ≡ P.N.USIZE)
             × (length sk_prf.now ≡ P.N.USIZE) × (length pk_seed.now ≡ P.N.USIZE)) }
         ensures value { IfOk result (λ key.
