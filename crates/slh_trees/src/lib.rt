@@ -12,10 +12,12 @@ pub mod digest;
 pub mod fors;
 pub mod hypertree;
 pub mod laws;
-mod treehash;
+mod leaves;
+mod node;
 #[cfg(test)]
 mod tests;
 pub mod toy;
+mod treehash;
 pub mod xmss;
 
 pub use check::check_root;
