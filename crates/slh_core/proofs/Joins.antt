@@ -1,7 +1,7 @@
 -- Parts that are joined, and found again.
-use Rattle.std.proofs.Common.{◌≡◌, ℕ, zero, suc, ◌+◌, ◌-◌, ◌*◌, ◌<◌, ◌≤◌, List, ◌++◌, length, take, drop, arith, refl, ◌∙◌, add-one, length-append, inl, inr}
+use Rattle.std.proofs.Common.{◌≡◌, ℕ, zero, suc, ◌+◌, ◌-◌, ◌*◌, ◌<◌, ◌≤◌, List, ◌++◌, length, take, drop, arith, ap, sym, refl, ◌∙◌, add-one, length-append, take-add, inl, inr}
 use Rattle.std.specs.Prelude.{slice_range}
-use Rattle.std.proofs.lemmas.List.{drop-append-le, take-append-le, length-drop}
+use Rattle.std.proofs.lemmas.List.{drop-append-le, drop-drop, take-append-le, length-drop}
 use Rattle.std.proofs.lemmas.Bool.{cases_lt}
 use Rattle.std.proofs.lemmas.Nat.{mul-le}
 use Rattle.std.proofs.Math.Seq.{drop-append_seam, take-append_seam, take-length}
@@ -55,3 +55,19 @@ take_front n xs ys size = rw (← size) (take-append_seam xs ys)
 
 pub drop_front : (n : ℕ) (xs ys : List ℕ) → length xs ≡ n → drop n (xs ++ ys) ≡ ys
 drop_front n xs ys size = rw (← size) (drop-append_seam xs ys)
+
+-- lists that agree from a place on agree from each later one
+pub drop_later : (xs ys : List ℕ) (a b : ℕ) → a ≤ b → drop a xs ≡ drop a ys → drop b xs ≡ drop b ys
+drop_later xs ys a b after same =
+    let whole : a + (b - a) ≡ b = omega arith in
+    ap (λ k. drop k xs) (sym whole) ∙ sym (drop-drop (b - a) a xs) ∙ ap (drop (b - a)) same ∙ drop-drop (b - a) a ys ∙ ap (λ k. drop k ys) whole
+
+-- and so do their parts
+pub part_later : (n : ℕ) (xs ys : List ℕ) (c : ℕ) → drop (c * n) xs ≡ drop (c * n) ys → part n xs c ≡ part n ys c
+part_later n xs ys c same = ap (take ((c + 1) * n - c * n)) same
+
+-- the front, one part longer
+pub take_part : (n : ℕ) (xs : List ℕ) (c : ℕ) → take ((c + 1) * n) xs ≡ take (c * n) xs ++ part n xs c
+take_part n xs c =
+    let whole : (c + 1) * n ≡ c * n + ((c + 1) * n - c * n) = omega arith in
+    ap (λ k. take k xs) whole ∙ take-add (c * n) ((c + 1) * n - c * n) xs

@@ -394,6 +394,86 @@ impl Address for ForsPrf {
     }
 }
 
+/// An address in a row of addresses that differ in one number alone: the chains of a key pair, or
+/// the nodes of a tree at one height.
+pub trait RowAddress: Address {
+    /// The bytes of the address with a number of its row.
+    ghost numbered: { Self → ℕ → List ℕ };
+
+    /// The address with a number of its row.
+    fn at_number(&self, number: u32) -> Self
+        ensures { Self.bytes result ≡ numbered self.now number };
+}
+
+impl RowAddress for WotsHash {
+    ghost numbered = { λ a k. address_bytes a.layer_adrs a.tree_adrs_low wots_hash_type
+        a.key_pair_adrs k a.hash_adrs };
+
+    #[inline]
+    fn at_number(&self, number: u32) -> WotsHash {
+        self.at_step(number, self.hash_adrs)
+    }
+}
+
+impl RowAddress for HashTree {
+    ghost numbered = { λ a k. address_bytes a.layer_adrs a.tree_adrs_low tree_type
+        0 a.tree_height k };
+
+    #[inline]
+    fn at_number(&self, number: u32) -> HashTree {
+        HashTree {
+            layer_adrs: self.layer_adrs,
+            tree_adrs_low: self.tree_adrs_low,
+            tree_height: self.tree_height,
+            tree_index: number,
+        }
+    }
+}
+
+impl RowAddress for ForsTree {
+    ghost numbered = { λ a k. address_bytes 0 a.tree_adrs_low fors_tree_type
+        a.key_pair_adrs a.tree_height k };
+
+    #[inline]
+    fn at_number(&self, number: u32) -> ForsTree {
+        ForsTree {
+            tree_adrs_low: self.tree_adrs_low,
+            key_pair_adrs: self.key_pair_adrs,
+            tree_height: self.tree_height,
+            tree_index: number,
+        }
+    }
+}
+
+impl RowAddress for WotsPrf {
+    ghost numbered = { λ a k. address_bytes a.layer_adrs a.tree_adrs_low wots_prf_type
+        a.key_pair_adrs k 0 };
+
+    #[inline]
+    fn at_number(&self, number: u32) -> WotsPrf {
+        WotsPrf {
+            layer_adrs: self.layer_adrs,
+            tree_adrs_low: self.tree_adrs_low,
+            key_pair_adrs: self.key_pair_adrs,
+            chain_adrs: number,
+        }
+    }
+}
+
+impl RowAddress for ForsPrf {
+    ghost numbered = { λ a k. address_bytes 0 a.tree_adrs_low fors_prf_type
+        a.key_pair_adrs 0 k };
+
+    #[inline]
+    fn at_number(&self, number: u32) -> ForsPrf {
+        ForsPrf {
+            tree_adrs_low: self.tree_adrs_low,
+            key_pair_adrs: self.key_pair_adrs,
+            tree_index: number,
+        }
+    }
+}
+
 #[cfg(test)]
 mod tests {
     use super::*;

@@ -1,10 +1,12 @@
 //! What a hash suite is.
-ghost use Rattle.std.specs.Prelude.{◌≡◌, ℕ, ◌+◌, ◌^◌, ◌≤◌, List, ◌++◌, length};
+ghost use Rattle.std.specs.Prelude.{◌≡◌, ℕ, ◌+◌, ◌*◌, ◌≤◌, List, ◌++◌, length, slice_index};
+ghost use Rattle.slh_core.specs.Bytes.{joined, part};
 ghost use Rattle.slh_core.specs.Suite.{Suite, HasLength, HasDigestLength};
 
-use crate::address::Address;
+use crate::address::{Address, RowAddress};
 use crate::nbytes::NBytes;
-use crate::params::{MAX_DIGEST_LEN, MAX_ENDS_LEN, MAX_MESSAGE_LEN};
+use crate::params::{MAX_DIGEST_LEN, MAX_ENDS_LEN, MAX_MESSAGE_LEN, MAX_N};
+use crate::parts::{part_of, put_part};
 use crate::steps::Steps;
 use hybrid_array::ArraySize;
 use std::sync::ledger::Ledger;
@@ -75,6 +77,86 @@ pub trait HashSuite {
     ) -> NBytes<Self::N>
         ensures value { result ≡ suite.prf (seed_of keyed.now) (A.bytes adrs.now) sk_seed.now }
         ensures step { steps.new ≡ steps.old + 1 };
+
+    /// F of values that stand one after the other, in their places. Their addresses are those of a
+    /// row with the numbers. A suite may hash several side by side.
+    #[tactic(auto, unfolding(crate::specs::Bytes::joined))]
+    fn f_each<A: RowAddress + Drop, L: Ledger>(
+        keyed: &Self::Keyed,
+        adrs: &A,
+        numbers: &[u32],
+        values: &mut [u8],
+        steps: &mut Steps<L>,
+    )
+        requires small { Self.N.USIZE ≤ MAX_N }
+        requires room { length values.old ≡ length numbers.now * Self.N.USIZE }
+        ensures value { let F = suite.f (seed_of keyed.now) in
+            let at : ℕ → List ℕ = λ k. A.numbered adrs.now (slice_index numbers.now k) in
+            let count = length numbers.now in
+            values.new ≡ joined (λ k. F (at k) (part Self.N.USIZE values.old k)) count }
+        ensures step { steps.new ≡ steps.old + length numbers.now }
+    {
+        let n = Self::N::USIZE;
+        for (k, number) in numbers.iter().enumerate() {
+            let value = part_of::<Self::N>(values, k);
+            let next = Self::f(keyed, &adrs.at_number(*number), &value, steps);
+            put_part(values, n, k, next.as_slice());
+        }
+    }
+
+    /// H of pairs of values that stand one after the other, each a left and a right one. Their
+    /// addresses are those of a row with the numbers. A suite may hash several side by side.
+    #[tactic(auto, unfolding(crate::specs::Bytes::joined))]
+    fn h_each<A: RowAddress + Drop, L: Ledger>(
+        keyed: &Self::Keyed,
+        adrs: &A,
+        numbers: &[u32],
+        pairs: &[u8],
+        out: &mut [u8],
+        steps: &mut Steps<L>,
+    )
+        requires small { Self.N.USIZE ≤ MAX_N }
+        requires pairs { length pairs.now ≡ length numbers.now * (2 * Self.N.USIZE) }
+        requires room { length out.old ≡ length numbers.now * Self.N.USIZE }
+        ensures value { let H = suite.h (seed_of keyed.now) in
+            let at : ℕ → List ℕ = λ k. A.numbered adrs.now (slice_index numbers.now k) in
+            let child : ℕ → List ℕ = λ k. part Self.N.USIZE pairs.now k in
+            let count = length numbers.now in
+            out.new ≡ joined (λ k. H (at k) (child (2 * k)) (child (2 * k + 1))) count }
+        ensures step { steps.new ≡ steps.old + length numbers.now }
+    {
+        let n = Self::N::USIZE;
+        for (k, number) in numbers.iter().enumerate() {
+            let left = part_of::<Self::N>(pairs, 2 * k);
+            let right = part_of::<Self::N>(pairs, 2 * k + 1);
+            let parent = Self::h(keyed, &adrs.at_number(*number), &left, &right, steps);
+            put_part(out, n, k, parent.as_slice());
+        }
+    }
+
+    /// PRF at the addresses of a row with the numbers: the secret values, one after the other. A
+    /// suite may make several side by side.
+    #[tactic(auto, unfolding(crate::specs::Bytes::joined))]
+    fn prf_each<A: RowAddress + Drop, L: Ledger>(
+        keyed: &Self::Keyed,
+        sk_seed: &NBytes<Self::N>,
+        adrs: &A,
+        numbers: &[u32],
+        out: &mut [u8],
+        steps: &mut Steps<L>,
+    )
+        requires { length out.old ≡ length numbers.now * Self.N.USIZE }
+        ensures value { let PRF = suite.prf (seed_of keyed.now) in
+            let at : ℕ → List ℕ = λ k. A.numbered adrs.now (slice_index numbers.now k) in
+            out.new ≡ joined (λ k. PRF (at k) sk_seed.now) (length numbers.now) }
+        ensures step { steps.new ≡ steps.old + length numbers.now }
+    {
+        let n = Self::N::USIZE;
+        for (k, number) in numbers.iter().enumerate() {
+            let secret = Self::prf_sk(keyed, sk_seed, &adrs.at_number(*number), steps);
+            put_part(out, n, k, secret.as_slice());
+        }
+    }
 
     /// PRF_msg: the randomizer of a signature.
     fn prf_msg(
