@@ -12,5 +12,5 @@ mod mac;
 mod tests;
 mod word;
 
-pub use hashing::{Hash, MAX_BYTES};
+pub use hashing::{BLOCK_BYTES, Hash, MAX_BYTES, MAX_TAIL};
 pub use mac::HMAC;

@@ -6,6 +6,7 @@
 mod join;
 mod keyed;
 mod mgf1;
+mod rows;
 mod sets;
 mod sha2_l1;
 #[cfg(test)]
