@@ -229,7 +229,8 @@ pub fn wots_pk_from_sig<P: WotsParams, L: Ledger>(
     requires { length sig.now ≡ P.WotsSigLen.USIZE * P.N.USIZE }
     ensures value { let K = seeded P.suite P.N.USIZE (P.seed_of keyed.now) in
         let a = adrs.now in
-        result ≡ spec_wots_pk_from_sig K a.layer_adrs a.tree_adrs_low a.key_pair_adrs sig.now m.now }
+        let j = a.layer_adrs in
+        result ≡ spec_wots_pk_from_sig K j a.tree_adrs_low a.key_pair_adrs sig.now m.now }
     ensures cost { let digits = wots_digits P.N.USIZE m.now in
         steps.new ≡ steps.old + wots_pk_from_sig_cost P.WotsSigLen.USIZE digits }
     ensures bound { steps.new ≤ steps.old + wots_pk_from_sig_bound P.WotsSigLen.USIZE }

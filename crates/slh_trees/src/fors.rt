@@ -5,8 +5,9 @@ ghost use Rattle.slh_core.specs.Bytes.{joined};
 ghost use Rattle.slh_core.specs.Costs.{auth_path_cost, fors_leaf_cost, fors_node_cost};
 ghost use Rattle.slh_core.specs.Costs.{fors_sign_cost, fors_pk_from_sig_cost, fors_pk_cost};
 ghost use Rattle.slh_core.specs.Suite.{seeded};
-ghost use Rattle.slh_trees.specs.Checking.{checked_fors_node, fors_pk_from_sig as spec_fors_pk_from_sig};
-ghost use Rattle.slh_trees.specs.Fors.{fors_place, fors_secret, fors_leaf, fors_node as spec_fors_node};
+ghost use Rattle.slh_trees.specs.Checking.{checked_fors_node};
+ghost use Rattle.slh_trees.specs.Checking.{fors_pk_from_sig as spec_fors_pk_from_sig};
+ghost use Rattle.slh_trees.specs.Fors.{fors_place, fors_secret, fors_node as spec_fors_node};
 ghost use Rattle.slh_trees.specs.Fors.{fors_auth_path, fors_pk, opened_leaves, fors_sig};
 ghost use Rattle.slh_trees.specs.Merkle.{node_bytes, climb as spec_climb};
 
@@ -76,8 +77,8 @@ impl<P: ForsParams> Leaves<P> for ForsTree {
     ghost few = { Prim.search rules };
 }
 
-/// The node with index `i` at height `z` (FIPS 205, algorithm 15). Its leaves are taken from left to
-/// right.
+/// The node with index `i` at height `z` (FIPS 205, algorithm 15), where indices run through all
+/// trees of the forest.
 pub fn fors_node<P: ForsParams, L: Ledger>(
     sk_seed: &NBytes<P::N>,
     i: u32,

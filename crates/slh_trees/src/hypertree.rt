@@ -47,9 +47,7 @@ fn tree_adrs_of(layer: u32, tree: u64) -> WotsHash
     WotsHash {
         layer_adrs: layer,
         tree_adrs_low: tree,
-        key_pair_adrs: 0,
-        chain_adrs: 0,
-        hash_adrs: 0,
+        ..WotsHash::default()
     }
 }
 

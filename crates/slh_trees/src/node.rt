@@ -57,8 +57,8 @@ pub(crate) fn sibling(index: u32) -> u32
     if index % 2 == 0 { index + 1 } else { index - 1 }
 }
 
-/// The node with an index at a height, from its left and its right child (FIPS 205, algorithms 9, 11,
-/// 15 and 17).
+/// The node with an index at a height, from its left and its right child. Making (FIPS 205,
+/// algorithms 9 and 15) and checking (11 and 17) hash them here alone.
 #[inline]
 pub(crate) fn parent<P: WotsParams, A: NodeAddress + Drop, L: Ledger>(
     left: &NBytes<P::N>,

@@ -23,7 +23,9 @@ const TREEHASH_LEN: usize = 32 * 32;
 fn store_node<N: ArraySize>(store: &mut [u8], h: usize, node: &NBytes<N>)
     requires fits { 32 * h + 32 ≤ length store.old }
     ensures there { stored_node N.USIZE store.new h ≡ node.now }
-    ensures others { (k : ℕ) → k ≢ h → stored_node N.USIZE store.new k ≡ stored_node N.USIZE store.old k }
+    ensures others { (k : ℕ)
+        → k ≢ h
+        → stored_node N.USIZE store.new k ≡ stored_node N.USIZE store.old k }
 {
     let bytes = node.as_slice();
     store[32 * h..32 * h + bytes.len()].copy_from_slice(bytes);
@@ -86,8 +88,8 @@ fn leaf_below(i: u32, z: u32, q: u32) -> u32
     (i << z) + q
 }
 
-/// The node with index `i` at height `z` of the trees of an address (FIPS 205, algorithms 9 and 15).
-/// Its leaves are taken from left to right.
+/// The node with index `i` at height `z` of the trees of an address (FIPS 205, algorithms 9 and
+/// 15). Its leaves are taken from left to right.
 pub(crate) fn treehash<P: WotsParams, A: Leaves<P> + Drop, L: Ledger>(
     sk_seed: &NBytes<P::N>,
     i: u32,

@@ -28,8 +28,7 @@ fn at_leaf(adrs: &WotsHash, key_pair: u32) -> WotsHash
         layer_adrs: adrs.layer_adrs,
         tree_adrs_low: adrs.tree_adrs_low,
         key_pair_adrs: key_pair,
-        chain_adrs: 0,
-        hash_adrs: 0,
+        ..WotsHash::default()
     }
 }
 
@@ -57,8 +56,7 @@ impl<P: XmssParams> Leaves<P> for HashTree {
             layer_adrs: self.layer_adrs,
             tree_adrs_low: self.tree_adrs_low,
             key_pair_adrs: index,
-            chain_adrs: 0,
-            hash_adrs: 0,
+            ..WotsHash::default()
         };
         wots_pk_gen::<P, L>(sk_seed, keyed, &adrs, steps)
     }
@@ -68,8 +66,7 @@ impl<P: XmssParams> Leaves<P> for HashTree {
     ghost few = { Prim.search rules };
 }
 
-/// The node with index `node` at a height of the tree of an address (FIPS 205, algorithm
-/// 9). Its leaves are taken from left to right.
+/// The node with index `node` at a height of the tree of an address (FIPS 205, algorithm 9).
 pub fn xmss_node<P: XmssParams, L: Ledger>(
     sk_seed: &NBytes<P::N>,
     node: u32,

@@ -3,7 +3,8 @@ use Rattle.std.specs.Prelude.{count_ones}
 use Rattle.slh_core.specs.Suite.{seeded}
 use Rattle.slh_trees.specs.Merkle.{merkle}
 use Rattle.slh_trees.specs.Treehash.{HoldsNodes}
-use Rattle.slh_trees.proofs.TreehashSteps.{half, height_small, height_below, ones_odd, ones_even, ones_shifted, bit_below, pair_up, index_at, odd_index, carried_up, HoldsNodes-more}
+use Rattle.slh_trees.proofs.Powers.{half}
+use Rattle.slh_trees.proofs.TreehashSteps.{height_small, height_below, ones_odd, ones_even, ones_shifted, bit_below, pair_up, index_at, odd_index, carried_up, HoldsNodes-more}
 use Rattle.slh_trees.proofs.treehash.push_leaf.Goals as goal
 
 pub loop-bits-init : goal.loop-bits-init
