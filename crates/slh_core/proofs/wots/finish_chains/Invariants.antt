@@ -2,7 +2,6 @@ use Rattle.std.proofs.Common.{◌≡◌, ◌+◌, ◌*◌, take}
 use Rattle.std.specs.Prelude.{sum}
 use Rattle.slh_core.specs.Bytes.{joined}
 use Rattle.slh_core.specs.Wots.{checked_chain}
-use Rattle.slh_core.specs.Suite.{seeded}
 use Rattle.slh_core.proofs.wots.finish_chains.Given as goal
 
 -- the ends so far, and their steps

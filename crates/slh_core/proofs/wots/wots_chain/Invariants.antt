@@ -1,5 +1,4 @@
 use Rattle.std.proofs.Common.{◌≡◌, ◌+◌}
-use Rattle.slh_core.specs.Suite.{seeded}
 use Rattle.slh_core.specs.Wots.{chain}
 use Rattle.slh_core.proofs.wots.wots_chain.Given as goal
 

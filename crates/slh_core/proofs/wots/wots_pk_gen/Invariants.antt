@@ -1,7 +1,6 @@
 use Rattle.std.proofs.Common.{◌≡◌, ◌+◌, ◌*◌, take, length}
 use Rattle.slh_core.specs.Bytes.{joined}
 use Rattle.slh_core.specs.Wots.{chain_value}
-use Rattle.slh_core.specs.Suite.{seeded}
 use Rattle.slh_core.specs.declared.params.TheConstants.{MAX_ENDS_LEN}
 use Rattle.slh_core.proofs.wots.wots_pk_gen.Given as goal
 

@@ -2,7 +2,6 @@ use Rattle.std.proofs.Common.{arith, ◌<◌, ◌++◌, refl}
 use Rattle.std.specs.Prelude.{slice_index}
 use Rattle.slh_core.specs.Bytes.{joined}
 use Rattle.slh_core.specs.Wots.{chain_value}
-use Rattle.slh_core.specs.Suite.{seeded}
 use Rattle.slh_core.proofs.Chains.{chain-chain_value}
 use Rattle.slh_core.proofs.Joins.{joined_more}
 use Rattle.slh_core.proofs.wots.write_both.Goals as goal

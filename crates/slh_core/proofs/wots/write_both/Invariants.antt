@@ -2,7 +2,6 @@ use Rattle.std.proofs.Common.{◌≡◌, ◌+◌, ◌*◌, take}
 use Rattle.std.specs.Prelude.{slice_index}
 use Rattle.slh_core.specs.Bytes.{joined}
 use Rattle.slh_core.specs.Wots.{chain_value}
-use Rattle.slh_core.specs.Suite.{seeded}
 use Rattle.slh_core.proofs.wots.write_both.Given as goal
 
 -- the chain values and the ends so far, and their steps
