@@ -10,6 +10,6 @@ loop-i-preserved g c =
     let K = g.P.HashSuite.keyed_suite c.args.keyed.now in
     let size : K.n ≡ g.P.N.ArraySize.USIZE = ap (λ k. k.n) (g.met.P.HashSuite.keyed_suite_is c.args.keyed.now) in
     record {
-  values = rw (c.put_part.ensures.front, c.loop-i.invariant.values, joined_more, c.as_slice.ensures.value, c.climb_opened-root.ensures.value, c.index_of-y.ensures.value, c.opened_len-size.ensures.value, ← size) refl;
-  cost = grind (arith, common_steps);
-}
+      values = rw (c.put_part.ensures.front, c.loop-i.invariant.values, joined_more, c.as_slice.ensures.value, c.climb_opened-root.ensures.value, c.index_of-y.ensures.value, c.opened_len-size.ensures.value, ← size) refl;
+      cost = grind (arith, common_steps);
+    }

@@ -1,7 +1,6 @@
 use Rattle.std.proofs.Common.{arith, ◌≡◌, ◌+◌, ◌-◌, ◌*◌, ◌≤◌, ◌++◌, length, refl}
 use Rattle.std.proofs.lemmas.Slice.{take-put_mid}
 use Rattle.slh_core.specs.Bytes.{joined}
-use Rattle.slh_core.specs.Suite.{seeded}
 use Rattle.slh_core.proofs.Joins.{joined_more}
 use Rattle.slh_trees.specs.Fors.{fors_opened}
 use Rattle.slh_core.specs.Costs.{auth_path_cost, fors_leaf_cost}

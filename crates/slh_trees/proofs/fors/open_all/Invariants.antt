@@ -1,7 +1,6 @@
-use Rattle.std.proofs.Common.{◌≡◌, ◌+◌, ◌*◌, ◌^◌, take}
+use Rattle.std.proofs.Common.{◌≡◌, ◌+◌, ◌*◌, take}
 use Rattle.slh_core.specs.Bytes.{joined}
 use Rattle.slh_core.specs.Costs.{fors_sign_cost}
-use Rattle.slh_core.specs.Suite.{seeded}
 use Rattle.slh_trees.specs.Fors.{fors_opened}
 use Rattle.slh_trees.proofs.fors.open_all.Given as goal
 

@@ -1,6 +1,5 @@
 use Rattle.std.proofs.Common.{arith, ◌≡◌, ap, refl}
 use Rattle.std.proofs.lemmas.Grind.{common_steps}
-use Rattle.slh_core.specs.Suite.{seeded}
 use Rattle.slh_trees.specs.Checking.{checked_message}
 use Rattle.slh_trees.proofs.Layers.{tree_at-zero, tree_at-more, leaf_at-more, checked_message-more}
 use Rattle.slh_trees.proofs.hypertree.ht_root.Goals as goal

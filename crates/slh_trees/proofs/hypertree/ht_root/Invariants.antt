@@ -1,6 +1,5 @@
-use Rattle.std.proofs.Common.{◌≡◌, ◌+◌, ◌*◌, ◌^◌, ◌<◌, ◌≤◌}
+use Rattle.std.proofs.Common.{◌≡◌, ◌+◌, ◌^◌, ◌<◌, ◌≤◌}
 use Rattle.slh_core.specs.Costs.{ht_verify_bound}
-use Rattle.slh_core.specs.Suite.{seeded}
 use Rattle.slh_trees.specs.Checking.{checked_message}
 use Rattle.slh_trees.specs.Hypertree.{leaf_at, tree_at}
 use Rattle.slh_trees.proofs.hypertree.ht_root.Given as goal

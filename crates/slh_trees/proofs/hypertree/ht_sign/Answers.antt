@@ -1,7 +1,6 @@
 use Rattle.std.proofs.Common.{arith, ◌≡◌, ◌+◌, ◌-◌, ◌*◌, ◌≤◌, [], length, refl}
 use Rattle.std.proofs.lemmas.Slice.{take-put_mid}
 use Rattle.slh_core.specs.Bytes.{joined}
-use Rattle.slh_core.specs.Suite.{seeded}
 use Rattle.slh_core.proofs.Joins.{joined_more}
 use Rattle.slh_trees.specs.Hypertree.{layer_signature}
 use Rattle.slh_core.specs.Costs.{xmss_node_cost}

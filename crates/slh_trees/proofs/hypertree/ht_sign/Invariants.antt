@@ -1,7 +1,6 @@
 use Rattle.std.proofs.Common.{◌≡◌, ◌+◌, ◌*◌, ◌^◌, ◌<◌, take}
 use Rattle.slh_core.specs.Bytes.{joined}
 use Rattle.slh_core.specs.Costs.{ht_sign_cost}
-use Rattle.slh_core.specs.Suite.{seeded}
 use Rattle.slh_trees.specs.Hypertree.{layer_signature, layer_message, leaf_at, tree_at}
 use Rattle.slh_trees.proofs.hypertree.ht_sign.Given as goal
 
