@@ -1,7 +1,7 @@
 //! What a hash suite is.
 ghost use Rattle.std.specs.Prelude.{◌≡◌, ℕ, ◌+◌, ◌*◌, ◌≤◌, List, ◌++◌, length, slice_index};
 ghost use Rattle.slh_core.specs.Bytes.{joined, part};
-ghost use Rattle.slh_core.specs.Suite.{Suite, HasLength, HasDigestLength};
+ghost use Rattle.slh_core.specs.Suite.{Suite, HasLength, HasDigestLength, Seeded, seeded};
 
 use crate::address::{Address, RowAddress};
 use crate::nbytes::NBytes;
@@ -32,6 +32,9 @@ pub trait HashSuite {
     /// The public seed that a state stands for.
     ghost seed_of: { Self.Keyed → List ℕ };
 
+    /// The functions with that seed.
+    ghost keyed_suite: { Self.Keyed → Seeded };
+
     /// The state for a public seed.
     fn keyed(pk_seed: &NBytes<Self::N>) -> Self::Keyed
         ensures { seed_of result ≡ pk_seed.now };
@@ -43,7 +46,8 @@ pub trait HashSuite {
         m: &NBytes<Self::N>,
         steps: &mut Steps<L>,
     ) -> NBytes<Self::N>
-        ensures value { result ≡ suite.f (seed_of keyed.now) (A.bytes adrs.now) m.now }
+        ensures value { let K = keyed_suite keyed.now in
+            result ≡ K.suite.f K.seed (A.bytes adrs.now) m.now }
         ensures step { steps.new ≡ steps.old + 1 };
 
     /// H: the hash of a left and a right value.
@@ -54,7 +58,8 @@ pub trait HashSuite {
         m2: &NBytes<Self::N>,
         steps: &mut Steps<L>,
     ) -> NBytes<Self::N>
-        ensures value { result ≡ suite.h (seed_of keyed.now) (A.bytes adrs.now) m1.now m2.now }
+        ensures value { let K = keyed_suite keyed.now in
+            result ≡ K.suite.h K.seed (A.bytes adrs.now) m1.now m2.now }
         ensures step { steps.new ≡ steps.old + 1 };
 
     /// T: the hash of many values, joined. There are at most as many as a key pair has chains.
@@ -65,7 +70,8 @@ pub trait HashSuite {
         steps: &mut Steps<L>,
     ) -> NBytes<Self::N>
         requires { length m.now ≤ MAX_ENDS_LEN }
-        ensures value { result ≡ suite.t (seed_of keyed.now) (A.bytes adrs.now) m.now }
+        ensures value { let K = keyed_suite keyed.now in
+            result ≡ K.suite.t K.seed (A.bytes adrs.now) m.now }
         ensures step { steps.new ≡ steps.old + 1 };
 
     /// PRF: a secret value, made from the secret seed.
@@ -75,7 +81,8 @@ pub trait HashSuite {
         adrs: &A,
         steps: &mut Steps<L>,
     ) -> NBytes<Self::N>
-        ensures value { result ≡ suite.prf (seed_of keyed.now) (A.bytes adrs.now) sk_seed.now }
+        ensures value { let K = keyed_suite keyed.now in
+            result ≡ K.suite.prf K.seed (A.bytes adrs.now) sk_seed.now }
         ensures step { steps.new ≡ steps.old + 1 };
 
     /// F of values that stand one after the other, in their places. Their addresses are those of a
@@ -90,10 +97,11 @@ pub trait HashSuite {
     )
         requires small { Self.N.USIZE ≤ MAX_N }
         requires room { length values.old ≡ length numbers.now * Self.N.USIZE }
-        ensures value { let F = suite.f (seed_of keyed.now) in
+        ensures value { let K = keyed_suite keyed.now in
             let at : ℕ → List ℕ = λ k. A.numbered adrs.now (slice_index numbers.now k) in
             let count = length numbers.now in
-            values.new ≡ joined (λ k. F (at k) (part Self.N.USIZE values.old k)) count }
+            values.new
+            ≡ joined (λ k. K.suite.f K.seed (at k) (part Self.N.USIZE values.old k)) count }
         ensures step { steps.new ≡ steps.old + length numbers.now }
     {
         let n = Self::N::USIZE;
@@ -118,11 +126,13 @@ pub trait HashSuite {
         requires small { Self.N.USIZE ≤ MAX_N }
         requires pairs { length pairs.now ≡ length numbers.now * (2 * Self.N.USIZE) }
         requires room { length out.old ≡ length numbers.now * Self.N.USIZE }
-        ensures value { let H = suite.h (seed_of keyed.now) in
+        ensures value { let K = keyed_suite keyed.now in
             let at : ℕ → List ℕ = λ k. A.numbered adrs.now (slice_index numbers.now k) in
             let child : ℕ → List ℕ = λ k. part Self.N.USIZE pairs.now k in
             let count = length numbers.now in
-            out.new ≡ joined (λ k. H (at k) (child (2 * k)) (child (2 * k + 1))) count }
+            let parent : ℕ → List ℕ = λ k.
+            K.suite.h K.seed (at k) (child (2 * k)) (child (2 * k + 1)) in
+            out.new ≡ joined parent count }
         ensures step { steps.new ≡ steps.old + length numbers.now }
     {
         let n = Self::N::USIZE;
@@ -146,9 +156,10 @@ pub trait HashSuite {
         steps: &mut Steps<L>,
     )
         requires { length out.old ≡ length numbers.now * Self.N.USIZE }
-        ensures value { let PRF = suite.prf (seed_of keyed.now) in
+        ensures value { let K = keyed_suite keyed.now in
             let at : ℕ → List ℕ = λ k. A.numbered adrs.now (slice_index numbers.now k) in
-            out.new ≡ joined (λ k. PRF (at k) sk_seed.now) (length numbers.now) }
+            let secret : ℕ → List ℕ = λ k. K.suite.prf K.seed (at k) sk_seed.now in
+            out.new ≡ joined secret (length numbers.now) }
         ensures step { steps.new ≡ steps.old + length numbers.now }
     {
         let n = Self::N::USIZE;
@@ -185,6 +196,10 @@ pub trait HashSuite {
         requires small { Self.M.USIZE ≤ MAX_DIGEST_LEN }
         ensures { let message = head.now ++ ctx.now ++ msg.now in
             out.new ≡ suite.h_msg rand.now pk_seed.now pk_root.now message };
+
+    /// What the functions with the seed of a state are.
+    ghost keyed_suite_is: { (k : Self.Keyed)
+        → keyed_suite k ≡ seeded suite Self.N.USIZE (seed_of k) };
 
     /// Each function gives as many bytes as its type says.
     ghost lengths: { Self.N.USIZE ≤ 32 → HasLength suite Self.N.USIZE };

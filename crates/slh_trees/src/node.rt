@@ -57,8 +57,8 @@ pub(crate) fn sibling(index: u32) -> u32
     if index % 2 == 0 { index + 1 } else { index - 1 }
 }
 
-/// The node with an index at a height, from its left and its right child (FIPS 205, algorithms 9, 11,
-/// 15 and 17).
+/// The node with an index at a height, from its left and its right child. Making (FIPS 205,
+/// algorithms 9 and 15) and checking (11 and 17) hash them here alone.
 #[inline]
 pub(crate) fn parent<P: WotsParams, A: NodeAddress + Drop, L: Ledger>(
     left: &NBytes<P::N>,
@@ -69,7 +69,7 @@ pub(crate) fn parent<P: WotsParams, A: NodeAddress + Drop, L: Ledger>(
     adrs: &A,
     steps: &mut Steps<L>,
 ) -> NBytes<P::N>
-    ensures value { let K = seeded P.suite P.N.USIZE (P.seed_of keyed.now) in
+    ensures value { let K = P.keyed_suite keyed.now in
         let at = node_bytes (A.place adrs.now) height index in
         result ≡ K.suite.h K.seed at left.now right.now }
     ensures cost { steps.new ≡ steps.old + 1 }

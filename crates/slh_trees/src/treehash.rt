@@ -23,7 +23,9 @@ const TREEHASH_LEN: usize = 32 * 32;
 fn store_node<N: ArraySize>(store: &mut [u8], h: usize, node: &NBytes<N>)
     requires fits { 32 * h + 32 ≤ length store.old }
     ensures there { stored_node N.USIZE store.new h ≡ node.now }
-    ensures others { (k : ℕ) → k ≢ h → stored_node N.USIZE store.new k ≡ stored_node N.USIZE store.old k }
+    ensures others { (k : ℕ)
+        → k ≢ h
+        → stored_node N.USIZE store.new k ≡ stored_node N.USIZE store.old k }
 {
     let bytes = node.as_slice();
     store[32 * h..32 * h + bytes.len()].copy_from_slice(bytes);
@@ -52,7 +54,7 @@ fn push_leaf<P: WotsParams, A: NodeAddress + Drop, L: Ledger>(
 )
     requires few { q < 2 ^ 31 }
     requires room { length store.old ≡ TREEHASH_LEN }
-    ensures holds { let K = seeded P.suite P.N.USIZE (P.seed_of keyed.now) in
+    ensures holds { let K = P.keyed_suite keyed.now in
         (leaves : ℕ → List ℕ) (i z : ℕ)
         → index ≡ i * 2 ^ z + q
         → q < 2 ^ z
@@ -86,8 +88,8 @@ fn leaf_below(i: u32, z: u32, q: u32) -> u32
     (i << z) + q
 }
 
-/// The node with index `i` at height `z` of the trees of an address (FIPS 205, algorithms 9 and 15).
-/// Its leaves are taken from left to right.
+/// The node with index `i` at height `z` of the trees of an address (FIPS 205, algorithms 9 and
+/// 15). Its leaves are taken from left to right.
 pub(crate) fn treehash<P: WotsParams, A: Leaves<P> + Drop, L: Ledger>(
     sk_seed: &NBytes<P::N>,
     i: u32,
@@ -98,7 +100,7 @@ pub(crate) fn treehash<P: WotsParams, A: Leaves<P> + Drop, L: Ledger>(
 ) -> NBytes<P::N>
     requires height { z ≤ A.height }
     requires node { i < A.trees * 2 ^ (A.height - z) }
-    ensures value { let K = seeded P.suite P.N.USIZE (P.seed_of keyed.now) in
+    ensures value { let K = P.keyed_suite keyed.now in
         let leaves = A.leaf K sk_seed.now adrs.now in
         result ≡ merkle K (A.place adrs.now) leaves z i }
     ensures cost { steps.new ≡ steps.old + node_cost A.leaf_cost z }
@@ -128,7 +130,7 @@ pub(crate) fn write_auth_path<P: WotsParams, A: Leaves<P> + Drop, L: Ledger>(
     requires leaf { y < A.trees * 2 ^ A.height }
     requires height { height ≡ A.height }
     requires room { length out.old ≡ height * P.N.USIZE }
-    ensures value { let K = seeded P.suite P.N.USIZE (P.seed_of keyed.now) in
+    ensures value { let K = P.keyed_suite keyed.now in
         let leaves = A.leaf K sk_seed.now adrs.now in
         out.new ≡ merkle_auth_path K (A.place adrs.now) leaves y height }
     ensures cost { steps.new ≡ steps.old + auth_path_cost A.leaf_cost height }

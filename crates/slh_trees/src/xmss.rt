@@ -28,8 +28,7 @@ fn at_leaf(adrs: &WotsHash, key_pair: u32) -> WotsHash
         layer_adrs: adrs.layer_adrs,
         tree_adrs_low: adrs.tree_adrs_low,
         key_pair_adrs: key_pair,
-        chain_adrs: 0,
-        hash_adrs: 0,
+        ..WotsHash::default()
     }
 }
 
@@ -57,8 +56,7 @@ impl<P: XmssParams> Leaves<P> for HashTree {
             layer_adrs: self.layer_adrs,
             tree_adrs_low: self.tree_adrs_low,
             key_pair_adrs: index,
-            chain_adrs: 0,
-            hash_adrs: 0,
+            ..WotsHash::default()
         };
         wots_pk_gen::<P, L>(sk_seed, keyed, &adrs, steps)
     }
@@ -68,8 +66,7 @@ impl<P: XmssParams> Leaves<P> for HashTree {
     ghost few = { Prim.search rules };
 }
 
-/// The node with index `node` at a height of the tree of an address (FIPS 205, algorithm
-/// 9). Its leaves are taken from left to right.
+/// The node with index `node` at a height of the tree of an address (FIPS 205, algorithm 9).
 pub fn xmss_node<P: XmssParams, L: Ledger>(
     sk_seed: &NBytes<P::N>,
     node: u32,
@@ -80,7 +77,7 @@ pub fn xmss_node<P: XmssParams, L: Ledger>(
 ) -> NBytes<P::N>
     requires height { height ≤ P.HPrime.USIZE }
     requires node { node < 2 ^ (P.HPrime.USIZE - height) }
-    ensures value { let K = seeded P.suite P.N.USIZE (P.seed_of keyed.now) in
+    ensures value { let K = P.keyed_suite keyed.now in
         let a = adrs.now in
         result ≡ spec_xmss_node K sk_seed.now a.layer_adrs a.tree_adrs_low height node }
     ensures cost { steps.new ≡ steps.old + xmss_node_cost P.WotsSigLen.USIZE height }
@@ -101,7 +98,7 @@ pub fn xmss_sign<P: XmssParams, L: Ledger>(
 )
     requires idx { idx < 2 ^ P.HPrime.USIZE }
     requires room { length out.old ≡ (P.WotsSigLen.USIZE + P.HPrime.USIZE) * P.N.USIZE }
-    ensures value { let K = seeded P.suite P.N.USIZE (P.seed_of keyed.now) in
+    ensures value { let K = P.keyed_suite keyed.now in
         let a = adrs.now in
         let hp = P.HPrime.USIZE in
         out.new ≡ xmss_sig K sk_seed.now a.layer_adrs a.tree_adrs_low idx m.now hp }
@@ -129,7 +126,7 @@ pub fn xmss_pk_from_sig<P: XmssParams, L: Ledger>(
 ) -> NBytes<P::N>
     requires idx { idx < 2 ^ P.HPrime.USIZE }
     requires whole { length sig.now ≡ (P.WotsSigLen.USIZE + P.HPrime.USIZE) * P.N.USIZE }
-    ensures value { let K = seeded P.suite P.N.USIZE (P.seed_of keyed.now) in
+    ensures value { let K = P.keyed_suite keyed.now in
         let a = adrs.now in
         let hp = P.HPrime.USIZE in
         result ≡ checked_node K a.layer_adrs a.tree_adrs_low idx sig.now m.now hp }
@@ -158,10 +155,10 @@ pub fn xmss_sign_root<P: XmssParams, L: Ledger>(
 ) -> NBytes<P::N>
     requires idx { idx < 2 ^ P.HPrime.USIZE }
     requires room { length out.old ≡ (P.WotsSigLen.USIZE + P.HPrime.USIZE) * P.N.USIZE }
-    ensures root { let K = seeded P.suite P.N.USIZE (P.seed_of keyed.now) in
+    ensures root { let K = P.keyed_suite keyed.now in
         let a = adrs.now in
         result ≡ spec_xmss_node K sk_seed.now a.layer_adrs a.tree_adrs_low P.HPrime.USIZE 0 }
-    ensures value { let K = seeded P.suite P.N.USIZE (P.seed_of keyed.now) in
+    ensures value { let K = P.keyed_suite keyed.now in
         let a = adrs.now in
         let hp = P.HPrime.USIZE in
         out.new ≡ xmss_sig K sk_seed.now a.layer_adrs a.tree_adrs_low idx m.now hp }

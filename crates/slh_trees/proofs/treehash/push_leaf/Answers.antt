@@ -1,9 +1,9 @@
 use Rattle.std.proofs.Common.{rules, arith, ◌≡◌, ◌+◌, ◌-◌, ◌*◌, ◌/◌, ◌%◌, ◌^◌, ◌<◌, ◌≤◌, ap, ◌∙◌, refl}
 use Rattle.std.specs.Prelude.{count_ones}
-use Rattle.slh_core.specs.Suite.{seeded}
 use Rattle.slh_trees.specs.Merkle.{merkle}
 use Rattle.slh_trees.specs.Treehash.{HoldsNodes}
-use Rattle.slh_trees.proofs.TreehashSteps.{half, height_small, height_below, ones_odd, ones_even, ones_shifted, bit_below, pair_up, index_at, odd_index, carried_up, HoldsNodes-more}
+use Rattle.slh_trees.proofs.Powers.{half}
+use Rattle.slh_trees.proofs.TreehashSteps.{height_small, height_below, ones_odd, ones_even, ones_shifted, bit_below, pair_up, index_at, odd_index, carried_up, HoldsNodes-more}
 use Rattle.slh_trees.proofs.treehash.push_leaf.Goals as goal
 
 pub loop-bits-init : goal.loop-bits-init
@@ -38,7 +38,7 @@ store_node-requires g c = record {
 pub loop-bits-preserved : goal.loop-bits-preserved
 unfolding HoldsNodes
 loop-bits-preserved g c =
-    let K = seeded g.P.HashSuite.suite g.P.N.ArraySize.USIZE (g.P.HashSuite.seed_of c.args.keyed.now) in
+    let K = g.P.HashSuite.keyed_suite c.args.keyed.now in
     let B = g.A.NodeAddress.place c.args.adrs.now in
     let i = c.loop-bits.invariant in
     let h = c.loop-bits.h in
@@ -61,7 +61,7 @@ loop-bits-preserved g c =
 
 pub returns-clause-holds : goal.returns-clause-holds
 returns-clause-holds g c = λ leaves at z e below is holds.
-    let K = seeded g.P.HashSuite.suite g.P.N.ArraySize.USIZE (g.P.HashSuite.seed_of c.args.keyed.now) in
+    let K = g.P.HashSuite.keyed_suite c.args.keyed.now in
     let B = g.A.NodeAddress.place c.args.adrs.now in
     let i = c.loop-bits.invariant in
     let h = c.loop-bits.h in

@@ -5,11 +5,11 @@ use Rattle.slh_core.proofs.suite.HashSuite.f_each.Goals as goal
 
 pub loop-k-preserved : goal.loop-k-preserved
 loop-k-preserved g c =
-    let F = g.Self.HashSuite.suite.f (g.Self.HashSuite.seed_of c.args.keyed.now) in
+    let K = g.Self.HashSuite.keyed_suite c.args.keyed.now in
     let n = g.Self.N.ArraySize.USIZE in
     let m = c.USIZE-n.result in
     let old = c.args.values.now in
-    let next : ℕ → List ℕ = λ i. F (g.A.RowAddress.numbered c.args.adrs.now (slice_index c.args.numbers.now i)) (part n old i) in
+    let next : ℕ → List ℕ = λ i. K.suite.f K.seed (g.A.RowAddress.numbered c.args.adrs.now (slice_index c.args.numbers.now i)) (part n old i) in
     let k = c.loop-k.k in
     let i = c.loop-k.invariant in
     record {

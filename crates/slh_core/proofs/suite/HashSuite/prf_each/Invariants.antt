@@ -5,8 +5,8 @@ use Rattle.slh_core.proofs.suite.HashSuite.prf_each.Given as goal
 -- the secrets so far, and their steps
 abbrev pub invariant-loop-k : goal.invariant-loop-k
 invariant-loop-k g l =
-    let PRF = g.Self.HashSuite.suite.prf (g.Self.HashSuite.seed_of l.keyed) in
+    let K = g.Self.HashSuite.keyed_suite l.keyed in
     record {
-      secrets : take (l.k * l.n) l.out ≡ joined (λ i. PRF (g.A.RowAddress.numbered l.adrs (slice_index l.numbers i)) l.sk_seed) l.k;
+      secrets : take (l.k * l.n) l.out ≡ joined (λ i. K.suite.prf K.seed (g.A.RowAddress.numbered l.adrs (slice_index l.numbers i)) l.sk_seed) l.k;
       cost : l.steps ≡ l.initial.steps + l.k;
     }
