@@ -1,5 +1,5 @@
 -- A row of values that is hashed group by group.
-use Rattle.std.proofs.Common.{◌≡◌, ℕ, zero, suc, ◌+◌, ◌-◌, ◌*◌, ◌<◌, ◌≤◌, ◌∙◌, List, [], ◌++◌, length, map, min, slice_index, slice_index_or, take, drop, ap, sym, refl, arith, add-zero, add-suc, append_assoc, append-nil, length-take, length-drop, get_or-take, get_or-drop}
+use Rattle.std.proofs.Common.{◌≡◌, ℕ, zero, suc, ◌+◌, ◌-◌, ◌*◌, ◌<◌, ◌≤◌, ◌∙◌, List, [], ◌++◌, length, map, min, slice_index, slice_index_or, take, drop, ap, sym, refl, arith, add-zero, add-suc, append_assoc, append-nil, length-take, length-drop, get_or-take, get_or-drop, take-add}
 use Rattle.std.specs.Prelude.{slice_range}
 use Rattle.std.proofs.lemmas.List.{drop-take, drop-drop, get_or-map, take-take}
 use Rattle.std.proofs.lemmas.Nat.{mul-le}
@@ -94,3 +94,24 @@ pub hashes_of_repeated : (F : ℕ → List ℕ → List ℕ) (n count : ℕ) (v 
 hashes_of_repeated F n count v filled out size all made =
     made ∙ joined_same _ _ count (λ k below.
     ap (F k) (ap (λ (xs : List ℕ). part n xs k) all ∙ part-joined (λ (i : ℕ). v) n count k (λ i. size) below))
+
+-- a part of twice the size is two parts
+part_of_two : (n k : ℕ) (xs : List ℕ) → part (2 * n) xs k ≡ part n xs (2 * k) ++ part n xs (2 * k + 1)
+part_of_two n k xs =
+    let both : (k + 1) * (2 * n) - k * (2 * n) ≡ n + n = omega arith in
+    let left : (2 * k + 1) * n - 2 * k * n ≡ n = omega arith in
+    let right : (2 * k + 1 + 1) * n - (2 * k + 1) * n ≡ n = omega arith in
+    let from : k * (2 * n) ≡ 2 * k * n = omega arith in
+    let next : 2 * k * n + n ≡ (2 * k + 1) * n = omega arith in
+    ap (λ w. take w (drop (k * (2 * n)) xs)) both
+    ∙ ap (λ p. take (n + n) (drop p xs)) from
+    ∙ take-add n n (drop (2 * k * n) xs)
+    ∙ ap (λ ys. take n (drop (2 * k * n) xs) ++ take n ys) (drop-drop n (2 * k * n) xs ∙ ap (λ p. drop p xs) next)
+    ∙ rw (left, right) refl
+
+-- the hashes of pairs are those of a left and a right value
+pub hashes_of_pairs : (F : ℕ → List ℕ → List ℕ) (n count : ℕ) (pairs out : List ℕ)
+    → out ≡ joined (λ k. F k (part (2 * n) pairs k)) count
+    → out ≡ joined (λ k. F k (part n pairs (2 * k) ++ part n pairs (2 * k + 1))) count
+hashes_of_pairs F n count pairs out made =
+    made ∙ joined_same _ _ count (λ k below. ap (F k) (part_of_two n k pairs))

@@ -8,6 +8,7 @@ ghost use Rattle.slh_hash.specs.Sha2.{seed_block, tweaked_hash};
 
 use crate::join::put_two;
 use crate::keyed::Sha2Keyed;
+use crate::tweaked::short_hash;
 use hmac_sha256::{BLOCK_BYTES, MAX_TAIL};
 use hybrid_array::ArraySize;
 use slh_core::address::{Address, RowAddress};
@@ -149,10 +150,9 @@ pub(crate) fn hash_each<N: ArraySize, A: RowAddress + Drop, L: Ledger>(
     }
 }
 
-/// Hashes pairs of values of `N::USIZE` bytes, which stand one after the other, each a left and a
-/// right one. Their addresses are those of a row with the numbers.
+// Pairs that end in one block each.
 #[tactic(auto, unfolding(slh_core::specs::Bytes::joined))]
-pub(crate) fn hash_pairs<N: ArraySize, A: RowAddress + Drop, L: Ledger>(
+fn hash_short_pairs<N: ArraySize, A: RowAddress + Drop, L: Ledger>(
     keyed: &Sha2Keyed<N>,
     adrs: &A,
     numbers: &[u32],
@@ -179,5 +179,76 @@ pub(crate) fn hash_pairs<N: ArraySize, A: RowAddress + Drop, L: Ledger>(
         let digests = digests_of(keyed, adrs, group, inputs, 2 * n);
         put_hashes::<N, L>(&digests, group.len(), &mut out[done * n..end * n], steps);
         done = end;
+    }
+}
+
+// Pairs of any length.
+#[tactic(auto, unfolding(slh_core::specs::Bytes::joined))]
+fn hash_long_pairs<N: ArraySize, A: RowAddress + Drop, L: Ledger>(
+    keyed: &Sha2Keyed<N>,
+    adrs: &A,
+    numbers: &[u32],
+    pairs: &[u8],
+    out: &mut [u8],
+    steps: &mut Steps<L>,
+)
+    requires small { N.USIZE ≤ 32 }
+    requires pairs { length pairs.now ≡ length numbers.now * (2 * N.USIZE) }
+    requires room { length out.old ≡ length numbers.now * N.USIZE }
+    ensures value { let n = N.USIZE in
+        let at : ℕ → List ℕ = λ k. A.numbered adrs.now (slice_index numbers.now k) in
+        let s = keyed.now.pk_seed in
+        let hash : ℕ → List ℕ = λ k. tweaked_hash n s (at k) (part (2 * n) pairs.now k) in
+        out.new ≡ joined hash (length numbers.now) }
+    ensures step { steps.new ≡ steps.old + length numbers.now }
+{
+    let n = N::USIZE;
+    for (k, number) in numbers.iter().enumerate() {
+        steps.tick();
+        let pair = &pairs[k * (2 * n)..k * (2 * n) + 2 * n];
+        let parent = short_hash(keyed, &adrs.at_number(*number), pair);
+        put_part(out, n, k, parent.as_slice());
+    }
+}
+
+/// Hashes pairs of values of `N::USIZE` bytes, which stand one after the other, each a left and a
+/// right one. Their addresses are those of a row with the numbers.
+#[inline]
+pub(crate) fn hash_pairs<N: ArraySize, A: RowAddress + Drop, L: Ledger>(
+    keyed: &Sha2Keyed<N>,
+    adrs: &A,
+    numbers: &[u32],
+    pairs: &[u8],
+    out: &mut [u8],
+    steps: &mut Steps<L>,
+)
+    requires small { N.USIZE ≤ 32 }
+    requires pairs { length pairs.now ≡ length numbers.now * (2 * N.USIZE) }
+    requires room { length out.old ≡ length numbers.now * N.USIZE }
+    ensures value { let n = N.USIZE in
+        let at : ℕ → List ℕ = λ k. A.numbered adrs.now (slice_index numbers.now k) in
+        let s = keyed.now.pk_seed in
+        let hash : ℕ → List ℕ = λ k. tweaked_hash n s (at k) (part (2 * n) pairs.now k) in
+        out.new ≡ joined hash (length numbers.now) }
+    ensures step { steps.new ≡ steps.old + length numbers.now }
+{
+    if ADDRESS_LEN + 2 * N::USIZE <= MAX_TAIL {
+        hash_short_pairs(keyed, adrs, numbers, pairs, out, steps);
+    } else {
+        hash_long_pairs(keyed, adrs, numbers, pairs, out, steps);
+    }
+}
+
+/// Writes a value `count` times.
+#[tactic(auto, unfolding(slh_core::specs::Bytes::joined))]
+pub(crate) fn repeat<N: ArraySize>(value: &NBytes<N>, count: usize, out: &mut [u8])
+    requires { length out.old ≡ count * N.USIZE }
+    ensures values { out.new ≡ joined (λ (k : ℕ). value.now) count }
+    ensures len { length value.now ≡ N.USIZE }
+{
+    let bytes = value.as_slice();
+    let n = bytes.len();
+    for k in 0..count {
+        put_part(out, n, k, bytes);
     }
 }

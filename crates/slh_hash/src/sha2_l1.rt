@@ -1,16 +1,18 @@
 //! The suite of security category 1 (FIPS 205, section 11.2.1).
-ghost use Rattle.std.specs.Prelude.{◌≡◌, ◌+◌, ◌^◌, ◌≤◌, ◌++◌, length};
+ghost use Rattle.std.specs.Prelude.{◌≡◌, ◌+◌, ◌≤◌, ◌++◌, length, refl};
 ghost use Rattle.hmac_sha256.specs.Sha256.{sha256};
+ghost use Rattle.slh_core.specs.Suite.{seeded};
 ghost use Rattle.slh_hash.specs.Sha2.{sha2_category_1};
 ghost use Rattle.slh_hash.specs.Lengths.{sha2_category_1_lengths, sha2_category_1_digest_length};
 
 use crate::join::{put_three, put_two};
 use crate::keyed::Sha2Keyed;
 use crate::mgf1::mgf1_256;
+use crate::rows::{hash_each, hash_pairs, repeat};
 use crate::tweaked::{long_hash, short_hash, start};
 use hmac_sha256::{HMAC, Hash};
 use hybrid_array::ArraySize;
-use slh_core::address::Address;
+use slh_core::address::{Address, RowAddress};
 use slh_core::nbytes::NBytes;
 use slh_core::params::MAX_MESSAGE_LEN;
 use slh_core::steps::Steps;
@@ -35,6 +37,9 @@ impl<N: ArraySize, M: ArraySize> HashSuite for Sha2L1<N, M> {
     ghost suite = { sha2_category_1 N.USIZE M.USIZE };
 
     ghost seed_of = { λ keyed. keyed.pk_seed };
+
+    ghost keyed_suite = { λ keyed.
+        seeded (sha2_category_1 N.USIZE M.USIZE) N.USIZE keyed.pk_seed };
 
     fn keyed(pk_seed: &NBytes<N>) -> Sha2Keyed<N> {
         start(pk_seed)
@@ -86,6 +91,39 @@ impl<N: ArraySize, M: ArraySize> HashSuite for Sha2L1<N, M> {
         short_hash(keyed, adrs, sk_seed.as_slice())
     }
 
+    fn f_each<A: RowAddress + Drop, L: Ledger>(
+        keyed: &Sha2Keyed<N>,
+        adrs: &A,
+        numbers: &[u32],
+        values: &mut [u8],
+        steps: &mut Steps<L>,
+    ) {
+        hash_each(keyed, adrs, numbers, values, steps);
+    }
+
+    fn h_each<A: RowAddress + Drop, L: Ledger>(
+        keyed: &Sha2Keyed<N>,
+        adrs: &A,
+        numbers: &[u32],
+        pairs: &[u8],
+        out: &mut [u8],
+        steps: &mut Steps<L>,
+    ) {
+        hash_pairs(keyed, adrs, numbers, pairs, out, steps);
+    }
+
+    fn prf_each<A: RowAddress + Drop, L: Ledger>(
+        keyed: &Sha2Keyed<N>,
+        sk_seed: &NBytes<N>,
+        adrs: &A,
+        numbers: &[u32],
+        out: &mut [u8],
+        steps: &mut Steps<L>,
+    ) {
+        repeat(sk_seed, numbers.len(), out);
+        hash_each(keyed, adrs, numbers, out, steps);
+    }
+
     fn prf_msg(
         sk_prf: &NBytes<N>,
         opt_rand: &NBytes<N>,
@@ -115,6 +153,8 @@ impl<N: ArraySize, M: ArraySize> HashSuite for Sha2L1<N, M> {
         let end = put_three(rand.as_slice(), pk_seed.as_slice(), &digest, &mut seed);
         mgf1_256(&seed[..end], out);
     }
+
+    ghost keyed_suite_is = { λ _. refl };
 
     ghost lengths = { sha2_category_1_lengths N.USIZE M.USIZE };
 

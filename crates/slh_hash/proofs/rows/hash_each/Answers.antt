@@ -54,11 +54,11 @@ loop-done-preserved g c =
     let raw : length made ≡ length (slice_range cur (d * n) (c.min-end.result * n)) = rw same at c.put_hashes.auto.out in
     let size : length made ≡ r * n = raw ∙ sized ∙ ap (λ k. k * n) group in
     let digest_is : (k : ℕ) → k < r
-        → slice_index_or c.digests_of-digests.result k []
-        ≡ sha256 (seed_block n s ++ (compressed_address (at (slice_index (slice_range numbers d (d + r)) k)) ++ part n (slice_range cur (d * n) ((d + r) * n)) k))
+    → slice_index_or c.digests_of-digests.result k []
+    ≡ sha256 (seed_block n s ++ (compressed_address (at (slice_index (slice_range numbers d (d + r)) k)) ++ part n (slice_range cur (d * n) ((d + r) * n)) k))
     = λ k below.
-        let at_k = c.digests_of-digests.ensures k (omega (arith, group)) in
-        rw (end, same) at at_k in
+    let at_k = c.digests_of-digests.ensures k (omega (arith, group)) in
+    rw (end, same) at at_k in
     record {
       hashes = rw (end, same) (group_more hash n d r cur made fits (rw same at i.hashes) size
           (group_hashed at n n d r s numbers cur old made c.digests_of-digests.result rest made_is

@@ -1,7 +1,7 @@
 use Rattle.std.proofs.Common.{◌≡◌, ◌≤◌, ◌+◌, ◌-◌, ◌*◌, length, slice_index, take}
 use Rattle.slh_core.specs.Bytes.{joined, part}
 use Rattle.slh_hash.specs.Sha2.{tweaked_hash}
-use Rattle.slh_hash.proofs.rows.hash_pairs.Given as goal
+use Rattle.slh_hash.proofs.rows.hash_short_pairs.Given as goal
 
 -- the hashes so far, and the steps
 abbrev pub invariant-loop-done : goal.invariant-loop-done

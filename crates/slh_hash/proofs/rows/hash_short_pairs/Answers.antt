@@ -6,7 +6,7 @@ use Rattle.slh_core.specs.Address.{compressed_address}
 use Rattle.slh_core.specs.Bytes.{joined, part}
 use Rattle.slh_hash.specs.Sha2.{seed_block, tweaked_hash}
 use Rattle.slh_hash.proofs.Grouped.{group_hashed, group_more, length-group}
-use Rattle.slh_hash.proofs.rows.hash_pairs.Goals as goal
+use Rattle.slh_hash.proofs.rows.hash_short_pairs.Goals as goal
 
 pub digests_of-digests-requires-clause-whole : goal.digests_of-digests-requires-clause-whole
 digests_of-digests-requires-clause-whole g c =
@@ -50,12 +50,12 @@ loop-done-preserved g c =
     let raw : length made ≡ length (slice_range cur (d * n) (c.min-end.result * n)) = rw same at c.put_hashes.auto.out in
     let size : length made ≡ r * n = raw ∙ sized ∙ ap (λ k. k * n) group in
     let digest_is : (k : ℕ) → k < r
-        → slice_index_or c.digests_of-digests.result k []
-        ≡ sha256 (seed_block n s ++ (compressed_address (at (slice_index (slice_range numbers d (d + r)) k))
-        ++ part (2 * n) (slice_range pairs (d * (2 * n)) ((d + r) * (2 * n))) k))
+    → slice_index_or c.digests_of-digests.result k []
+    ≡ sha256 (seed_block n s ++ (compressed_address (at (slice_index (slice_range numbers d (d + r)) k))
+    ++ part (2 * n) (slice_range pairs (d * (2 * n)) ((d + r) * (2 * n))) k))
     = λ k below.
-        let at_k = c.digests_of-digests.ensures k (omega (arith, group)) in
-        rw (end, same) at at_k in
+    let at_k = c.digests_of-digests.ensures k (omega (arith, group)) in
+    rw (end, same) at at_k in
     record {
       hashes = rw (end, same) (group_more hash n d r cur made fits (rw same at i.hashes) size
           (group_hashed at n (2 * n) d r s numbers pairs pairs made c.digests_of-digests.result refl made_is digest_is));
