@@ -1,7 +1,9 @@
 -- Chains that go on from their middle, and the signatures made of them.
-use Rattle.std.proofs.Common.{◌≡◌, ℕ, zero, suc, ◌+◌, ◌-◌, ◌*◌, ◌<◌, List, length, arith, ap, sym, refl, ◌∙◌, add-zero, add-suc, zero-add}
+use Rattle.std.proofs.Common.{◌≡◌, ℕ, zero, suc, ◌+◌, ◌-◌, ◌*◌, ◌<◌, List, length, min, nat_lt, if◌then◌else◌, arith, ap, sym, refl, ◌∙◌, add-one, add-zero, add-suc, zero-add, inl, inr}
+use Rattle.std.proofs.lemmas.Bool.{cases_lt, le-ltb, lt-ltb}
 use Rattle.std.specs.Prelude.{slice_index}
-use Rattle.slh_core.specs.Address.{address_bytes, wots_pk_type}
+use Rattle.slh_core.specs.Address.{address_bytes, wots_hash_type, wots_pk_type, wots_prf_type}
+use Rattle.slh_core.specs.Bytes.{joined, part}
 use Rattle.slh_core.specs.Wots.{chain, chain_secret, chain_value, wots_pk, chain_values, wots_sig, checked_ends, wots_pk_from_sig}
 use Rattle.slh_core.specs.Digits.{wots_digits}
 use Rattle.slh_core.specs.Parameters.{chain_count}
@@ -62,3 +64,67 @@ chain-chain_value K sk j t l c q small =
     let whole : q + (15 - q) ≡ 15 = omega arith in
     sym (rw zero-add at (chain-add K (chain_secret K sk j t l c) j t l c 0 q (15 - q)))
     ∙ ap (λ e. chain_value K sk j t l c e) whole
+
+module _ (K : Seeded) (sk : List ℕ) (j t l : ℕ) where
+  -- a row of secrets is where the chains start
+  pub chains_first : (len : ℕ) (numbers out : List ℕ) → ((c : ℕ) → c < len → slice_index numbers c ≡ c)
+      → out ≡ joined (λ c. K.suite.prf K.seed (address_bytes j t wots_prf_type l (slice_index numbers c) 0) sk) len
+      → out ≡ joined (λ c. chain_value K sk j t l c 0) len
+  unfolding chain
+  chains_first len numbers out numbered made =
+      made ∙ joined_same _ _ len (λ c below.
+      rw (numbered c below) refl)
+
+  -- a row of hashes takes every chain one step on
+  pub chains_next : (len q : ℕ) (numbers old new : List ℕ) → HasLength K.suite K.n
+      → ((c : ℕ) → c < len → slice_index numbers c ≡ c)
+      → old ≡ joined (λ c. chain_value K sk j t l c q) len
+      → new ≡ joined (λ c. K.suite.f K.seed (address_bytes j t wots_hash_type l (slice_index numbers c) q) (part K.n old c)) len
+      → new ≡ joined (λ c. chain_value K sk j t l c (q + 1)) len
+  unfolding chain
+  chains_next len q numbers old new law numbered held made =
+      made ∙ joined_same _ _ len (λ c below.
+      let sizes : (k : ℕ) → length (chain_value K sk j t l k q) ≡ K.n = λ k. length-chain_value K sk j t l k q law in
+      let cut : part K.n old c ≡ chain_value K sk j t l c q
+      = ap (λ (xs : List ℕ). part K.n xs c) held ∙ part-joined (λ k. chain_value K sk j t l k q) K.n len c sizes below in
+      let step : q ≡ 0 + q = omega arith in
+      rw (numbered c below, cut, add-one) (ap (λ e. K.suite.f K.seed (address_bytes j t wots_hash_type l c e) (chain_value K sk j t l c q)) step))
+
+  -- after no steps no chain is past its digit
+  pub running_first : (len : ℕ) (w out ends : List ℕ) → ends ≡ joined (λ c. chain_value K sk j t l c 0) len → out ≡ ends
+      → out ≡ joined (λ c. chain_value K sk j t l c (min 0 (slice_index w c))) len
+  running_first len w out ends held same =
+      same ∙ held ∙ joined_same _ _ len (λ c below.
+      let none : 0 ≡ min 0 (slice_index w c) = omega arith in ap (λ q. chain_value K sk j t l c q) none)
+
+  -- one step more for the chains that are not past their digits
+  pub running_next : (len q : ℕ) (w out ends new : List ℕ) → HasLength K.suite K.n
+      → out ≡ joined (λ c. chain_value K sk j t l c (min q (slice_index w c))) len
+      → ends ≡ joined (λ c. chain_value K sk j t l c (q + 1)) len
+      → new ≡ joined (λ c. if nat_lt (slice_index w c) (q + 1) then part K.n out c else part K.n ends c) len
+      → new ≡ joined (λ c. chain_value K sk j t l c (min (q + 1) (slice_index w c))) len
+  running_next len q w out ends new law held on made =
+      made ∙ joined_same _ _ len (λ c below.
+      let digit = slice_index w c in
+      let value = λ (k : ℕ). chain_value K sk j t l c k in
+      elim (cases_lt digit (q + 1)) [
+        | inl past ↦
+            let sizes : (k : ℕ) → length (chain_value K sk j t l k (min q (slice_index w k))) ≡ K.n = λ k. length-chain_value K sk j t l k (min q (slice_index w k)) law in
+            let cut = ap (λ (xs : List ℕ). part K.n xs c) held ∙ part-joined (λ k. chain_value K sk j t l k (min q (slice_index w k))) K.n len c sizes below in
+            let same : min q digit ≡ min (q + 1) digit = omega arith in
+            rw (lt-ltb digit (q + 1) past) (cut ∙ ap value same)
+        | inr running ↦
+            let sizes : (k : ℕ) → length (chain_value K sk j t l k (q + 1)) ≡ K.n = λ k. length-chain_value K sk j t l k (q + 1) law in
+            let cut = ap (λ (xs : List ℕ). part K.n xs c) on ∙ part-joined (λ k. chain_value K sk j t l k (q + 1)) K.n len c sizes below in
+            let same : q + 1 ≡ min (q + 1) digit = omega arith in
+            rw (le-ltb digit (q + 1) running) (cut ∙ ap value same)
+      ])
+
+  -- after fifteen steps every chain has stopped at its digit
+  pub running_all : (len : ℕ) (w out : List ℕ) → ((c : ℕ) → c < len → slice_index w c < 16)
+      → out ≡ joined (λ c. chain_value K sk j t l c (min 15 (slice_index w c))) len
+      → out ≡ joined (λ c. chain_value K sk j t l c (slice_index w c)) len
+  running_all len w out small held =
+      held ∙ joined_same _ _ len (λ c below.
+      let fits : slice_index w c < 16 = small c below in
+      let same : min 15 (slice_index w c) ≡ slice_index w c = omega arith in ap (λ q. chain_value K sk j t l c q) same)

@@ -1,6 +1,7 @@
 //! WOTS+: chains and key pairs (FIPS 205, section 5).
-ghost use Rattle.std.specs.Prelude.{◌≡◌, ◌+◌, ◌*◌, ◌≤◌, ◌<◌, length, sum, EachIndex, slice_index};
-ghost use Rattle.slh_core.specs.Bytes.{joined};
+ghost use Rattle.std.specs.Prelude.{◌≡◌, ℕ, ◌+◌, ◌*◌, ◌≤◌, ◌<◌, List, length, sum, EachIndex};
+ghost use Rattle.std.specs.Prelude.{slice_index, nat_lt, if◌then◌else◌};
+ghost use Rattle.slh_core.specs.Bytes.{joined, part};
 ghost use Rattle.slh_core.specs.Costs.{wots_pk_cost, wots_sign_cost, wots_sign_bound};
 ghost use Rattle.slh_core.specs.Costs.{wots_pk_from_sig_cost, wots_pk_from_sig_bound};
 ghost use Rattle.slh_core.specs.Wots.{chain, chain_value, wots_pk, chain_values, wots_sig};
@@ -12,7 +13,7 @@ ghost use Rattle.slh_core.specs.Suite.{seeded};
 use crate::address::{WotsHash, WotsPrf};
 use crate::digits::message_digits;
 use crate::nbytes::NBytes;
-use crate::params::{MAX_ENDS_LEN, WotsParams, chain_sizes};
+use crate::params::{MAX_CHAINS, MAX_ENDS_LEN, WotsParams, chain_sizes};
 use crate::parts::{part_of, put_part};
 use crate::steps::Steps;
 use hybrid_array::ArraySize;
@@ -66,8 +67,56 @@ fn own_chain<P: WotsParams, L: Ledger>(
     wots_chain::<P, L>(&secret, 0, q, keyed, &adrs.at_step(c, 0), steps)
 }
 
+/// The numbers of all chains, from 0 on.
+fn chain_numbers() -> [u32; MAX_CHAINS]
+    ensures { (c : ℕ) → c < MAX_CHAINS → slice_index result c ≡ c }
+{
+    let mut numbers = [0u32; MAX_CHAINS];
+    for c in 0..MAX_CHAINS {
+        numbers[c] = c as u32;
+    }
+    numbers
+}
+
+/// The first of these numbers.
+#[inline]
+fn first_numbers(all: &[u32; MAX_CHAINS], count: usize) -> &[u32]
+    requires numbered { (c : ℕ) → c < MAX_CHAINS → slice_index all.now c ≡ c }
+    requires few { count ≤ MAX_CHAINS }
+    ensures len { length result.now ≡ count }
+    ensures numbered { (c : ℕ) → c < count → slice_index result.now c ≡ c }
+{
+    &all[..count]
+}
+
+/// Writes the ends of a key pair's chains, which are all taken on together, step by step.
+fn write_ends<P: WotsParams, L: Ledger>(
+    sk_seed: &NBytes<P::N>,
+    keyed: &P::Keyed,
+    adrs: &WotsHash,
+    out: &mut [u8],
+    steps: &mut Steps<L>,
+)
+    requires { length out.old ≡ P.WotsSigLen.USIZE * P.N.USIZE }
+    ensures value { let K = P.keyed_suite keyed.now in
+        let sk = sk_seed.now in
+        let a = adrs.now in
+        let j = a.layer_adrs in
+        let t = a.tree_adrs_low in
+        out.new ≡ joined (λ c. chain_value K sk j t a.key_pair_adrs c 15) P.WotsSigLen.USIZE }
+    ensures cost { steps.new ≡ steps.old + 16 * P.WotsSigLen.USIZE }
+{
+    chain_sizes::<P>();
+    let all = chain_numbers();
+    let numbers = first_numbers(&all, P::WotsSigLen::USIZE);
+    P::prf_each(keyed, sk_seed, &adrs.prf_adrs(), numbers, out, steps);
+    for q in 0..15 {
+        P::f_each(keyed, &adrs.at_step(0, q), numbers, out, steps);
+    }
+}
+
 /// The public key of a key pair, which is its tree's leaf (FIPS 205, algorithm 6).
-#[tactic(auto, unfolding(crate::specs::Wots::wots_pk, crate::specs::Bytes::joined))]
+#[tactic(auto, unfolding(crate::specs::Wots::wots_pk))]
 pub fn wots_pk_gen<P: WotsParams, L: Ledger>(
     sk_seed: &NBytes<P::N>,
     keyed: &P::Keyed,
@@ -80,14 +129,10 @@ pub fn wots_pk_gen<P: WotsParams, L: Ledger>(
     ensures cost { steps.new ≡ steps.old + wots_pk_cost P.WotsSigLen.USIZE }
 {
     chain_sizes::<P>();
-    let n = P::N::USIZE;
-    let len = P::WotsSigLen::USIZE;
+    let size = P::WotsSigLen::USIZE * P::N::USIZE;
     let mut ends = [0u8; MAX_ENDS_LEN];
-    for c in 0..len {
-        let end = own_chain::<P, L>(sk_seed, keyed, adrs, c as u32, 15, steps);
-        put_part(&mut ends, n, c, end.as_slice());
-    }
-    P::t(keyed, &adrs.pk_adrs(), &ends[..len * n], steps)
+    write_ends::<P, L>(sk_seed, keyed, adrs, &mut ends[..size], steps);
+    P::t(keyed, &adrs.pk_adrs(), &ends[..size], steps)
 }
 
 /// Writes the signature of a message: each chain's value at its digit (FIPS 205, algorithm 7).
@@ -178,8 +223,27 @@ pub fn wots_sign_leaf<P: WotsParams, L: Ledger>(
     P::t(keyed, &adrs.pk_adrs(), &ends[..size], steps)
 }
 
-/// Writes the chain values that belong to digits, and the ends of the chains.
-#[tactic(auto, unfolding(crate::specs::Wots::chain_values, crate::specs::Bytes::joined))]
+// Copies the values of the chains that are not yet past their digits after `q` steps. The other
+// values stay.
+#[tactic(auto, unfolding(crate::specs::Bytes::joined))]
+fn copy_running(digits: &[u16], q: u16, n: usize, values: &[u8], out: &mut [u8])
+    requires whole { length values.now ≡ length digits.now * n }
+    requires room { length out.old ≡ length digits.now * n }
+    ensures { let is_past = λ (c : ℕ). nat_lt (slice_index digits.now c) q in
+        let current : ℕ → List ℕ = λ c.
+        if is_past c then part n out.old c else part n values.now c in
+        out.new ≡ joined current (length digits.now) }
+{
+    for (c, digit) in digits.iter().enumerate() {
+        if q <= *digit {
+            put_part(out, n, c, &values[c * n..c * n + n]);
+        }
+    }
+}
+
+/// Writes the chain values that belong to digits, and the ends of the chains. The chains are all
+/// taken on together, and each leaves its value where its digit says.
+#[tactic(auto, unfolding(crate::specs::Wots::chain_values))]
 fn write_both<P: WotsParams, L: Ledger>(
     digits: &[u16],
     sk_seed: &NBytes<P::N>,
@@ -207,13 +271,13 @@ fn write_both<P: WotsParams, L: Ledger>(
     ensures cost { steps.new ≡ steps.old + 16 * length digits.now }
 {
     let n = P::N::USIZE;
-    for (c, digit) in digits.iter().enumerate() {
-        let step = u32::from(*digit);
-        let at = adrs.at_step(c as u32, 0);
-        let value = own_chain::<P, L>(sk_seed, keyed, adrs, c as u32, step, steps);
-        let end = wots_chain::<P, L>(&value, step, 15 - step, keyed, &at, steps);
-        put_part(out, n, c, value.as_slice());
-        put_part(ends, n, c, end.as_slice());
+    let all = chain_numbers();
+    let numbers = first_numbers(&all, digits.len());
+    P::prf_each(keyed, sk_seed, &adrs.prf_adrs(), numbers, ends, steps);
+    out.copy_from_slice(ends);
+    for q in 0..15u16 {
+        P::f_each(keyed, &adrs.at_step(0, u32::from(q)), numbers, ends, steps);
+        copy_running(digits, q + 1, n, ends, out);
     }
 }
 
