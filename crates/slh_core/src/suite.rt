@@ -1,5 +1,5 @@
 //! What a hash suite is.
-ghost use Rattle.std.specs.Prelude.{◌≡◌, ℕ, ◌+◌, ◌^◌, ◌≤◌, List, ◌++◌, length};
+ghost use Rattle.std.specs.Prelude.{◌≡◌, ℕ, ◌+◌, ◌≤◌, List, ◌++◌, length};
 ghost use Rattle.slh_core.specs.Suite.{Suite, HasLength, HasDigestLength, Seeded, seeded};
 
 use crate::address::Address;
