@@ -37,7 +37,7 @@ pub trait HashSuite {
 
     /// The state for a public seed.
     fn keyed(pk_seed: &NBytes<Self::N>) -> Self::Keyed
-        ensures { seed_of result ≡ pk_seed.now };
+        ensures { keyed_suite result ≡ seeded suite Self.N.USIZE pk_seed.now };
 
     /// F: the hash of one value.
     fn f<A: Address, L: Ledger>(

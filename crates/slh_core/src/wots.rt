@@ -8,7 +8,6 @@ ghost use Rattle.slh_core.specs.Wots.{chain, chain_value, wots_pk, chain_values,
 ghost use Rattle.slh_core.specs.Wots.{checked_ends, wots_pk_from_sig as spec_wots_pk_from_sig};
 ghost use Rattle.slh_core.specs.Digits.{wots_digits};
 ghost use Rattle.slh_core.specs.Parameters.{chain_count};
-ghost use Rattle.slh_core.specs.Suite.{seeded};
 
 use crate::address::{WotsHash, WotsPrf};
 use crate::digits::message_digits;

@@ -1,6 +1,5 @@
 //! The way from a leaf to the root of its tree.
 ghost use Rattle.std.specs.Prelude.{◌≡◌, ◌+◌, ◌*◌, ◌≤◌, length};
-ghost use Rattle.slh_core.specs.Suite.{seeded};
 ghost use Rattle.slh_trees.specs.Merkle.{climb as spec_climb};
 
 use crate::node::{NodeAddress, parent};

@@ -1,7 +1,7 @@
 // The toy suite with a count in its state, which each hash call raises. It shows that no call is
 // hidden behind a step counter of its own: the wanted numbers are those of the standard's
 // algorithms, by hand.
-ghost use Rattle.std.specs.Prelude.{◌≡◌, refl};
+ghost use Rattle.std.specs.Prelude.{refl};
 ghost use Rattle.slh_core.specs.Parameters.{scheme_of};
 ghost use Rattle.slh_core.specs.Suite.{seeded};
 ghost use Rattle.slh_core.specs.Steps.{IsFresh};

@@ -4,7 +4,6 @@ ghost use Rattle.std.specs.Prelude.{slice_index, EachIndex};
 ghost use Rattle.slh_core.specs.Bytes.{joined};
 ghost use Rattle.slh_core.specs.Costs.{auth_path_cost, fors_leaf_cost, fors_node_cost};
 ghost use Rattle.slh_core.specs.Costs.{fors_sign_cost, fors_pk_from_sig_cost, fors_pk_cost};
-ghost use Rattle.slh_core.specs.Suite.{seeded};
 ghost use Rattle.slh_trees.specs.Checking.{checked_fors_node};
 ghost use Rattle.slh_trees.specs.Checking.{fors_pk_from_sig as spec_fors_pk_from_sig};
 ghost use Rattle.slh_trees.specs.Fors.{fors_place, fors_secret, fors_node as spec_fors_node};
@@ -60,6 +59,7 @@ impl<P: ForsParams> Leaves<P> for ForsTree {
 
     ghost leaf_cost = { fors_leaf_cost };
 
+    #[inline]
     #[tactic(auto, unfolding(crate::specs::Fors::fors_leaf))]
     fn leaf<L: Ledger>(
         &self,

@@ -2,7 +2,6 @@
 ghost use Rattle.std.specs.Prelude.{◌≡◌, ◌↔◌, ◌+◌, ◌-◌, ◌*◌, ◌/◌, ◌%◌, ◌^◌, ◌≤◌, ◌<◌};
 ghost use Rattle.std.specs.Prelude.{length, IsTrue};
 ghost use Rattle.slh_core.specs.Costs.{ht_sign_cost, ht_verify_bound};
-ghost use Rattle.slh_core.specs.Suite.{seeded};
 ghost use Rattle.slh_trees.specs.Checking.{checked_message};
 ghost use Rattle.slh_trees.specs.Hypertree.{ht_sig, layer_size};
 

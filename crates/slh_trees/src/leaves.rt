@@ -1,6 +1,6 @@
 //! What stands at the leaves of trees.
 ghost use Rattle.std.specs.Prelude.{◌≡◌, ℕ, ◌+◌, ◌*◌, ◌^◌, ◌≤◌, ◌<◌, List};
-ghost use Rattle.slh_core.specs.Suite.{Seeded, seeded};
+ghost use Rattle.slh_core.specs.Suite.{Seeded};
 
 use crate::node::NodeAddress;
 use slh_core::nbytes::NBytes;

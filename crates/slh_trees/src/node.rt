@@ -1,6 +1,5 @@
 //! The nodes of trees: their addresses, and the hash of two children.
 ghost use Rattle.std.specs.Prelude.{◌≡◌, ◌+◌, ◌^◌, ◌<◌};
-ghost use Rattle.slh_core.specs.Suite.{seeded};
 ghost use Rattle.slh_trees.specs.Fors.{fors_place};
 ghost use Rattle.slh_trees.specs.Merkle.{Place, node_bytes, sibling_of};
 ghost use Rattle.slh_trees.specs.Xmss.{tree_place};

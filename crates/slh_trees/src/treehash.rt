@@ -1,8 +1,7 @@
 //! Trees in one pass over their leaves, with one finished node kept for each height.
-ghost use Rattle.std.specs.Prelude.{◌≡◌, ◌≢◌, ℕ, ◌+◌, ◌-◌, ◌*◌, ◌/◌, ◌%◌, ◌^◌, ◌≤◌, ◌<◌};
+ghost use Rattle.std.specs.Prelude.{◌≡◌, ◌≢◌, ℕ, ◌+◌, ◌-◌, ◌*◌, ◌^◌, ◌≤◌, ◌<◌};
 ghost use Rattle.std.specs.Prelude.{List, length, count_ones};
 ghost use Rattle.slh_core.specs.Costs.{node_cost, auth_path_cost};
-ghost use Rattle.slh_core.specs.Suite.{seeded};
 ghost use Rattle.slh_trees.specs.Merkle.{merkle, merkle_auth_path};
 ghost use Rattle.slh_trees.specs.Treehash.{stored_node, HoldsNodes};
 

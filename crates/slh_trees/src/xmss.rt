@@ -1,11 +1,10 @@
 //! XMSS: the trees of a layer (FIPS 205, section 6).
-ghost use Rattle.std.specs.Prelude.{◌≡◌, ◌+◌, ◌-◌, ◌*◌, ◌^◌, ◌≤◌, ◌<◌, ◌++◌, length, sum};
+ghost use Rattle.std.specs.Prelude.{◌≡◌, ◌+◌, ◌-◌, ◌*◌, ◌^◌, ◌≤◌, ◌<◌, length};
 ghost use Rattle.slh_core.specs.Costs.{xmss_node_cost, xmss_sign_cost};
 ghost use Rattle.slh_core.specs.Costs.{xmss_pk_from_sig_cost, xmss_pk_from_sig_bound};
 ghost use Rattle.slh_core.specs.Digits.{wots_digits};
-ghost use Rattle.slh_core.specs.Suite.{seeded};
 ghost use Rattle.slh_trees.specs.Checking.{checked_node};
-ghost use Rattle.slh_trees.specs.Xmss.{xmss_node as spec_xmss_node, auth_path, xmss_sig};
+ghost use Rattle.slh_trees.specs.Xmss.{xmss_node as spec_xmss_node, xmss_sig};
 
 use crate::climb::climb_path;
 use crate::laws::path_leads_to_root;
