@@ -18,12 +18,12 @@ chain-add K x j t l c i q (suc r) =
     rw add-suc cc
 
 -- a chain keeps its length
-pub length-chain : (K : Seeded) (x : List ℕ) (j t l c i q : ℕ) → HasLength K.suite K.n → length x ≡ K.n → length (chain K j t l c x i q) ≡ K.n
+length-chain : (K : Seeded) (x : List ℕ) (j t l c i q : ℕ) → HasLength K.suite K.n → length x ≡ K.n → length (chain K j t l c x i q) ≡ K.n
 unfolding chain
 length-chain K x j t l c i zero law h = h
 length-chain K x j t l c i (suc q) law h = law.f K.seed _ _
 
-pub length-chain_value : (K : Seeded) (sk : List ℕ) (j t l c q : ℕ) → HasLength K.suite K.n → length (chain_value K sk j t l c q) ≡ K.n
+length-chain_value : (K : Seeded) (sk : List ℕ) (j t l c q : ℕ) → HasLength K.suite K.n → length (chain_value K sk j t l c q) ≡ K.n
 length-chain_value K sk j t l c q law =
     length-chain K (chain_secret K sk j t l c) j t l c 0 q law (law.prf _ _ _)
 

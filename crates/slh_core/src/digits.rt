@@ -1,11 +1,11 @@
 //! Digits cut from the bits of a byte string.
-ghost use Rattle.std.specs.Prelude.{◌≡◌, ◌+◌, ◌-◌, ◌*◌, ◌^◌, ◌≤◌, ◌<◌, length, take, sum_by};
+ghost use Rattle.std.specs.Prelude.{◌≡◌, ◌-◌, ◌*◌, ◌^◌, ◌≤◌, ◌<◌, length, take, sum_by};
 ghost use Rattle.std.specs.Prelude.{slice_index, EachIndex};
 ghost use Rattle.slh_core.specs.Digits.{digits, wots_digits};
 ghost use Rattle.slh_core.specs.Parameters.{chain_count};
 
 use crate::nbytes::NBytes;
-use crate::params::MAX_CHAINS;
+use crate::params::{MAX_CHAINS, MAX_N};
 use hybrid_array::ArraySize;
 
 /// Cuts the front of `x` into digits of `b` bits, one for each place of `out` (FIPS 205, algorithm
@@ -51,7 +51,7 @@ pub(crate) fn message_digits<N: ArraySize>(m: &NBytes<N>) -> [u16; MAX_CHAINS]
 
 /// The sum of what each digit lacks of fifteen.
 fn checksum_of(digits: &[u16]) -> u16
-    requires few { length digits.now ≤ 64 }
+    requires few { length digits.now ≤ 2 * MAX_N }
     requires below { EachIndex digits.now (λ k. slice_index digits.now k < 16) }
     ensures { result ≡ sum_by (λ d. 15 - d) digits.now }
 {

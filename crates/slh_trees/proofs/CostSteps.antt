@@ -1,5 +1,5 @@
 -- The costs of nodes and of the siblings on a way up, height by height.
-use Rattle.std.proofs.Common.{◌≡◌, ℕ, zero, suc, ◌+◌, ◌-◌, ◌*◌, ◌^◌, ◌≤◌, arith}
+use Rattle.std.proofs.Common.{◌≡◌, ℕ, zero, suc, ◌+◌, ◌*◌, ◌^◌, ◌≤◌, arith}
 use Rattle.std.proofs.Math.Nat.{pow-suc}
 use Rattle.slh_core.specs.Costs.{node_cost, auth_path_cost, fors_leaf_cost, fors_node_cost, fors_sign_cost, fors_pk_from_sig_cost, fors_pk_cost}
 use Rattle.slh_trees.proofs.Powers.{twice_more}
@@ -8,9 +8,6 @@ use Rattle.slh_trees.proofs.Powers.{twice_more}
 path_room : (leaf z : ℕ) → z + (leaf + 1) ≤ 2 ^ z * (leaf + 1)
 path_room leaf zero = omega arith
 path_room leaf (suc z) = rw (pow-suc 2 z) (omega (arith, path_room leaf z))
-
-pub auth_path_cost-zero : (leaf : ℕ) → auth_path_cost leaf 0 ≡ 0
-auth_path_cost-zero leaf = omega arith
 
 -- one sibling more
 pub auth_path_cost-more : (leaf z : ℕ) → auth_path_cost leaf (z + 1) ≡ auth_path_cost leaf z + node_cost leaf z
@@ -21,7 +18,7 @@ pub node_cost-whole : (leaf z : ℕ) → node_cost leaf z + 1 ≡ 2 ^ z * (leaf 
 node_cost-whole leaf z = omega (arith, path_room leaf z)
 
 -- a leaf, the siblings on its way up and the way up itself: each node below the root once
-pub node_cost-path : (leaf h : ℕ) → leaf + auth_path_cost leaf h + h ≡ node_cost leaf h
+node_cost-path : (leaf h : ℕ) → leaf + auth_path_cost leaf h + h ≡ node_cost leaf h
 node_cost-path leaf h = omega (arith, path_room leaf h)
 
 pub one_more : (j x : ℕ) → (j + 1) * x ≡ j * x + x

@@ -4,15 +4,17 @@ ghost use Rattle.std.specs.Prelude.{slice_index, EachIndex};
 ghost use Rattle.slh_core.specs.Bytes.{joined};
 ghost use Rattle.slh_core.specs.Costs.{auth_path_cost, fors_leaf_cost, fors_node_cost};
 ghost use Rattle.slh_core.specs.Costs.{fors_sign_cost, fors_pk_from_sig_cost, fors_pk_cost};
-ghost use Rattle.slh_core.specs.Suite.{seeded};
-ghost use Rattle.slh_trees.specs.Checking.{checked_fors_node, fors_pk_from_sig as spec_fors_pk_from_sig};
-ghost use Rattle.slh_trees.specs.Fors.{fors_place, fors_secret, fors_leaf, fors_node as spec_fors_node};
+ghost use Rattle.slh_trees.specs.Checking.{checked_fors_node};
+ghost use Rattle.slh_trees.specs.Checking.{fors_pk_from_sig as spec_fors_pk_from_sig};
+ghost use Rattle.slh_trees.specs.Fors.{fors_place, fors_secret, fors_node as spec_fors_node};
 ghost use Rattle.slh_trees.specs.Fors.{fors_auth_path, fors_pk, opened_leaves, fors_sig};
 ghost use Rattle.slh_trees.specs.Merkle.{node_bytes, climb as spec_climb};
 
-use crate::climb::{NodeAddress, climb_path, sibling};
+use crate::climb::climb_path;
 use crate::laws::forest_leads_to_key;
-use crate::treehash::{TREEHASH_LEN, node_of, push_leaf};
+use crate::leaves::Leaves;
+use crate::node::NodeAddress;
+use crate::treehash::{treehash, write_auth_path};
 use hybrid_array::ArraySize;
 use slh_core::address::{ForsPrf, ForsTree};
 use slh_core::digits::base_2b;
@@ -32,7 +34,7 @@ pub fn fors_sk_gen<P: ForsParams, L: Ledger>(
     steps: &mut Steps<L>,
 ) -> NBytes<P::N>
     requires { idx < P.K.USIZE * 2 ^ P.A.USIZE }
-    ensures value { let K = seeded P.suite P.N.USIZE (P.seed_of keyed.now) in
+    ensures value { let K = P.keyed_suite keyed.now in
         let a = adrs.now in
         result ≡ fors_secret K sk_seed.now a.tree_adrs_low a.key_pair_adrs idx }
     ensures cost { steps.new ≡ steps.old + 1 }
@@ -44,39 +46,39 @@ pub fn fors_sk_gen<P: ForsParams, L: Ledger>(
     P::prf_sk(keyed, sk_seed, &at, steps)
 }
 
-/// The hash of the secret with an index.
-#[tactic(auto, unfolding(crate::specs::Fors::fors_leaf))]
-fn leaf_at<P: ForsParams, L: Ledger>(
-    sk_seed: &NBytes<P::N>,
-    keyed: &P::Keyed,
-    adrs: &ForsTree,
-    idx: u32,
-    steps: &mut Steps<L>,
-) -> NBytes<P::N>
-    requires { idx < P.K.USIZE * 2 ^ P.A.USIZE }
-    ensures value { let K = seeded P.suite P.N.USIZE (P.seed_of keyed.now) in
-        let a = adrs.now in
-        result ≡ fors_leaf K sk_seed.now a.tree_adrs_low a.key_pair_adrs idx }
-    ensures cost { steps.new ≡ steps.old + fors_leaf_cost }
-{
-    let secret = fors_sk_gen::<P, L>(sk_seed, keyed, adrs, idx, steps);
-    P::f(keyed, &adrs.at_node(0, idx), &secret, steps)
+impl<P: ForsParams> Leaves<P> for ForsTree {
+    ghost use Rattle.std.proofs.Common.{rules};
+    ghost use Rattle.slh_core.specs.Costs.{fors_leaf_cost};
+    ghost use Rattle.slh_trees.specs.Fors.{fors_leaf};
+
+    ghost trees = { P.K.USIZE };
+
+    ghost height = { P.A.USIZE };
+
+    ghost leaf = { λ K sk a. fors_leaf K sk a.tree_adrs_low a.key_pair_adrs };
+
+    ghost leaf_cost = { fors_leaf_cost };
+
+    #[inline]
+    #[tactic(auto, unfolding(crate::specs::Fors::fors_leaf))]
+    fn leaf<L: Ledger>(
+        &self,
+        sk_seed: &NBytes<P::N>,
+        index: u32,
+        keyed: &P::Keyed,
+        steps: &mut Steps<L>,
+    ) -> NBytes<P::N> {
+        let secret = fors_sk_gen::<P, L>(sk_seed, keyed, self, index, steps);
+        P::f(keyed, &self.at_node(0, index), &secret, steps)
+    }
+
+    ghost height_high = { Prim.search rules };
+
+    ghost few = { Prim.search rules };
 }
 
-/// The index of the leaf after `q` others below the node with index `i` at height `z`.
-fn leaf_below<P: ForsParams>(i: u32, z: u32, q: u32) -> u32
-    requires height { z ≤ P.A.USIZE }
-    requires node { i < P.K.USIZE * 2 ^ (P.A.USIZE - z) }
-    requires leaf { q < 2 ^ z }
-    ensures value { result ≡ i * 2 ^ z + q }
-    ensures below { result < P.K.USIZE * 2 ^ P.A.USIZE }
-{
-    forest_sizes::<P>();
-    (i << z) + q
-}
-
-/// The node with index `i` at height `z` (FIPS 205, algorithm 15). Its leaves are
-/// taken from left to right.
+/// The node with index `i` at height `z` (FIPS 205, algorithm 15), where indices run through all
+/// trees of the forest.
 pub fn fors_node<P: ForsParams, L: Ledger>(
     sk_seed: &NBytes<P::N>,
     i: u32,
@@ -87,44 +89,12 @@ pub fn fors_node<P: ForsParams, L: Ledger>(
 ) -> NBytes<P::N>
     requires height { z ≤ P.A.USIZE }
     requires node { i < P.K.USIZE * 2 ^ (P.A.USIZE - z) }
-    ensures value { let K = seeded P.suite P.N.USIZE (P.seed_of keyed.now) in
+    ensures value { let K = P.keyed_suite keyed.now in
         let a = adrs.now in
         result ≡ spec_fors_node K sk_seed.now a.tree_adrs_low a.key_pair_adrs z i }
     ensures cost { steps.new ≡ steps.old + fors_node_cost z }
 {
-    forest_sizes::<P>();
-    let mut store = [0u8; TREEHASH_LEN];
-    for q in 0..1u32 << z {
-        let index = leaf_below::<P>(i, z, q);
-        let leaf = leaf_at::<P, L>(sk_seed, keyed, adrs, index, steps);
-        push_leaf::<P, ForsTree, L>(&leaf, index, q, keyed, adrs, &mut store, steps);
-    }
-    node_of::<P::N>(&store, z as usize)
-}
-
-/// Writes the siblings on the way up from leaf `y`.
-#[tactic(auto, unfolding(crate::specs::Merkle::merkle_auth_path, slh_core::specs::Bytes::joined))]
-fn write_fors_auth_path<P: ForsParams, L: Ledger>(
-    sk_seed: &NBytes<P::N>,
-    keyed: &P::Keyed,
-    y: u32,
-    adrs: &ForsTree,
-    out: &mut [u8],
-    steps: &mut Steps<L>,
-)
-    requires leaf { y < P.K.USIZE * 2 ^ P.A.USIZE }
-    requires room { length out.old ≡ P.A.USIZE * P.N.USIZE }
-    ensures value { let K = seeded P.suite P.N.USIZE (P.seed_of keyed.now) in
-        let a = adrs.now in
-        out.new ≡ fors_auth_path K sk_seed.now a.tree_adrs_low a.key_pair_adrs y P.A.USIZE }
-    ensures cost { steps.new ≡ steps.old + auth_path_cost fors_leaf_cost P.A.USIZE }
-{
-    forest_sizes::<P>();
-    let n = P::N::USIZE;
-    for z in 0..P::A::USIZE {
-        let value = fors_node::<P, L>(sk_seed, sibling(y >> z), z as u32, keyed, adrs, steps);
-        put_part(out, n, z, value.as_slice());
-    }
+    treehash::<P, ForsTree, L>(sk_seed, i, z, keyed, adrs, steps)
 }
 
 /// Opens the secret with index `y`: writes it, and the siblings on the way up from it.
@@ -139,7 +109,7 @@ fn open_secret<P: ForsParams, L: Ledger>(
 )
     requires leaf { y < P.K.USIZE * 2 ^ P.A.USIZE }
     requires room { length out.old ≡ (1 + P.A.USIZE) * P.N.USIZE }
-    ensures value { let K = seeded P.suite P.N.USIZE (P.seed_of keyed.now) in
+    ensures value { let K = P.keyed_suite keyed.now in
         let a = adrs.now in
         out.new ≡ fors_secret K sk_seed.now a.tree_adrs_low a.key_pair_adrs y
         ++ fors_auth_path K sk_seed.now a.tree_adrs_low a.key_pair_adrs y P.A.USIZE }
@@ -148,7 +118,8 @@ fn open_secret<P: ForsParams, L: Ledger>(
     forest_sizes::<P>();
     let (secret, path) = out.split_at_mut(P::N::USIZE);
     secret.copy_from_slice(fors_sk_gen::<P, L>(sk_seed, keyed, adrs, y, steps).as_slice());
-    write_fors_auth_path::<P, L>(sk_seed, keyed, y, adrs, path, steps);
+    let height = P::A::USIZE;
+    write_auth_path::<P, ForsTree, L>(sk_seed, y, height, keyed, adrs, path, steps);
 }
 
 /// How many bytes are opened in one tree.
@@ -172,7 +143,7 @@ pub fn fors_sign<P: ForsParams, L: Ledger>(
 )
     requires digest { length md.now ≡ P.MD.USIZE }
     requires room { length out.old ≡ P.K.USIZE * ((1 + P.A.USIZE) * P.N.USIZE) }
-    ensures value { let K = seeded P.suite P.N.USIZE (P.seed_of keyed.now) in
+    ensures value { let K = P.keyed_suite keyed.now in
         let t = adrs.now.tree_adrs_low in
         let l = adrs.now.key_pair_adrs in
         out.new ≡ fors_sig K sk_seed.now t l P.K.USIZE P.A.USIZE md.now }
@@ -198,7 +169,7 @@ fn open_all<P: ForsParams, L: Ledger>(
     requires count { length digits.now ≡ P.K.USIZE }
     requires below { EachIndex digits.now (λ i. slice_index digits.now i < 2 ^ P.A.USIZE) }
     requires room { length out.old ≡ P.K.USIZE * ((1 + P.A.USIZE) * P.N.USIZE) }
-    ensures value { let K = seeded P.suite P.N.USIZE (P.seed_of keyed.now) in
+    ensures value { let K = P.keyed_suite keyed.now in
         let t = adrs.now.tree_adrs_low in
         let l = adrs.now.key_pair_adrs in
         out.new ≡ opened_leaves K sk_seed.now t l P.K.USIZE P.A.USIZE digits.now }
@@ -235,7 +206,7 @@ pub fn fors_pk_from_sig<P: ForsParams, L: Ledger>(
 ) -> NBytes<P::N>
     requires digest { length md.now ≡ P.MD.USIZE }
     requires whole { length sig.now ≡ P.K.USIZE * ((1 + P.A.USIZE) * P.N.USIZE) }
-    ensures value { let K = seeded P.suite P.N.USIZE (P.seed_of keyed.now) in
+    ensures value { let K = P.keyed_suite keyed.now in
         let t = adrs.now.tree_adrs_low in
         let l = adrs.now.key_pair_adrs in
         result ≡ spec_fors_pk_from_sig K t l P.K.USIZE P.A.USIZE sig.now md.now }
@@ -265,7 +236,7 @@ fn climb_all<P: ForsParams, L: Ledger>(
     requires below { EachIndex digits.now (λ i. slice_index digits.now i < 2 ^ P.A.USIZE) }
     requires whole { length sig.now ≡ P.K.USIZE * ((1 + P.A.USIZE) * P.N.USIZE) }
     requires room { length out.old ≡ P.K.USIZE * P.N.USIZE }
-    ensures value { let K = seeded P.suite P.N.USIZE (P.seed_of keyed.now) in
+    ensures value { let K = P.keyed_suite keyed.now in
         let t = adrs.now.tree_adrs_low in
         let l = adrs.now.key_pair_adrs in
         let a = P.A.USIZE in
@@ -291,7 +262,7 @@ fn climb_opened<P: ForsParams, L: Ledger>(
 ) -> NBytes<P::N>
     requires leaf { y < P.K.USIZE * 2 ^ P.A.USIZE }
     requires whole { length opened.now ≡ (1 + P.A.USIZE) * P.N.USIZE }
-    ensures value { let K = seeded P.suite P.N.USIZE (P.seed_of keyed.now) in
+    ensures value { let K = P.keyed_suite keyed.now in
         let B = fors_place adrs.now.tree_adrs_low adrs.now.key_pair_adrs in
         let leaf = K.suite.f K.seed (node_bytes B 0 y) (take P.N.USIZE opened.now) in
         result ≡ spec_climb K B leaf y (drop P.N.USIZE opened.now) P.A.USIZE }
@@ -317,11 +288,11 @@ pub fn fors_sign_root<P: ForsParams, L: Ledger>(
 ) -> NBytes<P::N>
     requires digest { length md.now ≡ P.MD.USIZE }
     requires room { length out.old ≡ P.K.USIZE * ((1 + P.A.USIZE) * P.N.USIZE) }
-    ensures key { let K = seeded P.suite P.N.USIZE (P.seed_of keyed.now) in
+    ensures key { let K = P.keyed_suite keyed.now in
         let t = adrs.now.tree_adrs_low in
         let l = adrs.now.key_pair_adrs in
         result ≡ fors_pk K sk_seed.now t l P.K.USIZE P.A.USIZE }
-    ensures value { let K = seeded P.suite P.N.USIZE (P.seed_of keyed.now) in
+    ensures value { let K = P.keyed_suite keyed.now in
         let t = adrs.now.tree_adrs_low in
         let l = adrs.now.key_pair_adrs in
         out.new ≡ fors_sig K sk_seed.now t l P.K.USIZE P.A.USIZE md.now }
