@@ -10,12 +10,15 @@ space = 32
 
 -- the parts between spaces that aren't empty, without one carriage return at the end of the line
 abbrev pub fields : List ℕ → List (List ℕ)
-fields line = filter (λ part. not (length part == 0)) (slice_split (λ x. x == space) (strip_carriage_return line))
+fields line =
+    filter (λ part. not (length part == 0))
+    (slice_split (λ x. x == space) (strip_carriage_return line))
 
 -- whether the field is "-" alone
 abbrev pub is_dash : List ℕ → Bool
 is_dash field = length field == 1 && slice_index field 0 == 45
 
--- what a field of bytes stands for: "-" for none, else an even number of hexadecimal digits of either case
+-- what a field of bytes stands for: "-" for none, else an even number of hexadecimal digits of
+-- either case
 abbrev pub hex_value : List ℕ → Option (List ℕ)
 hex_value field = if is_dash field then Some [] else result_ok (decode_of field)

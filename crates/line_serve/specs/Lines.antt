@@ -42,7 +42,8 @@ lines b = closed_lines b ++ (if length (unfinished b) == 0 then [] else unfinish
 
 -- the lines whose reply is known before more has come: a last piece that is too long already counts
 abbrev pub ended_lines : List ℕ → List (List ℕ)
-ended_lines b = closed_lines b ++ (if nat_lt line_limit (length (unfinished b)) then unfinished b ∷ [] else [])
+ended_lines b =
+    closed_lines b ++ (if nat_lt line_limit (length (unfinished b)) then unfinished b ∷ [] else [])
 
 -- the reply to a line that is too long: "error line" and a line feed
 abbrev pub too_long : List ℕ

@@ -92,8 +92,8 @@ fn collect<R: Replier, K: Sink>(
     Ok(())
 }
 
-/// Takes a piece of the input, answers each line that it ends, and writes the replies. Where there is no
-/// memory for a reply, those before it are written all the same.
+/// Takes a piece of the input, answers each line that it ends, and writes the replies. Where there
+/// is no memory for a reply, those before it are written all the same.
 pub fn feed<R: Replier, K: Sink>(
     alloc: Global,
     replier: &R,

@@ -256,6 +256,7 @@ impl Sink for NullSink {
 
     ghost faults = { λ _. 0 };
 
+    /// Takes all of `piece`.
     fn write(&mut self, piece: &[u8]) -> Result<usize, Failed>
         ensures bound { IfOk result (λ n. n ≤ length piece.now) }
         ensures progress { IfOk result (λ n. 0 < length piece.now → 0 < n) }
