@@ -1,9 +1,14 @@
 -- The fields of a line, and what a hexadecimal one stands for.
-use Rattle.std.specs.Prelude.{◌==◌, if◌then◌else◌, not, ℕ, List, [], length, filter, Option, Some, slice_index, Bool, ◌&&◌}
+use Rattle.std.specs.Prelude.{◌==◌, if◌then◌else◌, not, ℕ, List, [], length, map, filter, Option, Some, slice_index, Bool, ◌&&◌}
+use Rattle.std.specs.Borrow.{Bor}
 use Rattle.std.specs.List.{slice_split}
 use Rattle.std.specs.Result.{result_ok}
 use Rattle.std.specs.Str.Lines.{strip_carriage_return}
 use Rattle.hex.specs.Hex.{decode_of}
+
+-- the bytes of slices that are lent
+abbrev pub contents : List (Bor (List ℕ)) → List (List ℕ)
+contents slices = map (λ slice. slice.now) slices
 
 abbrev pub space : ℕ
 space = 32

@@ -1,9 +1,9 @@
 //! The fields of a line. One carriage return at the line's end is dropped, and what is left is cut
 //! at its spaces (0x20); parts without bytes are no fields.
-ghost use Rattle.std.specs.Prelude.{◌≡◌, ◌≤◌, ◌++◌, length, map, take, slice_get, true, false, IfOk, OnErr, MatchOption};
+ghost use Rattle.std.specs.Prelude.{◌≡◌, ◌≤◌, ◌++◌, length, take, slice_get, true, false, IfOk, OnErr, MatchOption};
 ghost use Rattle.std.specs.Option.{option_copied};
 ghost use Rattle.std.specs.Str.Lines.{strip_carriage_return};
-ghost use Rattle.line_serve.specs.Fields.{fields, hex_value, is_dash};
+ghost use Rattle.line_serve.specs.Fields.{contents, fields, hex_value, is_dash};
 
 use crate::bytes::ByteString;
 use std::alloc::{AllocError, Global};
@@ -42,8 +42,7 @@ pub fn field(line: &[u8], i: usize) -> Option<&[u8]>
 /// there is room for, and says how many.
 pub fn cut_fields<'a>(line: &'a [u8], out: &mut [&'a [u8]]) -> usize
     ensures bound { result ≤ length out.old }
-    ensures front { map (λ field. field.now) (take result out.new)
-        ≡ take (length out.old) (fields line.now) }
+    ensures front { contents (take result out.new) ≡ take (length out.old) (fields line.now) }
 {
     let parts = without_return(line)
         .split(|b| *b == b' ')

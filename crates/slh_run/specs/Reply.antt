@@ -48,5 +48,8 @@ request_text (Err found) = fault_text found
 request_text (Ok request) = answer_text (judgement (scheme_for request.set) request.job)
 
 -- a line without fields has no reply
+abbrev pub reply_of_fields : List (List ℕ) → List ℕ
+reply_of_fields fields = if length fields == 0 then [] else request_text (request_of fields)
+
 abbrev pub reply_of_line : List ℕ → List ℕ
-reply_of_line line = if length (fields line) == 0 then [] else request_text (request_of (fields line))
+reply_of_line line = reply_of_fields (fields line)

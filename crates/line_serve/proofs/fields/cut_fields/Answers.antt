@@ -1,18 +1,18 @@
-use Rattle.std.proofs.Common.{rules, ◌≡◌, ℕ, ◌+◌, ◌<◌, List, ◌∷◌, [], ◌++◌, length, map, take, get_or, not, sym, ◌∙◌, ap, arith, length-set, slice_set, Bor}
+use Rattle.std.proofs.Common.{rules, ◌≡◌, ℕ, ◌+◌, ◌<◌, List, ◌∷◌, [], ◌++◌, length, take, get_or, not, sym, ◌∙◌, ap, arith, length-set, slice_set, Bor}
 use Rattle.std.specs.Bool.{◌==◌}
 use borrow.Author.Tests.{tests}
 use Rattle.std.specs.Str.Lines.{strip_carriage_return}
 use Rattle.std.proofs.lemmas.Iterator.Consumers.{YieldsList-from_filter, YieldsList-turn, YieldsList-end}
 use Rattle.std.proofs.lemmas.Iterator.Splits.{YieldsList-from_slice_split}
 use Rattle.std.proofs.lemmas.List.{map-append, take_all, take_more, take_more_set, length_push}
-use Rattle.line_serve.specs.Fields.{fields, space}
+use Rattle.line_serve.specs.Fields.{contents, fields, space}
 use Rattle.line_serve.proofs.fields.cut_fields.Goals as goal
 
 -- one more field stands at the front
 one_more : (out : List (Bor (List ℕ))) (all : List (List ℕ)) (count : ℕ) (x : Bor (List ℕ)) → count < length out → count < length all → x.now ≡ get_or all count x.now
-    → map (λ field. field.now) (take count out) ≡ take count all → map (λ field. field.now) (take (count + 1) (slice_set out count x)) ≡ take (count + 1) all
+    → contents (take count out) ≡ take count all → contents (take (count + 1) (slice_set out count x)) ≡ take (count + 1) all
 one_more out all count x room some is front =
-    ap (map (λ field. field.now)) (take_more_set out count x room) ∙ map-append (λ field. field.now) (take count out) (x ∷ [])
+    ap contents (take_more_set out count x room) ∙ map-append (λ field. field.now) (take count out) (x ∷ [])
     ∙ ap (λ (l : List (List ℕ)). l ++ x.now ∷ []) front ∙ ap (λ (f : List ℕ). take count all ++ f ∷ []) is ∙ sym (take_more all count x.now some)
 
 pub loop-part-preserved : goal.loop-part-preserved
