@@ -2,6 +2,8 @@
 ghost use Rattle.std.specs.Prelude.{◌≡◌, ◌+◌, ◌-◌, ◌*◌, ◌^◌, ◌≤◌, ◌<◌, ◌++◌, length, take, drop};
 ghost use Rattle.std.specs.Prelude.{slice_index, EachIndex};
 ghost use Rattle.slh_core.specs.Bytes.{joined};
+ghost use Rattle.slh_core.specs.Costs.{auth_path_cost, fors_leaf_cost, fors_node_cost};
+ghost use Rattle.slh_core.specs.Costs.{fors_sign_cost, fors_pk_from_sig_cost, fors_pk_cost};
 ghost use Rattle.slh_core.specs.Suite.{seeded};
 ghost use Rattle.slh_trees.specs.Checking.{checked_fors_node, fors_pk_from_sig as spec_fors_pk_from_sig};
 ghost use Rattle.slh_trees.specs.Fors.{fors_place, fors_secret, fors_leaf, fors_node as spec_fors_node};
@@ -10,12 +12,12 @@ ghost use Rattle.slh_trees.specs.Merkle.{node_bytes, climb as spec_climb};
 
 use crate::climb::{NodeAddress, climb_path, sibling};
 use crate::laws::forest_leads_to_key;
-use crate::treehash::{node_of, push_leaf};
+use crate::treehash::{TREEHASH_LEN, node_of, push_leaf};
 use hybrid_array::ArraySize;
 use slh_core::address::{ForsPrf, ForsTree};
 use slh_core::digits::base_2b;
 use slh_core::nbytes::NBytes;
-use slh_core::params::{ForsParams, forest_sizes};
+use slh_core::params::{ForsParams, MAX_FORS_TREES, MAX_OPENED_LEN, MAX_ROOTS_LEN, forest_sizes};
 use slh_core::parts::put_part;
 use slh_core::steps::Steps;
 use std::sync::ledger::Ledger;
@@ -55,7 +57,7 @@ fn leaf_at<P: ForsParams, L: Ledger>(
     ensures value { let K = seeded P.suite P.N.USIZE (P.seed_of keyed.now) in
         let a = adrs.now in
         result ≡ fors_leaf K sk_seed.now a.tree_adrs_low a.key_pair_adrs idx }
-    ensures cost { steps.new ≡ steps.old + 2 }
+    ensures cost { steps.new ≡ steps.old + fors_leaf_cost }
 {
     let secret = fors_sk_gen::<P, L>(sk_seed, keyed, adrs, idx, steps);
     P::f(keyed, &adrs.at_node(0, idx), &secret, steps)
@@ -88,10 +90,10 @@ pub fn fors_node<P: ForsParams, L: Ledger>(
     ensures value { let K = seeded P.suite P.N.USIZE (P.seed_of keyed.now) in
         let a = adrs.now in
         result ≡ spec_fors_node K sk_seed.now a.tree_adrs_low a.key_pair_adrs z i }
-    ensures cost { steps.new + 1 ≡ steps.old + 3 * 2 ^ z }
+    ensures cost { steps.new ≡ steps.old + fors_node_cost z }
 {
     forest_sizes::<P>();
-    let mut store = [0u8; 1024];
+    let mut store = [0u8; TREEHASH_LEN];
     for q in 0..1u32 << z {
         let index = leaf_below::<P>(i, z, q);
         let leaf = leaf_at::<P, L>(sk_seed, keyed, adrs, index, steps);
@@ -115,7 +117,7 @@ fn write_fors_auth_path<P: ForsParams, L: Ledger>(
     ensures value { let K = seeded P.suite P.N.USIZE (P.seed_of keyed.now) in
         let a = adrs.now in
         out.new ≡ fors_auth_path K sk_seed.now a.tree_adrs_low a.key_pair_adrs y P.A.USIZE }
-    ensures cost { steps.new + P.A.USIZE + 3 ≡ steps.old + 3 * 2 ^ P.A.USIZE }
+    ensures cost { steps.new ≡ steps.old + auth_path_cost fors_leaf_cost P.A.USIZE }
 {
     forest_sizes::<P>();
     let n = P::N::USIZE;
@@ -141,7 +143,7 @@ fn open_secret<P: ForsParams, L: Ledger>(
         let a = adrs.now in
         out.new ≡ fors_secret K sk_seed.now a.tree_adrs_low a.key_pair_adrs y
         ++ fors_auth_path K sk_seed.now a.tree_adrs_low a.key_pair_adrs y P.A.USIZE }
-    ensures cost { steps.new + P.A.USIZE + 2 ≡ steps.old + 3 * 2 ^ P.A.USIZE }
+    ensures cost { steps.new ≡ steps.old + (1 + auth_path_cost fors_leaf_cost P.A.USIZE) }
 {
     forest_sizes::<P>();
     let (secret, path) = out.split_at_mut(P::N::USIZE);
@@ -152,7 +154,7 @@ fn open_secret<P: ForsParams, L: Ledger>(
 /// How many bytes are opened in one tree.
 fn opened_len<P: ForsParams>() -> usize
     ensures value { result ≡ (1 + P.A.USIZE) * P.N.USIZE }
-    ensures small { result ≤ 544 }
+    ensures small { result ≤ MAX_OPENED_LEN }
 {
     forest_sizes::<P>();
     (1 + P::A::USIZE) * P::N::USIZE
@@ -174,12 +176,11 @@ pub fn fors_sign<P: ForsParams, L: Ledger>(
         let t = adrs.now.tree_adrs_low in
         let l = adrs.now.key_pair_adrs in
         out.new ≡ fors_sig K sk_seed.now t l P.K.USIZE P.A.USIZE md.now }
-    ensures cost { let k = P.K.USIZE in
-        steps.new + k * (P.A.USIZE + 2) ≡ steps.old + k * (3 * 2 ^ P.A.USIZE) }
+    ensures cost { steps.new ≡ steps.old + fors_sign_cost P.K.USIZE P.A.USIZE }
 {
     forest_sizes::<P>();
     let k = P::K::USIZE;
-    let mut digits = [0u16; 64];
+    let mut digits = [0u16; MAX_FORS_TREES];
     base_2b(md, P::A::USIZE as u32, &mut digits[..k]);
     open_all::<P, L>(&digits[..k], sk_seed, keyed, adrs, out, steps);
 }
@@ -201,8 +202,7 @@ fn open_all<P: ForsParams, L: Ledger>(
         let t = adrs.now.tree_adrs_low in
         let l = adrs.now.key_pair_adrs in
         out.new ≡ opened_leaves K sk_seed.now t l P.K.USIZE P.A.USIZE digits.now }
-    ensures cost { let k = P.K.USIZE in
-        steps.new + k * (P.A.USIZE + 2) ≡ steps.old + k * (3 * 2 ^ P.A.USIZE) }
+    ensures cost { steps.new ≡ steps.old + fors_sign_cost P.K.USIZE P.A.USIZE }
 {
     let size = opened_len::<P>();
     for (i, digit) in digits.iter().enumerate() {
@@ -239,14 +239,14 @@ pub fn fors_pk_from_sig<P: ForsParams, L: Ledger>(
         let t = adrs.now.tree_adrs_low in
         let l = adrs.now.key_pair_adrs in
         result ≡ spec_fors_pk_from_sig K t l P.K.USIZE P.A.USIZE sig.now md.now }
-    ensures cost { steps.new ≡ steps.old + (P.K.USIZE * (1 + P.A.USIZE) + 1) }
+    ensures cost { steps.new ≡ steps.old + fors_pk_from_sig_cost P.K.USIZE P.A.USIZE }
 {
     forest_sizes::<P>();
     let k = P::K::USIZE;
     let len = k * P::N::USIZE;
-    let mut digits = [0u16; 64];
+    let mut digits = [0u16; MAX_FORS_TREES];
     base_2b(md, P::A::USIZE as u32, &mut digits[..k]);
-    let mut roots = [0u8; 2048];
+    let mut roots = [0u8; MAX_ROOTS_LEN];
     climb_all::<P, L>(&digits[..k], sig, keyed, adrs, &mut roots[..len], steps);
     P::t(keyed, &adrs.fors_roots(), &roots[..len], steps)
 }
@@ -304,8 +304,9 @@ fn climb_opened<P: ForsParams, L: Ledger>(
     climb_path::<P, ForsTree, L>(&leaf, y, P::A::USIZE, path, keyed, adrs, steps)
 }
 
-/// Writes the signature of the digest's first part, and answers the forest's public key. Each node
-/// of the forest is hashed once.
+/// Writes the signature of the digest's first part, and answers the forest's public key, which the
+/// lowest layer signs: the hash of the roots of all trees, and no root itself. Each node of the
+/// forest is hashed once.
 pub fn fors_sign_root<P: ForsParams, L: Ledger>(
     md: &[u8],
     sk_seed: &NBytes<P::N>,
@@ -324,7 +325,7 @@ pub fn fors_sign_root<P: ForsParams, L: Ledger>(
         let t = adrs.now.tree_adrs_low in
         let l = adrs.now.key_pair_adrs in
         out.new ≡ fors_sig K sk_seed.now t l P.K.USIZE P.A.USIZE md.now }
-    ensures cost { steps.new + P.K.USIZE ≡ steps.old + (P.K.USIZE * (3 * 2 ^ P.A.USIZE) + 1) }
+    ensures cost { steps.new ≡ steps.old + fors_pk_cost P.K.USIZE P.A.USIZE }
 {
     forest_leads_to_key::<P>();
     fors_sign::<P, L>(md, sk_seed, keyed, adrs, out, steps);

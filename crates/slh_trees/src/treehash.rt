@@ -12,6 +12,9 @@ use slh_core::params::{WotsParams, chain_sizes};
 use slh_core::steps::Steps;
 use std::sync::ledger::Ledger;
 
+/// The bytes of a store of nodes: a place of 32 for each height from 0 to 31.
+pub(crate) const TREEHASH_LEN: usize = 32 * 32;
+
 /// Puts a node in the place of its height.
 #[tactic(auto, unfolding(crate::specs::Treehash::stored_node))]
 fn store_node<N: ArraySize>(store: &mut [u8], h: usize, node: &NBytes<N>)
@@ -45,7 +48,7 @@ pub(crate) fn push_leaf<P: WotsParams, A: NodeAddress + Drop, L: Ledger>(
     steps: &mut Steps<L>,
 )
     requires few { q < 2 ^ 31 }
-    requires room { length store.old ≡ 1024 }
+    requires room { length store.old ≡ TREEHASH_LEN }
     ensures holds { let K = seeded P.suite P.N.USIZE (P.seed_of keyed.now) in
         (leaves : ℕ → List ℕ) (i z : ℕ)
         → index ≡ i * 2 ^ z + q

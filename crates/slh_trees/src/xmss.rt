@@ -1,5 +1,7 @@
 //! XMSS: the trees of a layer (FIPS 205, section 6).
 ghost use Rattle.std.specs.Prelude.{◌≡◌, ◌+◌, ◌-◌, ◌*◌, ◌^◌, ◌≤◌, ◌<◌, ◌++◌, length, sum};
+ghost use Rattle.slh_core.specs.Costs.{wots_pk_cost, auth_path_cost, xmss_node_cost};
+ghost use Rattle.slh_core.specs.Costs.{xmss_sign_cost, xmss_pk_from_sig_cost, xmss_pk_from_sig_bound};
 ghost use Rattle.slh_core.specs.Digits.{wots_digits};
 ghost use Rattle.slh_core.specs.Suite.{seeded};
 ghost use Rattle.slh_trees.specs.Checking.{checked_node};
@@ -7,7 +9,7 @@ ghost use Rattle.slh_trees.specs.Xmss.{xmss_node as spec_xmss_node, auth_path, x
 
 use crate::climb::{climb_path, sibling};
 use crate::laws::path_leads_to_root;
-use crate::treehash::{node_of, push_leaf};
+use crate::treehash::{TREEHASH_LEN, node_of, push_leaf};
 use hybrid_array::ArraySize;
 use slh_core::address::{HashTree, WotsHash};
 use slh_core::nbytes::NBytes;
@@ -57,11 +59,11 @@ pub fn xmss_node<P: XmssParams, L: Ledger>(
     ensures value { let K = seeded P.suite P.N.USIZE (P.seed_of keyed.now) in
         let a = adrs.now in
         result ≡ spec_xmss_node K sk_seed.now a.layer_adrs a.tree_adrs_low height node }
-    ensures cost { steps.new + 1 ≡ steps.old + 2 ^ height * (16 * P.WotsSigLen.USIZE + 2) }
+    ensures cost { steps.new ≡ steps.old + xmss_node_cost P.WotsSigLen.USIZE height }
 {
     tree_sizes::<P>();
     let place = adrs.tree_adrs();
-    let mut store = [0u8; 1024];
+    let mut store = [0u8; TREEHASH_LEN];
     for q in 0..1u32 << height {
         let index = leaf_below::<P>(node, height, q);
         let leaf = wots_pk_gen::<P, L>(sk_seed, keyed, &at_leaf(adrs, index), steps);
@@ -85,8 +87,8 @@ fn write_auth_path<P: XmssParams, L: Ledger>(
     ensures value { let K = seeded P.suite P.N.USIZE (P.seed_of keyed.now) in
         let a = adrs.now in
         out.new ≡ auth_path K sk_seed.now a.layer_adrs a.tree_adrs_low idx P.HPrime.USIZE }
-    ensures cost { let leaf_cost = 16 * P.WotsSigLen.USIZE + 2 in
-        steps.new + P.HPrime.USIZE + leaf_cost ≡ steps.old + 2 ^ P.HPrime.USIZE * leaf_cost }
+    ensures cost { let leaf_cost = wots_pk_cost P.WotsSigLen.USIZE in
+        steps.new ≡ steps.old + auth_path_cost leaf_cost P.HPrime.USIZE }
 {
     tree_sizes::<P>();
     let n = P::N::USIZE;
@@ -115,10 +117,8 @@ pub fn xmss_sign<P: XmssParams, L: Ledger>(
         let hp = P.HPrime.USIZE in
         out.new ≡ xmss_sig K sk_seed.now a.layer_adrs a.tree_adrs_low idx m.now hp }
     ensures cost { let digits = wots_digits P.N.USIZE m.now in
-        let tree_cost = 2 ^ P.HPrime.USIZE * (16 * P.WotsSigLen.USIZE + 2) in
-        steps.new + P.HPrime.USIZE + (15 * P.WotsSigLen.USIZE + 2)
-        ≡ steps.old + sum digits + tree_cost }
-    ensures bound { steps.new + 1 ≤ steps.old + 2 ^ P.HPrime.USIZE * (16 * P.WotsSigLen.USIZE + 2) }
+        steps.new ≡ steps.old + xmss_sign_cost P.WotsSigLen.USIZE P.HPrime.USIZE digits }
+    ensures bound { steps.new ≤ steps.old + xmss_node_cost P.WotsSigLen.USIZE P.HPrime.USIZE }
 {
     tree_sizes::<P>();
     let split = P::WotsSigLen::USIZE * P::N::USIZE;
@@ -144,8 +144,9 @@ pub fn xmss_pk_from_sig<P: XmssParams, L: Ledger>(
         let hp = P.HPrime.USIZE in
         result ≡ checked_node K a.layer_adrs a.tree_adrs_low idx sig.now m.now hp }
     ensures cost { let digits = wots_digits P.N.USIZE m.now in
-        steps.new + sum digits ≡ steps.old + (15 * P.WotsSigLen.USIZE + 1 + P.HPrime.USIZE) }
-    ensures bound { steps.new ≤ steps.old + (15 * P.WotsSigLen.USIZE + 1 + P.HPrime.USIZE) }
+        steps.new ≡ steps.old + xmss_pk_from_sig_cost P.WotsSigLen.USIZE P.HPrime.USIZE digits }
+    ensures bound { let len = P.WotsSigLen.USIZE in
+        steps.new ≤ steps.old + xmss_pk_from_sig_bound len P.HPrime.USIZE }
 {
     tree_sizes::<P>();
     let height = P::HPrime::USIZE;
@@ -174,7 +175,7 @@ pub fn xmss_sign_root<P: XmssParams, L: Ledger>(
         let a = adrs.now in
         let hp = P.HPrime.USIZE in
         out.new ≡ xmss_sig K sk_seed.now a.layer_adrs a.tree_adrs_low idx m.now hp }
-    ensures cost { steps.new + 1 ≡ steps.old + 2 ^ P.HPrime.USIZE * (16 * P.WotsSigLen.USIZE + 2) }
+    ensures cost { steps.new ≡ steps.old + xmss_node_cost P.WotsSigLen.USIZE P.HPrime.USIZE }
 {
     tree_sizes::<P>();
     path_leads_to_root::<P>();

@@ -1,9 +1,11 @@
-use Rattle.std.proofs.Common.{rules, arith, ◌≡◌, ◌^◌, ◌<◌, ◌∙◌, ap}
+use Rattle.std.proofs.Common.{rules, arith, ◌≡◌, ◌+◌, ◌*◌, ◌^◌, ◌<◌, ◌∙◌, ap}
 use Rattle.std.specs.Prelude.{count_ones}
 use Rattle.std.proofs.lemmas.Nat.{one_shl}
+use Rattle.slh_core.specs.Costs.{fors_leaf_cost, fors_node_cost}
 use Rattle.slh_core.specs.Suite.{seeded}
 use Rattle.slh_trees.specs.Fors.{fors_leaf, fors_node}
 use Rattle.slh_trees.proofs.TreehashSteps.{HoldsNodes-none, HoldsNodes-all, ones-zero, ones-pow}
+use Rattle.slh_trees.proofs.CostSteps.{node_cost-whole}
 use Rattle.slh_trees.proofs.fors.fors_node.Goals as goal
 
 pub loop-q-init : goal.loop-q-init
@@ -37,4 +39,5 @@ pub returns-clause-cost : goal.returns-clause-cost
 returns-clause-cost g c =
     let all : c.loop-q.q ≡ 2 ^ c.args.z = omega (arith, one_shl c.args.z 32 (omega arith)) in
     let last : count_ones c.loop-q.q ≡ 1 = ap (λ b. count_ones b) all ∙ ones-pow c.args.z in
-    rw (← all) (omega (arith, c.loop-q.invariant.cost))
+    let whole : fors_node_cost c.args.z + 1 ≡ c.loop-q.q * (fors_leaf_cost + 1) = rw all (node_cost-whole fors_leaf_cost c.args.z) in
+    omega (arith, c.loop-q.invariant.cost)

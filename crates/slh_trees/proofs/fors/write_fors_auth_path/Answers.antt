@@ -1,12 +1,14 @@
 use Rattle.std.proofs.Common.{arith, refl}
 use Rattle.slh_core.proofs.Joins.{joined_more}
-use Rattle.slh_trees.proofs.Powers.{twice_more, sibling_below_of}
+use Rattle.slh_core.specs.Costs.{fors_leaf_cost}
+use Rattle.slh_trees.proofs.CostSteps.{auth_path_cost-more}
+use Rattle.slh_trees.proofs.Powers.{sibling_below_of}
 use Rattle.slh_trees.proofs.fors.write_fors_auth_path.Goals as goal
 
 pub loop-z-preserved : goal.loop-z-preserved
 loop-z-preserved g c = record {
   values = rw (c.put_part.ensures.front, c.loop-z.invariant.values, joined_more, c.as_slice.ensures.value, c.fors_node-value.ensures.value, c.sibling.ensures) refl;
-  cost = omega (arith, twice_more c.loop-z.z 3);
+  cost = omega (arith, auth_path_cost-more fors_leaf_cost c.loop-z.z);
 }
 
 pub fors_node-value-requires-clause-node : goal.fors_node-value-requires-clause-node

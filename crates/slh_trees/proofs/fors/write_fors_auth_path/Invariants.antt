@@ -1,5 +1,6 @@
 use Rattle.std.proofs.Common.{◌≡◌, ◌+◌, ◌*◌, ◌/◌, ◌^◌, take}
 use Rattle.slh_core.specs.Bytes.{joined}
+use Rattle.slh_core.specs.Costs.{auth_path_cost, fors_leaf_cost}
 use Rattle.slh_core.specs.Suite.{seeded}
 use Rattle.slh_trees.specs.Fors.{fors_node}
 use Rattle.slh_trees.specs.Merkle.{sibling_of}
@@ -13,5 +14,5 @@ invariant-loop-z g l =
     record {
       values : take (l.z * l.n) l.out
           ≡ joined (λ k. fors_node K l.sk_seed a.tree_adrs_low a.key_pair_adrs k (sibling_of (l.y / 2 ^ k))) l.z;
-      cost : l.steps + l.z + 3 ≡ l.initial.steps + 3 * 2 ^ l.z;
+      cost : l.steps ≡ l.initial.steps + auth_path_cost fors_leaf_cost l.z;
     }

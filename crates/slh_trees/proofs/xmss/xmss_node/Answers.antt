@@ -1,10 +1,12 @@
-use Rattle.std.proofs.Common.{rules, arith, ◌≡◌, ◌^◌, ◌<◌, ◌∙◌, ap, refl}
+use Rattle.std.proofs.Common.{rules, arith, ◌≡◌, ◌+◌, ◌*◌, ◌^◌, ◌<◌, ◌∙◌, ap, refl}
 use Rattle.std.specs.Prelude.{count_ones}
 use Rattle.std.proofs.lemmas.Nat.{one_shl}
 use Rattle.slh_core.specs.Wots.{wots_pk}
+use Rattle.slh_core.specs.Costs.{wots_pk_cost, node_cost}
 use Rattle.slh_core.specs.Suite.{seeded}
 use Rattle.slh_trees.specs.Xmss.{xmss_node}
 use Rattle.slh_trees.proofs.TreehashSteps.{HoldsNodes-none, HoldsNodes-all, ones-zero, ones-pow}
+use Rattle.slh_trees.proofs.CostSteps.{node_cost-whole}
 use Rattle.slh_trees.proofs.xmss.xmss_node.Goals as goal
 
 pub loop-q-init : goal.loop-q-init
@@ -39,4 +41,6 @@ pub returns-clause-cost : goal.returns-clause-cost
 returns-clause-cost g c =
     let all : c.loop-q.q ≡ 2 ^ c.args.height = omega (arith, one_shl c.args.height 32 (omega arith)) in
     let last : count_ones c.loop-q.q ≡ 1 = ap (λ b. count_ones b) all ∙ ones-pow c.args.height in
-    rw (← all) (omega (arith, c.loop-q.invariant.cost))
+    let leaf = wots_pk_cost g.P.WotsSigLen.ArraySize.USIZE in
+    let whole : node_cost leaf c.args.height + 1 ≡ c.loop-q.q * (leaf + 1) = rw all (node_cost-whole leaf c.args.height) in
+    omega (arith, c.loop-q.invariant.cost)
