@@ -1,5 +1,6 @@
 -- What the engine keeps between two steps.
-use Rattle.std.specs.Prelude.{◌≡◌, ℕ, ◌≤◌, List, [], ◌++◌, length, nat_lt, if◌then◌else◌, Option, Result, MatchResult, IfOk, IsErrOf, take}
+use Rattle.std.specs.Prelude.{◌≡◌, ℕ, ◌≤◌, List, [], ◌++◌, length, nat_lt, if◌then◌else◌, Option}
+use Rattle.std.specs.Prelude.{Result, MatchResult, IfOk, IsErrOf, take}
 use Rattle.std.specs.Io.KnownBytes.{Appends, Consumes, Keeps, IsAtEnd}
 use Rattle.line_serve.specs.Lines.{line_limit, closed_lines, unfinished, replies_to}
 use Rattle.line_serve.specs.Causes.{Rose}

@@ -1,5 +1,6 @@
 -- The fields of a line, and what a hexadecimal one stands for.
-use Rattle.std.specs.Prelude.{◌==◌, if◌then◌else◌, not, ℕ, List, [], length, map, filter, Option, Some, slice_index, Bool, ◌&&◌}
+use Rattle.std.specs.Prelude.{◌==◌, if◌then◌else◌, not, ℕ, List, [], length, map, filter, Option}
+use Rattle.std.specs.Prelude.{Some, slice_index, Bool, ◌&&◌}
 use Rattle.std.specs.Borrow.{Bor}
 use Rattle.std.specs.List.{slice_split}
 use Rattle.std.specs.Result.{result_ok}

@@ -1,5 +1,6 @@
 -- Lines of bytes, and the replies to them.
-use Rattle.std.specs.Prelude.{◌≡◌, ◌==◌, if◌then◌else◌, nat_lt, ℕ, ◌^◌, List, [], ◌∷◌, ◌++◌, length, codes, false}
+use Rattle.std.specs.Prelude.{◌≡◌, ◌==◌, if◌then◌else◌, nat_lt, ℕ, ◌^◌, List, [], ◌∷◌, ◌++◌, length}
+use Rattle.std.specs.Prelude.{codes, false}
 use Rattle.std.specs.List.{slice_split, flat_map, All}
 
 -- LF

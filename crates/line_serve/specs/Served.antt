@@ -1,8 +1,10 @@
 -- What a run over a whole input has done.
-use Rattle.std.specs.Prelude.{◌≤◌, ◌≡◌, ◌≢◌, ◌⊎◌, ◌↔◌, ℕ, ◌<◌, ◌^◌, List, ◌++◌, length, Option, Some, IfSome, []}
+use Rattle.std.specs.Prelude.{◌≤◌, ◌≡◌, ◌≢◌, ◌⊎◌, ◌↔◌, ℕ, ◌<◌, ◌^◌, List, ◌++◌, length, Option}
+use Rattle.std.specs.Prelude.{Some, IfSome, []}
 use Rattle.std.specs.Io.KnownBytes.{Appends, Consumes, IsAtEnd}
 use Rattle.line_serve.specs.declared.lines.Status.{Status}
-use Rattle.line_serve.specs.declared.lines.Status.TheVariants.{Whole, SourceFailed, SinkFailed, LimitReached, OutOfMemory}
+use Rattle.line_serve.specs.declared.lines.Status.TheVariants.{Whole, SourceFailed, SinkFailed}
+use Rattle.line_serve.specs.declared.lines.Status.TheVariants.{LimitReached, OutOfMemory}
 use Rattle.line_serve.specs.Lines.{closed_lines, ended_lines, lines, replies_to}
 
 -- xs begins with front

@@ -1,5 +1,6 @@
 //! Answers lines as their bytes come in.
-ghost use Rattle.std.specs.Prelude.{◌≡◌, ◌==◌, ◌^◌, ◌≤◌, ◌++◌, ◌∷◌, [], Option, List, ℕ, length, position, OnOk, OnErr};
+ghost use Rattle.std.specs.Prelude.{◌≡◌, ◌==◌, ◌^◌, ◌≤◌, ◌++◌, ◌∷◌, [], Option, List, ℕ, length};
+ghost use Rattle.std.specs.Prelude.{position, OnOk, OnErr};
 ghost use Rattle.line_serve.specs.Engine.{StandsFor, Takes, GoesOn, Stops, Answered, HaltsFor};
 ghost use Rattle.line_serve.specs.Lines.{HasNoLineFeed, line_feed, reply_to, replies_to, lines};
 

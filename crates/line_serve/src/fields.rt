@@ -1,6 +1,7 @@
 //! The fields of a line. One carriage return at the line's end is dropped, and what is left is cut
 //! at its spaces (0x20); parts without bytes are no fields.
-ghost use Rattle.std.specs.Prelude.{◌≡◌, ◌≤◌, ◌++◌, length, take, slice_get, true, false, IfOk, OnErr, MatchOption};
+ghost use Rattle.std.specs.Prelude.{◌≡◌, ◌≤◌, ◌++◌, length, take, slice_get, true, false, IfOk};
+ghost use Rattle.std.specs.Prelude.{OnErr, MatchOption};
 ghost use Rattle.std.specs.Option.{option_copied};
 ghost use Rattle.std.specs.Str.Lines.{strip_carriage_return};
 ghost use Rattle.line_serve.specs.Fields.{contents, fields, hex_value, is_dash};

@@ -1,5 +1,6 @@
 //! Signing keys (FIPS 205, section 9.1).
-ghost use Rattle.std.specs.Prelude.{◌≡◌, ◌+◌, ◌*◌, ◌^◌, ◌<◌, length, drop, unwrap_or, IfOk, OnOk, OnErr};
+ghost use Rattle.std.specs.Prelude.{◌≡◌, ◌+◌, ◌*◌, ◌^◌, ◌<◌, length, drop, unwrap_or, IfOk, OnOk};
+ghost use Rattle.std.specs.Prelude.{OnErr};
 ghost use Rattle.std.specs.Option.{option_copied, ForSome};
 ghost use Rattle.slh_core.specs.Bytes.{part};
 ghost use Rattle.slh_core.specs.Costs.{slh_keygen_cost, slh_sign_cost};
@@ -95,10 +96,10 @@ impl<P: ParameterSet> SigningKey<P> {
         })
     }
 
-    /// Writes the signature of a message with a context (FIPS 205, algorithm 22) into `out`. Where no
-    /// `opt_rand` is given the public seed stands for it. `Length`: `out` doesn't have the bytes of a
-    /// signature; `ContextTooLong`, `RandomizerLength`, `MessageTooLong`. After a refusal `out` is as
-    /// it was.
+    /// Writes the signature of a message with a context (FIPS 205, algorithm 22) into `out`. Where
+    /// no `opt_rand` is given the public seed stands for it. `Length`: `out` doesn't have the bytes
+    /// of a signature; `ContextTooLong`, `RandomizerLength`, `MessageTooLong`. After a refusal
+    /// `out` is as it was.
     pub fn slh_sign_counted<L: Ledger>(
         &self,
         msg: &[u8],
@@ -137,8 +138,8 @@ impl<P: ParameterSet> SigningKey<P> {
         check_message(msg)
     }
 
-    /// As `slh_sign_counted`, of what [`SigningKey::check_sign`] doesn't refuse, into the bytes of a
-    /// signature.
+    /// As `slh_sign_counted`, of what [`SigningKey::check_sign`] doesn't refuse, into the bytes of
+    /// a signature.
     pub fn slh_sign_checked<L: Ledger>(
         &self,
         msg: &[u8],

@@ -52,8 +52,8 @@ impl<P: ParameterSet> VerifyingKey<P> {
         })
     }
 
-    /// Verifies the bytes of a signature of a message with a context (FIPS 205, algorithm 24), where
-    /// they stand. `Length`: they aren't as many as a signature has; `ContextTooLong`,
+    /// Verifies the bytes of a signature of a message with a context (FIPS 205, algorithm 24),
+    /// where they stand. `Length`: they aren't as many as a signature has; `ContextTooLong`,
     /// `MessageTooLong`; `Invalid`: they don't lead to the key's root.
     pub fn slh_verify_counted<L: Ledger>(
         &self,

@@ -1,5 +1,6 @@
 -- The reply to a line (README, "Lines").
-use Rattle.std.specs.Prelude.{◌==◌, ℕ, ◌/◌, List, [], ◌++◌, length, drop, Result, Ok, Err, codes, if◌then◌else◌}
+use Rattle.std.specs.Prelude.{◌==◌, ℕ, ◌/◌, List, [], ◌++◌, length, drop, Result, Ok, Err, codes}
+use Rattle.std.specs.Prelude.{if◌then◌else◌}
 use Rattle.hex.specs.Hex.{encode_lower}
 use Rattle.line_serve.specs.Fields.{fields}
 use Rattle.slh_run.specs.Judgement.{judgement}
@@ -16,7 +17,8 @@ use Rattle.slh_run.specs.declared.request.Request.{Request}
 -- the verifying key is the last half of a signing key
 abbrev pub key_text : List ℕ → List ℕ
 key_text key =
-    codes "key " ++ encode_lower key ++ codes " " ++ encode_lower (drop (length key / 2) key) ++ codes "\n"
+    codes "key " ++ encode_lower key ++ codes " " ++ encode_lower (drop (length key / 2) key)
+    ++ codes "\n"
 
 abbrev pub signature_text : List ℕ → List ℕ
 signature_text signature = codes "sig " ++ encode_lower signature ++ codes "\n"

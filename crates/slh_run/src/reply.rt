@@ -1,7 +1,8 @@
 //! The replies to job lines.
 ghost use Rattle.std.specs.Prelude.{◌≡◌, ◌+◌, ◌-◌, ◌*◌, ◌/◌, ◌++◌, length, Ok, OnOk, OnErr};
 ghost use Rattle.line_serve.specs.Fields.{contents};
-ghost use Rattle.slh_run.specs.Reply.{error_text, fault_text, key_text, reply_of_fields, reply_of_line, request_text, signature_text};
+ghost use Rattle.slh_run.specs.Reply.{error_text, fault_text, key_text, reply_of_fields};
+ghost use Rattle.slh_run.specs.Reply.{reply_of_line, request_text, signature_text};
 
 use crate::job::{Answer, Error};
 use crate::judge::run;
@@ -14,7 +15,8 @@ pub(crate) struct Jobs;
 
 // Writes the text of a key.
 fn write_key(key: &[u8], text: &mut [u8])
-    requires { length text.old ≡ 2 * length key.now + 2 * (length key.now - length key.now / 2) + 6 }
+    requires { length text.old
+        ≡ 2 * length key.now + 2 * (length key.now - length key.now / 2) + 6 }
     ensures { text.new ≡ key_text key.now }
 {
     let (word, rest) = text.split_at_mut(4);

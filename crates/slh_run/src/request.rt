@@ -1,7 +1,8 @@
 //! What a job line asks for.
 ghost use Rattle.std.specs.Prelude.{◌≡◌, ◌⊎◌, Err, length};
 ghost use Rattle.line_serve.specs.Fields.{contents};
-ghost use Rattle.slh_run.specs.Requests.{bytes_at, command_named, field_at, job_for, job_of, randomizer_at, request_of};
+ghost use Rattle.slh_run.specs.Requests.{bytes_at, command_named, field_at, job_for, job_of};
+ghost use Rattle.slh_run.specs.Requests.{randomizer_at, request_of};
 ghost use Rattle.slh_run.specs.declared.request.Command.TheVariants.{Keygen, Sign, Verify};
 ghost use Rattle.slh_run.specs.declared.request.Fault.TheVariants.{Memory};
 
