@@ -1,2 +1,3 @@
 pub mod Sha2
 pub mod Lengths
+pub mod Sets

@@ -1,5 +1,6 @@
 -- The functions of the SHA-2 parameter sets (FIPS 205, sections 11.2.1 and 11.2.2).
-use Rattle.std.specs.Prelude.{ℕ, ◌+◌, ◌-◌, ◌/◌, List, ◌++◌, take, replicate}
+use Rattle.std.specs.Int.{div_ceil}
+use Rattle.std.specs.Prelude.{ℕ, ◌-◌, List, ◌++◌, take, replicate}
 use Rattle.hmac_sha256.specs.Sha256.{sha256}
 use Rattle.hmac_sha256.specs.Hmac.{hmac_sha256}
 use Rattle.slh_core.specs.Bytes.{big_endian, joined}
@@ -16,7 +17,8 @@ tweaked_hash n s a x = take n (sha256 (seed_block n s ++ (compressed_address a +
 
 -- the first bytes of the hashes of a seed and a counter of four bytes, from 0 on
 unfoldable pub mgf1_sha256 : List ℕ → ℕ → List ℕ
-mgf1_sha256 seed len = take len (joined (λ i. sha256 (seed ++ big_endian i 4)) ((len + 31) / 32))
+mgf1_sha256 seed len =
+    take len (joined (λ i. sha256 (seed ++ big_endian i 4)) (div_ceil len 32))
 
 -- the digest of a message: MGF1 over the randomizer, the public seed and a hash, cut to m bytes
 unfoldable pub message_digest : ℕ → List ℕ → List ℕ → List ℕ → List ℕ → List ℕ

@@ -12,10 +12,10 @@ pub mod digest;
 pub mod fors;
 pub mod hypertree;
 pub mod laws;
-mod treehash;
 #[cfg(test)]
 mod tests;
 pub mod toy;
+mod treehash;
 pub mod xmss;
 
 pub use check::check_root;
