@@ -1,7 +1,7 @@
 -- Chains that go on from their middle, and the signatures made of them.
 use Rattle.std.proofs.Common.{◌≡◌, ℕ, zero, suc, ◌+◌, ◌-◌, ◌*◌, ◌<◌, List, length, arith, ap, sym, refl, ◌∙◌, add-zero, add-suc, zero-add}
 use Rattle.std.specs.Prelude.{slice_index}
-use Rattle.slh_core.specs.Address.{address_bytes}
+use Rattle.slh_core.specs.Address.{address_bytes, wots_pk_type}
 use Rattle.slh_core.specs.Wots.{chain, chain_secret, chain_value, wots_pk, chain_values, wots_sig, checked_ends, wots_pk_from_sig}
 use Rattle.slh_core.specs.Digits.{wots_digits}
 use Rattle.slh_core.specs.Parameters.{chain_count}
@@ -18,12 +18,12 @@ chain-add K x j t l c i q (suc r) =
     rw add-suc cc
 
 -- a chain keeps its length
-pub length-chain : (K : Seeded) (x : List ℕ) (j t l c i q : ℕ) → HasLength K.suite K.n → length x ≡ K.n → length (chain K j t l c x i q) ≡ K.n
+length-chain : (K : Seeded) (x : List ℕ) (j t l c i q : ℕ) → HasLength K.suite K.n → length x ≡ K.n → length (chain K j t l c x i q) ≡ K.n
 unfolding chain
 length-chain K x j t l c i zero law h = h
 length-chain K x j t l c i (suc q) law h = law.f K.seed _ _
 
-pub length-chain_value : (K : Seeded) (sk : List ℕ) (j t l c q : ℕ) → HasLength K.suite K.n → length (chain_value K sk j t l c q) ≡ K.n
+length-chain_value : (K : Seeded) (sk : List ℕ) (j t l c q : ℕ) → HasLength K.suite K.n → length (chain_value K sk j t l c q) ≡ K.n
 length-chain_value K sk j t l c q law =
     length-chain K (chain_secret K sk j t l c) j t l c 0 q law (law.prf _ _ _)
 
@@ -37,10 +37,10 @@ length-wots_sig K sk j t l m law =
     length-joined _ K.n (chain_count K.n) (λ c. length-chain_value K sk j t l c (slice_index (wots_digits K.n m) c) law)
 
 -- chain values at any digits lead to the leaf of the key
-ends-chain_values : (K : Seeded) (sk : List ℕ) (j t l : ℕ) (w : List ℕ) → HasLength K.suite K.n → ((c : ℕ) → slice_index w c < 16) → K.suite.t K.seed (address_bytes j t 1 l 0 0) (checked_ends K j t l (chain_values K sk j t l w) w) ≡ wots_pk K sk j t l
+ends-chain_values : (K : Seeded) (sk : List ℕ) (j t l : ℕ) (w : List ℕ) → HasLength K.suite K.n → ((c : ℕ) → slice_index w c < 16) → K.suite.t K.seed (address_bytes j t wots_pk_type l 0 0) (checked_ends K j t l (chain_values K sk j t l w) w) ≡ wots_pk K sk j t l
 unfolding checked_ends chain_values wots_pk
 ends-chain_values K sk j t l w law small =
-    ap (K.suite.t K.seed (address_bytes j t 1 l 0 0)) (joined_same _ _ (chain_count K.n) (λ c below.
+    ap (K.suite.t K.seed (address_bytes j t wots_pk_type l 0 0)) (joined_same _ _ (chain_count K.n) (λ c below.
     let digit = slice_index w c in
     let short : digit < 16 = small c in
     let whole : digit + (15 - digit) ≡ 15 = omega arith in

@@ -4,3 +4,5 @@ pub mod Suite
 pub mod Parameters
 pub mod Digits
 pub mod Wots
+pub mod Costs
+pub mod Steps

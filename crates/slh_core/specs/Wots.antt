@@ -2,7 +2,7 @@
 -- secret seed. A key pair stands at layer j, tree t and leaf l, and c is the number of a chain.
 use Rattle.std.specs.Prelude.{ℕ, zero, suc, ◌+◌, ◌-◌, List, slice_index}
 use Rattle.slh_core.specs.Suite.{Seeded}
-use Rattle.slh_core.specs.Address.{address_bytes}
+use Rattle.slh_core.specs.Address.{address_bytes, wots_hash_type, wots_pk_type, wots_prf_type}
 use Rattle.slh_core.specs.Bytes.{joined, part}
 use Rattle.slh_core.specs.Digits.{wots_digits}
 use Rattle.slh_core.specs.Parameters.{chain_count}
@@ -11,12 +11,13 @@ module _ (K : Seeded) (j t l c : ℕ) where
   -- x, taken q steps on from step i (algorithm 5)
   unfoldable pub chain : List ℕ → ℕ → ℕ → List ℕ
   chain x i zero = x
-  chain x i (suc q) = K.suite.f K.seed (address_bytes j t 0 l c (i + q)) (chain x i q)
+  chain x i (suc q) =
+      K.suite.f K.seed (address_bytes j t wots_hash_type l c (i + q)) (chain x i q)
 
 module _ (K : Seeded) (sk : List ℕ) (j t l : ℕ) where
   -- the secret at the start of chain c
   abbrev pub chain_secret : ℕ → List ℕ
-  chain_secret c = K.suite.prf K.seed (address_bytes j t 5 l c 0) sk
+  chain_secret c = K.suite.prf K.seed (address_bytes j t wots_prf_type l c 0) sk
 
   -- the key's own chain c after q steps
   abbrev pub chain_value : ℕ → ℕ → List ℕ
@@ -25,7 +26,7 @@ module _ (K : Seeded) (sk : List ℕ) (j t l : ℕ) where
   -- the public key: the hash of the ends of all chains (algorithm 6)
   unfoldable pub wots_pk : List ℕ
   wots_pk =
-      K.suite.t K.seed (address_bytes j t 1 l 0 0)
+      K.suite.t K.seed (address_bytes j t wots_pk_type l 0 0)
       (joined (λ c. chain_value c 15) (chain_count K.n))
 
   -- each chain as far as its digit says
@@ -49,4 +50,5 @@ module _ (K : Seeded) (j t l : ℕ) where
   -- the public key that a signature of a message leads to (algorithm 8)
   unfoldable pub wots_pk_from_sig : List ℕ → List ℕ → List ℕ
   wots_pk_from_sig sig m =
-      K.suite.t K.seed (address_bytes j t 1 l 0 0) (checked_ends K j t l sig (wots_digits K.n m))
+      K.suite.t K.seed (address_bytes j t wots_pk_type l 0 0)
+      (checked_ends K j t l sig (wots_digits K.n m))

@@ -1,6 +1,8 @@
 //! Hash addresses: where in the hypertree and its forests a hash stands.
 ghost use Rattle.std.specs.Prelude.{◌≡◌, ℕ, List};
 ghost use Rattle.slh_core.specs.Address.{address_bytes, compressed_address};
+ghost use Rattle.slh_core.specs.Address.{wots_hash_type, wots_pk_type, tree_type, fors_tree_type};
+ghost use Rattle.slh_core.specs.Address.{fors_roots_type, wots_prf_type, fors_prf_type};
 
 /// Something that stands for 32 address bytes (FIPS 205, section 4.2).
 pub trait Address {
@@ -59,9 +61,9 @@ pub struct WotsHash {
 impl Address for WotsHash {
     const TYPE_CONST: u32 = 0;
 
-    ghost TYPE_CONST = { 0 };
+    ghost TYPE_CONST = { wots_hash_type };
 
-    ghost bytes = { λ a. address_bytes a.layer_adrs a.tree_adrs_low 0
+    ghost bytes = { λ a. address_bytes a.layer_adrs a.tree_adrs_low wots_hash_type
         a.key_pair_adrs a.chain_adrs a.hash_adrs };
 
     #[inline]
@@ -178,9 +180,10 @@ pub struct WotsPk {
 impl Address for WotsPk {
     const TYPE_CONST: u32 = 1;
 
-    ghost TYPE_CONST = { 1 };
+    ghost TYPE_CONST = { wots_pk_type };
 
-    ghost bytes = { λ a. address_bytes a.layer_adrs a.tree_adrs_low 1 a.key_pair_adrs 0 0 };
+    ghost bytes = { λ a. address_bytes a.layer_adrs a.tree_adrs_low wots_pk_type
+        a.key_pair_adrs 0 0 };
 
     #[inline]
     fn to_bytes(&self) -> [u8; 32] {
@@ -207,9 +210,9 @@ pub struct HashTree {
 impl Address for HashTree {
     const TYPE_CONST: u32 = 2;
 
-    ghost TYPE_CONST = { 2 };
+    ghost TYPE_CONST = { tree_type };
 
-    ghost bytes = { λ a. address_bytes a.layer_adrs a.tree_adrs_low 2
+    ghost bytes = { λ a. address_bytes a.layer_adrs a.tree_adrs_low tree_type
         0 a.tree_height a.tree_index };
 
     #[inline]
@@ -237,9 +240,9 @@ pub struct ForsTree {
 impl Address for ForsTree {
     const TYPE_CONST: u32 = 3;
 
-    ghost TYPE_CONST = { 3 };
+    ghost TYPE_CONST = { fors_tree_type };
 
-    ghost bytes = { λ a. address_bytes 0 a.tree_adrs_low 3
+    ghost bytes = { λ a. address_bytes 0 a.tree_adrs_low fors_tree_type
         a.key_pair_adrs a.tree_height a.tree_index };
 
     #[inline]
@@ -314,9 +317,10 @@ pub struct ForsRoots {
 impl Address for ForsRoots {
     const TYPE_CONST: u32 = 4;
 
-    ghost TYPE_CONST = { 4 };
+    ghost TYPE_CONST = { fors_roots_type };
 
-    ghost bytes = { λ a. address_bytes 0 a.tree_adrs_low 4 a.key_pair_adrs 0 0 };
+    ghost bytes = { λ a. address_bytes 0 a.tree_adrs_low fors_roots_type
+        a.key_pair_adrs 0 0 };
 
     #[inline]
     fn to_bytes(&self) -> [u8; 32] {
@@ -343,9 +347,9 @@ pub struct WotsPrf {
 impl Address for WotsPrf {
     const TYPE_CONST: u32 = 5;
 
-    ghost TYPE_CONST = { 5 };
+    ghost TYPE_CONST = { wots_prf_type };
 
-    ghost bytes = { λ a. address_bytes a.layer_adrs a.tree_adrs_low 5
+    ghost bytes = { λ a. address_bytes a.layer_adrs a.tree_adrs_low wots_prf_type
         a.key_pair_adrs a.chain_adrs 0 };
 
     #[inline]
@@ -372,9 +376,10 @@ pub struct ForsPrf {
 impl Address for ForsPrf {
     const TYPE_CONST: u32 = 6;
 
-    ghost TYPE_CONST = { 6 };
+    ghost TYPE_CONST = { fors_prf_type };
 
-    ghost bytes = { λ a. address_bytes 0 a.tree_adrs_low 6 a.key_pair_adrs 0 a.tree_index };
+    ghost bytes = { λ a. address_bytes 0 a.tree_adrs_low fors_prf_type
+        a.key_pair_adrs 0 a.tree_index };
 
     #[inline]
     fn to_bytes(&self) -> [u8; 32] {

@@ -5,6 +5,7 @@ ghost use Rattle.slh_core.specs.Digits.{digits, wots_digits};
 ghost use Rattle.slh_core.specs.Parameters.{chain_count};
 
 use crate::nbytes::NBytes;
+use crate::params::{MAX_CHAINS, MAX_N};
 use hybrid_array::ArraySize;
 
 /// Cuts the front of `x` into digits of `b` bits, one for each place of `out` (FIPS 205, algorithm
@@ -32,13 +33,13 @@ pub fn base_2b(x: &[u8], b: u32, out: &mut [u16])
     }
 }
 
-/// The digits of a message and of its checksum, in the front of 67 places.
+/// The digits of a message and of its checksum, in the front of a place for each chain.
 #[tactic(auto, unfolding(crate::specs::Digits::wots_digits))]
-pub(crate) fn message_digits<N: ArraySize>(m: &NBytes<N>) -> [u16; 67]
+pub(crate) fn message_digits<N: ArraySize>(m: &NBytes<N>) -> [u16; MAX_CHAINS]
     ensures { take (chain_count N.USIZE) result ≡ wots_digits N.USIZE m.now }
 {
     let bytes = m.as_slice();
-    let mut all = [0u16; 67];
+    let mut all = [0u16; MAX_CHAINS];
     let len = 2 * N::USIZE;
     base_2b(bytes, 4, &mut all[..len]);
     let sum = checksum_of(&all[..len]);
@@ -50,7 +51,7 @@ pub(crate) fn message_digits<N: ArraySize>(m: &NBytes<N>) -> [u16; 67]
 
 /// The sum of what each digit lacks of fifteen.
 fn checksum_of(digits: &[u16]) -> u16
-    requires few { length digits.now ≤ 64 }
+    requires few { length digits.now ≤ 2 * MAX_N }
     requires below { EachIndex digits.now (λ k. slice_index digits.now k < 16) }
     ensures { result ≡ sum_by (λ d. 15 - d) digits.now }
 {

@@ -7,6 +7,32 @@ ghost use Rattle.slh_core.specs.Parameters.{Scheme, scheme_of, bytes_for, chain_
 use crate::suite::HashSuite;
 use hybrid_array::ArraySize;
 
+/// The most bytes that a value has: a seed, a hash, or a message that a key pair signs.
+pub const MAX_N: usize = 32;
+
+/// The most chains of a key pair: one for each digit of a message, and three for their checksum.
+pub const MAX_CHAINS: usize = 2 * MAX_N + 3;
+
+/// The most bytes of all ends of a key pair's chains. No hash of joined values takes more.
+pub const MAX_ENDS_LEN: usize = MAX_CHAINS * MAX_N;
+
+/// The most trees of a forest.
+pub const MAX_FORS_TREES: usize = 64;
+
+/// The most bytes of all roots of a forest.
+pub const MAX_ROOTS_LEN: usize = MAX_FORS_TREES * MAX_N;
+
+/// The most bytes that are opened in one tree of a forest: a secret, and the siblings on the way up
+/// a tree of height 16.
+pub const MAX_OPENED_LEN: usize = (1 + 16) * MAX_N;
+
+/// The most bytes of a message's digest that a call takes.
+pub const MAX_DIGEST_LEN: usize = 256;
+
+/// The most bytes of the three slices of a message: a message of 2^60 bytes, its context, and what
+/// frames them, for which 512 bytes are more than enough.
+pub const MAX_MESSAGE_LEN: usize = (1 << 60) + 512;
+
 /// The sizes of a WOTS+ key pair.
 pub trait WotsParams: HashSuite {
     /// How many digits a message has.

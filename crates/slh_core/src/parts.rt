@@ -1,16 +1,17 @@
 //! Values that stand one after the other in a slice.
-ghost use Rattle.std.specs.Prelude.{◌≡◌, ◌+◌, ◌*◌, ◌≤◌, ◌++◌, length, take};
+ghost use Rattle.std.specs.Prelude.{◌≡◌, ◌+◌, ◌*◌, ◌≤◌, ◌++◌, length, take, drop};
 ghost use Rattle.slh_core.specs.Bytes.{part as spec_part};
 
 use crate::nbytes::NBytes;
 use hybrid_array::ArraySize;
 
-/// Puts part number `c` of `n` bytes in its place.
+/// Puts part number `c` of `n` bytes in its place. The bytes around it stay.
 #[inline]
 pub fn put_part(out: &mut [u8], n: usize, c: usize, part: &[u8])
     requires fits { (c + 1) * n ≤ length out.old }
     requires len { length part.now ≡ n }
     ensures front { take ((c + 1) * n) out.new ≡ take (c * n) out.old ++ part.now }
+    ensures rest { drop ((c + 1) * n) out.new ≡ drop ((c + 1) * n) out.old }
 {
     out[c * n..c * n + n].copy_from_slice(part);
 }

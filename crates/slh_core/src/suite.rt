@@ -4,6 +4,7 @@ ghost use Rattle.slh_core.specs.Suite.{Suite, HasLength, HasDigestLength};
 
 use crate::address::Address;
 use crate::nbytes::NBytes;
+use crate::params::{MAX_DIGEST_LEN, MAX_ENDS_LEN, MAX_MESSAGE_LEN};
 use crate::steps::Steps;
 use hybrid_array::ArraySize;
 use std::sync::ledger::Ledger;
@@ -12,6 +13,8 @@ use std::sync::ledger::Ledger;
 /// take a state that stands for a public seed, and count one step each. A message comes as three
 /// slices, which are hashed one after the other.
 pub trait HashSuite {
+    ghost use Rattle.slh_core.specs.declared.params.TheConstants.{MAX_DIGEST_LEN};
+
     /// How many bytes a value has.
     type N: ArraySize;
 
@@ -52,14 +55,14 @@ pub trait HashSuite {
         ensures value { result ≡ suite.h (seed_of keyed.now) (A.bytes adrs.now) m1.now m2.now }
         ensures step { steps.new ≡ steps.old + 1 };
 
-    /// T: the hash of many values, joined. There are at most 67, of at most 32 bytes each.
+    /// T: the hash of many values, joined. There are at most as many as a key pair has chains.
     fn t<A: Address, L: Ledger>(
         keyed: &Self::Keyed,
         adrs: &A,
         m: &[u8],
         steps: &mut Steps<L>,
     ) -> NBytes<Self::N>
-        requires { length m.now ≤ 2144 }
+        requires { length m.now ≤ MAX_ENDS_LEN }
         ensures value { result ≡ suite.t (seed_of keyed.now) (A.bytes adrs.now) m.now }
         ensures step { steps.new ≡ steps.old + 1 };
 
@@ -81,7 +84,7 @@ pub trait HashSuite {
         ctx: &[u8],
         msg: &[u8],
     ) -> NBytes<Self::N>
-        requires { length head.now + length ctx.now + length msg.now ≤ 2 ^ 60 + 512 }
+        requires { length head.now + length ctx.now + length msg.now ≤ MAX_MESSAGE_LEN }
         ensures { let message = head.now ++ ctx.now ++ msg.now in
             result ≡ suite.prf_msg sk_prf.now opt_rand.now message };
 
@@ -95,9 +98,9 @@ pub trait HashSuite {
         msg: &[u8],
         out: &mut [u8],
     )
-        requires message { length head.now + length ctx.now + length msg.now ≤ 2 ^ 60 + 512 }
+        requires message { length head.now + length ctx.now + length msg.now ≤ MAX_MESSAGE_LEN }
         requires room { length out.old ≡ Self.M.USIZE }
-        requires small { Self.M.USIZE ≤ 256 }
+        requires small { Self.M.USIZE ≤ MAX_DIGEST_LEN }
         ensures { let message = head.now ++ ctx.now ++ msg.now in
             out.new ≡ suite.h_msg rand.now pk_seed.now pk_root.now message };
 
@@ -105,5 +108,5 @@ pub trait HashSuite {
     ghost lengths: { Self.N.USIZE ≤ 32 → HasLength suite Self.N.USIZE };
 
     /// So does the digest of a message.
-    ghost digest_length: { Self.M.USIZE ≤ 256 → HasDigestLength suite Self.M.USIZE };
+    ghost digest_length: { Self.M.USIZE ≤ MAX_DIGEST_LEN → HasDigestLength suite Self.M.USIZE };
 }

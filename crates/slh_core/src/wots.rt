@@ -1,6 +1,8 @@
 //! WOTS+: chains and key pairs (FIPS 205, section 5).
 ghost use Rattle.std.specs.Prelude.{◌≡◌, ◌+◌, ◌*◌, ◌≤◌, ◌<◌, length, sum, EachIndex, slice_index};
 ghost use Rattle.slh_core.specs.Bytes.{joined};
+ghost use Rattle.slh_core.specs.Costs.{wots_pk_cost, wots_sign_cost, wots_sign_bound};
+ghost use Rattle.slh_core.specs.Costs.{wots_pk_from_sig_cost, wots_pk_from_sig_bound};
 ghost use Rattle.slh_core.specs.Wots.{chain, chain_value, wots_pk, chain_values, wots_sig};
 ghost use Rattle.slh_core.specs.Wots.{checked_ends, wots_pk_from_sig as spec_wots_pk_from_sig};
 ghost use Rattle.slh_core.specs.Digits.{wots_digits};
@@ -10,7 +12,7 @@ ghost use Rattle.slh_core.specs.Suite.{seeded};
 use crate::address::{WotsHash, WotsPrf};
 use crate::digits::message_digits;
 use crate::nbytes::NBytes;
-use crate::params::{WotsParams, chain_sizes};
+use crate::params::{MAX_ENDS_LEN, WotsParams, chain_sizes};
 use crate::parts::{part_of, put_part};
 use crate::steps::Steps;
 use hybrid_array::ArraySize;
@@ -75,12 +77,12 @@ pub fn wots_pk_gen<P: WotsParams, L: Ledger>(
     ensures value { let K = seeded P.suite P.N.USIZE (P.seed_of keyed.now) in
         let a = adrs.now in
         result ≡ wots_pk K sk_seed.now a.layer_adrs a.tree_adrs_low a.key_pair_adrs }
-    ensures cost { steps.new ≡ steps.old + (16 * P.WotsSigLen.USIZE + 1) }
+    ensures cost { steps.new ≡ steps.old + wots_pk_cost P.WotsSigLen.USIZE }
 {
     chain_sizes::<P>();
     let n = P::N::USIZE;
     let len = P::WotsSigLen::USIZE;
-    let mut ends = [0u8; 2144];
+    let mut ends = [0u8; MAX_ENDS_LEN];
     for c in 0..len {
         let end = own_chain::<P, L>(sk_seed, keyed, adrs, c as u32, 15, steps);
         put_part(&mut ends, n, c, end.as_slice());
@@ -103,8 +105,8 @@ pub fn wots_sign<P: WotsParams, L: Ledger>(
         let a = adrs.now in
         out.new ≡ wots_sig K sk_seed.now a.layer_adrs a.tree_adrs_low a.key_pair_adrs m.now }
     ensures cost { let digits = wots_digits P.N.USIZE m.now in
-        steps.new ≡ steps.old + (P.WotsSigLen.USIZE + sum digits) }
-    ensures bound { steps.new ≤ steps.old + 16 * P.WotsSigLen.USIZE }
+        steps.new ≡ steps.old + wots_sign_cost P.WotsSigLen.USIZE digits }
+    ensures bound { steps.new ≤ steps.old + wots_sign_bound P.WotsSigLen.USIZE }
 {
     chain_sizes::<P>();
     let all = message_digits(m);
@@ -130,7 +132,7 @@ fn write_chains<P: WotsParams, L: Ledger>(
         let a = adrs.now in
         let sk = sk_seed.now in
         out.new ≡ chain_values K sk a.layer_adrs a.tree_adrs_low a.key_pair_adrs digits.now }
-    ensures cost { steps.new ≡ steps.old + (length digits.now + sum digits.now) }
+    ensures cost { steps.new ≡ steps.old + wots_sign_cost (length digits.now) digits.now }
 {
     let n = P::N::USIZE;
     for (c, digit) in digits.iter().enumerate() {
@@ -157,13 +159,13 @@ pub fn wots_sign_leaf<P: WotsParams, L: Ledger>(
     ensures value { let K = seeded P.suite P.N.USIZE (P.seed_of keyed.now) in
         let a = adrs.now in
         out.new ≡ wots_sig K sk_seed.now a.layer_adrs a.tree_adrs_low a.key_pair_adrs m.now }
-    ensures cost { steps.new ≡ steps.old + (16 * P.WotsSigLen.USIZE + 1) }
+    ensures cost { steps.new ≡ steps.old + wots_pk_cost P.WotsSigLen.USIZE }
 {
     chain_sizes::<P>();
     let len = P::WotsSigLen::USIZE;
     let size = len * P::N::USIZE;
     let all = message_digits(m);
-    let mut ends = [0u8; 2144];
+    let mut ends = [0u8; MAX_ENDS_LEN];
     write_both::<P, L>(
         &all[..len],
         sk_seed,
@@ -227,16 +229,17 @@ pub fn wots_pk_from_sig<P: WotsParams, L: Ledger>(
     requires { length sig.now ≡ P.WotsSigLen.USIZE * P.N.USIZE }
     ensures value { let K = seeded P.suite P.N.USIZE (P.seed_of keyed.now) in
         let a = adrs.now in
-        result ≡ spec_wots_pk_from_sig K a.layer_adrs a.tree_adrs_low a.key_pair_adrs sig.now m.now }
+        let j = a.layer_adrs in
+        result ≡ spec_wots_pk_from_sig K j a.tree_adrs_low a.key_pair_adrs sig.now m.now }
     ensures cost { let digits = wots_digits P.N.USIZE m.now in
-        steps.new + sum digits ≡ steps.old + (15 * P.WotsSigLen.USIZE + 1) }
-    ensures bound { steps.new ≤ steps.old + (15 * P.WotsSigLen.USIZE + 1) }
+        steps.new ≡ steps.old + wots_pk_from_sig_cost P.WotsSigLen.USIZE digits }
+    ensures bound { steps.new ≤ steps.old + wots_pk_from_sig_bound P.WotsSigLen.USIZE }
 {
     chain_sizes::<P>();
     let len = P::WotsSigLen::USIZE;
     let size = len * P::N::USIZE;
     let all = message_digits(m);
-    let mut ends = [0u8; 2144];
+    let mut ends = [0u8; MAX_ENDS_LEN];
     finish_chains::<P, L>(&all[..len], sig, keyed, adrs, &mut ends[..size], steps);
     P::t(keyed, &adrs.pk_adrs(), &ends[..size], steps)
 }

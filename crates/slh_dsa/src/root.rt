@@ -1,5 +1,6 @@
 //! The root of the top tree.
-ghost use Rattle.std.specs.Prelude.{◌≡◌, ◌+◌, ◌*◌, ◌^◌};
+ghost use Rattle.std.specs.Prelude.{◌≡◌, ◌+◌};
+ghost use Rattle.slh_core.specs.Costs.{slh_keygen_cost};
 ghost use Rattle.slh_trees.specs.Keys.{top_root};
 
 use hybrid_array::ArraySize;
@@ -18,7 +19,7 @@ pub(crate) fn top_root<P: ForsParams, L: Ledger>(
     steps: &mut Steps<L>,
 ) -> NBytes<P::N>
     ensures value { result ≡ top_root P.scheme pk_seed.now sk_seed.now }
-    ensures cost { steps.new + 1 ≡ steps.old + 2 ^ P.HPrime.USIZE * (16 * P.WotsSigLen.USIZE + 2) }
+    ensures cost { steps.new ≡ steps.old + slh_keygen_cost P.scheme }
 {
     layer_sizes::<P>();
     let keyed = P::keyed(pk_seed);

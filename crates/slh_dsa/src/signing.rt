@@ -1,12 +1,13 @@
 //! Signatures of digests.
-ghost use Rattle.std.specs.Prelude.{◌≡◌, ◌≤◌, ◌+◌, ◌-◌, ◌*◌, ◌^◌, ◌++◌, length};
+ghost use Rattle.std.specs.Prelude.{◌≡◌, ◌≤◌, ◌+◌, ◌++◌, length};
+ghost use Rattle.slh_core.specs.Costs.{slh_sign_cost};
 ghost use Rattle.slh_trees.specs.Checking.{signature_size};
 ghost use Rattle.slh_trees.specs.Signing.{digest_signature};
 
 use hybrid_array::ArraySize;
 use slh_core::address::ForsTree;
 use slh_core::nbytes::NBytes;
-use slh_core::params::{ForsParams, forest_sizes, layer_sizes};
+use slh_core::params::{ForsParams, MAX_DIGEST_LEN, MAX_MESSAGE_LEN, forest_sizes, layer_sizes};
 use slh_core::steps::Steps;
 use slh_trees::digest::split_digest;
 use slh_trees::fors::fors_sign_root;
@@ -28,9 +29,7 @@ pub(crate) fn sign_digest<P: ForsParams, L: Ledger>(
     requires room { length out.old ≡ signature_size P.scheme }
     ensures value { out.new
         ≡ digest_signature P.scheme pk_seed.now sk_seed.now rand.now digest.now }
-    ensures cost { let tree_cost = 2 ^ P.HPrime.USIZE * (16 * P.WotsSigLen.USIZE + 2) in
-        steps.new + P.K.USIZE + P.D.USIZE
-        ≡ steps.old + P.K.USIZE * (3 * 2 ^ P.A.USIZE) + 1 + P.D.USIZE * tree_cost }
+    ensures cost { steps.new ≡ steps.old + slh_sign_cost P.scheme }
 {
     layer_sizes::<P>();
     forest_sizes::<P>();
@@ -59,20 +58,18 @@ pub(crate) fn sign_message<P: ForsParams, L: Ledger>(
     out: &mut [u8],
     steps: &mut Steps<L>,
 )
-    requires message { length head.now + length ctx.now + length msg.now ≤ 2 ^ 60 + 512 }
+    requires message { length head.now + length ctx.now + length msg.now ≤ MAX_MESSAGE_LEN }
     requires room { length out.old ≡ signature_size P.scheme }
     ensures value { let Z = P.scheme in
         let message = head.now ++ ctx.now ++ msg.now in
         let rand = Z.suite.prf_msg sk_prf.now opt.now message in
         let digest = Z.suite.h_msg rand pk_seed.now pk_root.now message in
         out.new ≡ digest_signature Z pk_seed.now sk_seed.now rand digest }
-    ensures cost { let tree_cost = 2 ^ P.HPrime.USIZE * (16 * P.WotsSigLen.USIZE + 2) in
-        steps.new + P.K.USIZE + P.D.USIZE
-        ≡ steps.old + P.K.USIZE * (3 * 2 ^ P.A.USIZE) + 1 + P.D.USIZE * tree_cost }
+    ensures cost { steps.new ≡ steps.old + slh_sign_cost P.scheme }
 {
     forest_sizes::<P>();
     let rand = P::prf_msg(sk_prf, opt, head, ctx, msg);
-    let mut store = [0u8; 256];
+    let mut store = [0u8; MAX_DIGEST_LEN];
     let digest = &mut store[..P::M::USIZE];
     P::h_msg(&rand, pk_seed, pk_root, head, ctx, msg, digest);
     sign_digest::<P, L>(sk_seed, pk_seed, &rand, digest, out, steps);

@@ -2,6 +2,8 @@
 ghost use Rattle.std.specs.Prelude.{◌≡◌, ◌↔◌, ◌+◌, ◌*◌, ◌^◌, ◌<◌, length, drop, None, Some, unwrap_or, IsOk, IfOk, IfErr, OnOk, OnErr, MatchResult};
 ghost use Rattle.std.specs.Option.{option_copied, ForSome};
 ghost use Rattle.slh_core.specs.Bytes.{part};
+ghost use Rattle.slh_core.specs.Costs.{slh_keygen_cost, slh_sign_cost};
+ghost use Rattle.slh_core.specs.Steps.{IsFresh};
 ghost use Rattle.slh_trees.specs.Checking.{signature_size};
 ghost use Rattle.slh_trees.specs.Frame.{frame};
 ghost use Rattle.slh_trees.specs.Keys.{signing_key_bytes};
@@ -64,9 +66,7 @@ impl<P: ParameterSet> SigningKey<P> {
         pk_seed: &[u8],
         blank: Blank,
     ) -> Result<Self, Error>
-        requires name { blank.name ≡ L.name }
-        requires parts { blank.parts ≡ L.parts }
-        requires some { 0 < blank.parts }
+        requires fresh { IsFresh blank L.name L.parts }
         ensures ok { IsOk result ↔ ((length sk_seed.now ≡ P.N.USIZE)
             × (length sk_prf.now ≡ P.N.USIZE) × (length pk_seed.now ≡ P.N.USIZE)) }
         ensures value { IfOk result (λ key.
@@ -89,8 +89,7 @@ impl<P: ParameterSet> SigningKey<P> {
         ensures value { IfOk result (λ key.
             key ≡ signing_key_bytes P.scheme sk_seed.now sk_prf.now pk_seed.now) }
         ensures refusal { IfErr result (λ e. e ≡ Length) }
-        ensures cost { OnOk result (steps.new + 1
-            ≡ steps.old + 2 ^ P.HPrime.USIZE * (16 * P.WotsSigLen.USIZE + 2)) }
+        ensures cost { OnOk result (steps.new ≡ steps.old + slh_keygen_cost P.scheme) }
         ensures free { OnErr result (steps.new ≡ steps.old) }
     {
         chain_sizes::<P>();
@@ -128,9 +127,7 @@ impl<P: ParameterSet> SigningKey<P> {
             let message = frame ctx.now msg.now in
             OnOk result (out.new ≡ signature_of P.scheme self.now opt message) }
         ensures same { OnErr result (out.new ≡ out.old) }
-        ensures cost { let tree_cost = 2 ^ P.HPrime.USIZE * (16 * P.WotsSigLen.USIZE + 2) in
-            OnOk result (steps.new + P.K.USIZE + P.D.USIZE
-            ≡ steps.old + P.K.USIZE * (3 * 2 ^ P.A.USIZE) + 1 + P.D.USIZE * tree_cost) }
+        ensures cost { OnOk result (steps.new ≡ steps.old + slh_sign_cost P.scheme) }
         ensures free { OnErr result (steps.new ≡ steps.old) }
     {
         check_signature::<P>(out.len())?;

@@ -1,6 +1,7 @@
 // Keys and signatures of the toy suite, whose values were worked by hand from its definitions, and
 // a known key of SLH-DSA-SHA2-128f.
 ghost use Rattle.std.specs.Prelude.{◌≡◌, ◌+◌, ◌≤◌, ◌<◌, OnOk};
+ghost use Rattle.slh_core.specs.Steps.{IsFresh};
 
 use crate::{Error, SigningKey, VerifyingKey};
 use slh_core::steps::Steps;
@@ -50,9 +51,7 @@ fn verify<L: Ledger>(key: &VerifyingKey<Toy>, sig: &[u8], steps: &mut Steps<L>) 
 
 // The toy key, its signature, and what its verifying key answers to that.
 fn whole_round<L: Ledger>(out: &mut [u8], blank: Blank) -> Result<SigningKey<Toy>, Error>
-    requires name { blank.name ≡ L.name }
-    requires parts { blank.parts ≡ L.parts }
-    requires some { 0 < blank.parts }
+    requires fresh { IsFresh blank L.name L.parts }
 {
     let mut steps = Steps::<L>::new(blank);
     let key = new_key(&mut steps)?;
@@ -73,9 +72,7 @@ fn key_and_signature(rt: HostRuntime) -> Result<(), Fail> {
 }
 
 fn verified<L: Ledger>(public: &[u8], sig: &[u8], blank: Blank) -> Result<(), Error>
-    requires name { blank.name ≡ L.name }
-    requires parts { blank.parts ≡ L.parts }
-    requires some { 0 < blank.parts }
+    requires fresh { IsFresh blank L.name L.parts }
 {
     let mut steps = Steps::<L>::new(blank);
     verify(&VerifyingKey::try_from(public)?, sig, &mut steps)
@@ -119,9 +116,7 @@ fn refused<L: Ledger>(
     out: &mut [u8],
     blank: Blank,
 ) -> Result<(), Error>
-    requires name { blank.name ≡ L.name }
-    requires parts { blank.parts ≡ L.parts }
-    requires some { 0 < blank.parts }
+    requires fresh { IsFresh blank L.name L.parts }
 {
     let mut steps = Steps::<L>::new(blank);
     sign(&SigningKey::try_from(&KEY)?, ctx, opt_rand, out, &mut steps)

@@ -1,5 +1,6 @@
 //! Verifying keys (FIPS 205, section 9.1).
 ghost use Rattle.std.specs.Prelude.{◌≡◌, ◌≢◌, ◌≤◌, ◌↔◌, ◌+◌, ◌*◌, length, None, Some, IsOk, IfOk, IfErr, MatchResult};
+ghost use Rattle.slh_core.specs.Costs.{slh_verify_bound};
 ghost use Rattle.slh_dsa.specs.Calls.{verify_error};
 ghost use Rattle.slh_dsa.specs.declared.error.Error.TheVariants.{Length, Invalid};
 
@@ -64,8 +65,7 @@ impl<P: ParameterSet> VerifyingKey<P> {
     ) -> Result<(), Error>
         ensures value { let error = verify_error P.scheme self.now ctx.now msg.now sig.now in
             MatchResult result (λ _. error ≡ None) (λ e. error ≡ Some e) }
-        ensures bound { let layer_cost = 15 * P.WotsSigLen.USIZE + 1 + P.HPrime.USIZE in
-            steps.new ≤ steps.old + P.K.USIZE * (1 + P.A.USIZE) + 1 + P.D.USIZE * layer_cost }
+        ensures bound { steps.new ≤ steps.old + slh_verify_bound P.scheme }
         ensures free { IfErr result (λ e. e ≢ Invalid → steps.new ≡ steps.old) }
     {
         check_signature::<P>(sig.len())?;

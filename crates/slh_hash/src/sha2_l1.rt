@@ -12,6 +12,7 @@ use hmac_sha256::{HMAC, Hash};
 use hybrid_array::ArraySize;
 use slh_core::address::Address;
 use slh_core::nbytes::NBytes;
+use slh_core::params::MAX_MESSAGE_LEN;
 use slh_core::steps::Steps;
 use slh_core::suite::HashSuite;
 use std::marker::PhantomData;
@@ -129,7 +130,7 @@ fn message_hash<N: ArraySize>(
     ctx: &[u8],
     msg: &[u8],
 ) -> [u8; 32]
-    requires { length head.now + length ctx.now + length msg.now ≤ 2 ^ 60 + 512 }
+    requires { length head.now + length ctx.now + length msg.now ≤ MAX_MESSAGE_LEN }
     ensures { result ≡ sha256 (rand.now ++ pk_seed.now ++ pk_root.now
         ++ (head.now ++ ctx.now ++ msg.now)) }
 {

@@ -1,6 +1,7 @@
 // The wanted values were computed with Python's `hashlib` and `hmac` from the formulas of FIPS 205,
 // section 11.2.1.
 ghost use Rattle.std.specs.Prelude.{◌≡◌, ◌<◌, ◌≤◌};
+ghost use Rattle.slh_core.specs.Steps.{IsFresh};
 
 use crate::{Sha2_128f, Sha2_128s, mgf1_256};
 use hybrid_array::sizes::U16;
@@ -89,9 +90,7 @@ const PRF_VALUE: [u8; 16] = [
 ];
 
 fn four_values<L: Ledger>(blank: Blank) -> [NBytes<U16>; 4]
-    requires name { blank.name ≡ L.name }
-    requires parts { blank.parts ≡ L.parts }
-    requires some { 0 < blank.parts }
+    requires fresh { IsFresh blank L.name L.parts }
 {
     let mut steps = Steps::<L>::new(blank);
     let keyed = Sha2_128f::keyed(&NBytes::exact(&SEED));

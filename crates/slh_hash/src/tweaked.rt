@@ -8,6 +8,7 @@ use hmac_sha256::Hash;
 use hybrid_array::ArraySize;
 use slh_core::address::Address;
 use slh_core::nbytes::NBytes;
+use slh_core::params::MAX_ENDS_LEN;
 
 const BLOCK_LEN: usize = 64;
 
@@ -53,13 +54,13 @@ pub(crate) fn short_hash<N: ArraySize, A: Address>(
     NBytes::first_of(keyed.started.finalize_with(&tail[..end]))
 }
 
-/// The hash of an address and an input of any length up to 2144 bytes.
+/// The hash of an address and an input of at most `MAX_ENDS_LEN` bytes.
 pub(crate) fn long_hash<N: ArraySize, A: Address>(
     keyed: &Sha2Keyed<N>,
     adrs: &A,
     input: &[u8],
 ) -> NBytes<N>
-    requires { length input.now ≤ 2144 }
+    requires { length input.now ≤ MAX_ENDS_LEN }
     ensures { result ≡ tweaked_hash N.USIZE keyed.now.pk_seed (A.bytes adrs.now) input.now }
 {
     let mut hash = keyed.started.copy();

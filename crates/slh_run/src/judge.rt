@@ -1,6 +1,7 @@
 //! Answers single jobs.
 ghost use Rattle.std.specs.Prelude.{◌≡◌, ◌<◌, ◌≤◌};
 ghost use Rattle.std.specs.Option.{option_copied};
+ghost use Rattle.slh_core.specs.Steps.{IsFresh};
 ghost use Rattle.slh_run.specs.Errors.{error_of};
 ghost use Rattle.slh_run.specs.Judgement.{IsJudged};
 ghost use Rattle.slh_run.specs.Sets.{scheme_for};
@@ -100,9 +101,7 @@ fn run_in<P: ParameterSet, L: Ledger>(
     job: &Job,
     blank: Blank,
 ) -> Result<Answer, Error>
-    requires name { blank.name ≡ L.name }
-    requires parts { blank.parts ≡ L.parts }
-    requires some { 0 < blank.parts }
+    requires fresh { IsFresh blank L.name L.parts }
     ensures { IsJudged P.scheme job.now result }
 {
     let mut steps = Steps::<L>::new(blank);

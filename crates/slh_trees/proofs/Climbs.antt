@@ -1,8 +1,8 @@
 -- The way up by the siblings of a tree's own path ends at its root.
-use Rattle.std.proofs.Common.{◌≡◌, ℕ, zero, suc, ◌+◌, ◌*◌, ◌/◌, ◌%◌, ◌^◌, ◌<◌, ◌≤◌, List, length, arith, refl, ap, sym}
+use Rattle.std.proofs.Common.{◌≡◌, ℕ, zero, suc, ◌+◌, ◌*◌, ◌/◌, ◌%◌, ◌^◌, ◌<◌, ◌≤◌, List, length, arith, refl, ap, add-one}
 use Rattle.std.specs.Prelude.{Bool, true, false, ◌==◌, if◌then◌else◌}
 use Rattle.std.proofs.lemmas.Bool.Decides.{nat_tests}
-use Rattle.std.proofs.Math.Nat.{pow-suc, div-div-eq-div-mul, div-eq_of_lt}
+use Rattle.std.proofs.Math.Nat.{div-eq_of_lt}
 use Rattle.slh_core.specs.Bytes.{part}
 use Rattle.slh_core.specs.Wots.{wots_pk, wots_sig}
 use Rattle.slh_core.specs.Parameters.{chain_count}
@@ -12,12 +12,13 @@ use Rattle.slh_core.proofs.Joins.{part-joined, length-joined, take_front, drop_f
 use Rattle.slh_trees.specs.Checking.{checked_node}
 use Rattle.slh_trees.specs.Merkle.{Place, node_bytes, sibling_of, merkle, merkle_auth_path, climb}
 use Rattle.slh_trees.specs.Xmss.{tree_place, xmss_node, auth_path, xmss_sig}
+use Rattle.slh_trees.proofs.Powers.{half}
 
 -- a node's two children, by one of them
-pub even_pair : (i : ℕ) → (i % 2 == 0) ≡ true → (2 * (i / 2) ≡ i) × (2 * (i / 2) + 1 ≡ sibling_of i)
+even_pair : (i : ℕ) → (i % 2 == 0) ≡ true → (2 * (i / 2) ≡ i) × (2 * (i / 2) + 1 ≡ sibling_of i)
 even_pair i h = grind (arith, nat_tests)
 
-pub odd_pair : (i : ℕ) → (i % 2 == 0) ≡ false → (2 * (i / 2) ≡ sibling_of i) × (2 * (i / 2) + 1 ≡ i)
+odd_pair : (i : ℕ) → (i % 2 == 0) ≡ false → (2 * (i / 2) ≡ sibling_of i) × (2 * (i / 2) + 1 ≡ i)
 odd_pair i h = grind (arith, nat_tests)
 
 -- whichever child the way comes from, the left one is hashed first
@@ -25,10 +26,7 @@ in_order : (h : List ℕ → List ℕ → List ℕ) (at : ℕ → List ℕ) (i :
 in_order h at i true e = let p = even_pair i e in rw (p.1, p.0) refl
 in_order h at i false e = let p = odd_pair i e in rw (p.1, p.0) refl
 
-pub half : (y z : ℕ) → y / 2 ^ suc z ≡ y / 2 ^ z / 2
-half y z = rw (pow-suc 2 z) (sym (div-div-eq-div-mul y (2 ^ z) 2))
-
-pub length-merkle : (K : Seeded) (B : Place) (leaves : ℕ → List ℕ) (z i : ℕ) → HasLength K.suite K.n → ((i : ℕ) → length (leaves i) ≡ K.n) → length (merkle K B leaves z i) ≡ K.n
+length-merkle : (K : Seeded) (B : Place) (leaves : ℕ → List ℕ) (z i : ℕ) → HasLength K.suite K.n → ((i : ℕ) → length (leaves i) ≡ K.n) → length (merkle K B leaves z i) ≡ K.n
 unfolding merkle
 length-merkle K B leaves zero i law sizes = sizes i
 length-merkle K B leaves (suc z) i law sizes = law.h _ _ _ _
@@ -47,7 +45,8 @@ climb-merkle_auth_path K B leaves y top (suc z) law sizes h =
     let below = climb-merkle_auth_path K B leaves y top z law sizes (omega arith) in
     let beside : part K.n (merkle_auth_path K B leaves y top) z ≡ merkle K B leaves z (sibling_of i)
     = part-joined (λ k. merkle K B leaves k (sibling_of (y / 2 ^ k))) K.n top z (λ k. length-merkle K B leaves k (sibling_of (y / 2 ^ k)) law sizes) h in
-    rw (half y z, below, beside)
+    let level : y / 2 ^ suc z ≡ i / 2 = rw (← add-one z) (half y z) in
+    rw (level, below, beside)
     (in_order (K.suite.h K.seed (node_bytes B (suc z) (i / 2))) (merkle K B leaves z) i (i % 2 == 0) refl)
 
 pub length-auth_path : (K : Seeded) (sk : List ℕ) (j t y heights : ℕ) → HasLength K.suite K.n → length (auth_path K sk j t y heights) ≡ heights * K.n

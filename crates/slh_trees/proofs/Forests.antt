@@ -2,7 +2,7 @@
 use Rattle.std.proofs.Common.{◌≡◌, ℕ, ◌+◌, ◌*◌, ◌/◌, ◌^◌, ◌<◌, List, ◌++◌, length, take, drop, arith, ap, ◌∙◌, length-append}
 use Rattle.std.specs.Prelude.{slice_index}
 use Rattle.std.proofs.lemmas.Nat.{div-mul-add}
-use Rattle.slh_core.specs.Address.{address_bytes}
+use Rattle.slh_core.specs.Address.{address_bytes, fors_roots_type}
 use Rattle.slh_core.specs.Bytes.{joined, part}
 use Rattle.slh_core.specs.Digits.{digits}
 use Rattle.slh_core.specs.Suite.{HasLength, Seeded}
@@ -49,7 +49,7 @@ root_of_opened K sk t l k a x i law below small =
 pub fors_pk_from_sig-signature : (K : Seeded) (sk : List ℕ) (t l k a : ℕ) (md : List ℕ) → HasLength K.suite K.n → fors_pk_from_sig K t l k a (fors_sig K sk t l k a md) md ≡ fors_pk K sk t l k a
 unfolding fors_pk_from_sig fors_pk
 fors_pk_from_sig-signature K sk t l k a md law =
-    ap (K.suite.t K.seed (address_bytes 0 t 4 l 0 0))
+    ap (K.suite.t K.seed (address_bytes 0 t fors_roots_type l 0 0))
     (joined_same _ _ k (λ i below. root_of_opened K sk t l k a (digits md a k) i law below (digits_below md a k i below)))
 
 pub length-fors_sig : (K : Seeded) (sk : List ℕ) (t l k a : ℕ) (md : List ℕ) → HasLength K.suite K.n → length (fors_sig K sk t l k a md) ≡ forest_size K.n k a

@@ -1,4 +1,5 @@
 pub mod Powers
+pub mod CostSteps
 pub mod TreehashSteps
 pub mod Climbs
 pub mod Layers

@@ -9,19 +9,7 @@ use Rattle.std.proofs.Math.Nat.{pow-suc, div-div-eq-div-mul, div-eq_of_lt, mod-e
 use Rattle.slh_core.specs.Suite.{Seeded}
 use Rattle.slh_trees.specs.Merkle.{Place, node_bytes, merkle}
 use Rattle.slh_trees.specs.Treehash.{stored_node, HoldsNodes}
-use Rattle.slh_trees.proofs.Powers.{twice, twice_more}
-
-pub half : (y z : ℕ) → y / 2 ^ (z + 1) ≡ y / 2 ^ z / 2
-half y z = rw (add-one, pow-suc 2 z) (sym (div-div-eq-div-mul y (2 ^ z) 2))
-
--- a leaf below a node is a leaf of the tree
-pub leaf_small : (node z hp q : ℕ) → z ≤ hp → hp ≤ 31 → node < 2 ^ (hp - z) → q < 2 ^ z → node * 2 ^ z + q < 2147483648
-leaf_small node z hp q h top n k =
-    let inside : node * 2 ^ z + q < 2 ^ z * 2 ^ (hp - z) = mul-add-lt node (2 ^ z) q (2 ^ (hp - z)) n k in
-    let whole : z + (hp - z) ≡ hp = omega arith in
-    let product : 2 ^ hp ≡ 2 ^ z * 2 ^ (hp - z) = ap (λ e. 2 ^ e) (sym whole) ∙ pow-add 2 z (hp - z) in
-    let most : 2 ^ hp ≤ 2 ^ 31 = pow_mono top in
-    omega arith
+use Rattle.slh_trees.proofs.Powers.{half, twice, twice_more}
 
 -- a leaf below a node of a forest is a leaf of the forest
 pub leaf_below_of : (node z top k q : ℕ) → z ≤ top → node < k * 2 ^ (top - z) → q < 2 ^ z → node * 2 ^ z + q < k * 2 ^ top

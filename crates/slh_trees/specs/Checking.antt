@@ -1,7 +1,7 @@
 -- What a signature leads to, by its bytes and public values alone (FIPS 205, algorithms 11, 13, 17
 -- and 20). K is the suite with its public seed.
 use Rattle.std.specs.Prelude.{ℕ, zero, suc, ◌+◌, ◌*◌, List, take, drop, slice_range}
-use Rattle.slh_core.specs.Address.{address_bytes}
+use Rattle.slh_core.specs.Address.{address_bytes, fors_roots_type}
 use Rattle.slh_core.specs.Bytes.{joined, part}
 use Rattle.slh_core.specs.Wots.{wots_pk_from_sig}
 use Rattle.slh_core.specs.Digits.{digits}
@@ -40,7 +40,7 @@ module _ (K : Seeded) (t l a : ℕ) (sig x : List ℕ) where
 unfoldable pub fors_pk_from_sig : Seeded → ℕ → ℕ → ℕ → ℕ → List ℕ → List ℕ → List ℕ
 fors_pk_from_sig K t l k a sig md =
     let roots : ℕ → List ℕ = λ i. checked_fors_node K t l a sig (digits md a k) i a in
-    K.suite.t K.seed (address_bytes 0 t 4 l 0 0) (joined roots k)
+    K.suite.t K.seed (address_bytes 0 t fors_roots_type l 0 0) (joined roots k)
 
 -- how many bytes the forest's part of a signature has
 abbrev pub forest_size : ℕ → ℕ → ℕ → ℕ

@@ -2,14 +2,14 @@
 -- seed, t and l the tree and the leaf of layer 0. There are k trees of height a, and indices run
 -- through them all. x is the digits that name a leaf in each tree.
 use Rattle.std.specs.Prelude.{ℕ, ◌+◌, ◌*◌, ◌^◌, List, ◌++◌, slice_index}
-use Rattle.slh_core.specs.Address.{address_bytes}
+use Rattle.slh_core.specs.Address.{address_bytes, fors_tree_type, fors_roots_type, fors_prf_type}
 use Rattle.slh_core.specs.Bytes.{joined}
 use Rattle.slh_core.specs.Digits.{digits}
 use Rattle.slh_core.specs.Suite.{Seeded}
 use Rattle.slh_trees.specs.Merkle.{Place, node_bytes, merkle, merkle_auth_path}
 
 abbrev pub fors_place : ℕ → ℕ → Place
-fors_place t l = record { layer = 0; tree = t; kind = 3; word = l }
+fors_place t l = record { layer = 0; tree = t; kind = fors_tree_type; word = l }
 
 -- the index of the leaf that a digit names in tree i
 abbrev pub leaf_index : ℕ → List ℕ → ℕ → ℕ
@@ -18,7 +18,7 @@ leaf_index a x i = i * 2 ^ a + slice_index x i
 module _ (K : Seeded) (sk : List ℕ) (t l : ℕ) where
   -- a secret (algorithm 14)
   unfoldable pub fors_secret : ℕ → List ℕ
-  fors_secret i = K.suite.prf K.seed (address_bytes 0 t 6 l 0 i) sk
+  fors_secret i = K.suite.prf K.seed (address_bytes 0 t fors_prf_type l 0 i) sk
 
   -- the hash of a secret
   unfoldable pub fors_leaf : ℕ → List ℕ
@@ -34,7 +34,8 @@ module _ (K : Seeded) (sk : List ℕ) (t l : ℕ) where
 
   -- the forest's public key: the hash of all roots
   unfoldable pub fors_pk : ℕ → ℕ → List ℕ
-  fors_pk k a = K.suite.t K.seed (address_bytes 0 t 4 l 0 0) (joined (λ i. fors_node a i) k)
+  fors_pk k a =
+      K.suite.t K.seed (address_bytes 0 t fors_roots_type l 0 0) (joined (λ i. fors_node a i) k)
 
   -- what is opened in tree i: a secret and the siblings on the way up from it
   unfoldable pub fors_opened : ℕ → List ℕ → ℕ → List ℕ

@@ -1,12 +1,13 @@
 -- The trees of a layer (FIPS 205, section 6). K is the suite with its public seed, sk the secret
 -- seed, j the layer, t the tree, y the index of a leaf.
 use Rattle.std.specs.Prelude.{ℕ, List, ◌++◌}
+use Rattle.slh_core.specs.Address.{tree_type}
 use Rattle.slh_core.specs.Wots.{wots_pk, wots_sig}
 use Rattle.slh_core.specs.Suite.{Seeded}
 use Rattle.slh_trees.specs.Merkle.{Place, merkle, merkle_auth_path}
 
 abbrev pub tree_place : ℕ → ℕ → Place
-tree_place j t = record { layer = j; tree = t; kind = 2; word = 0 }
+tree_place j t = record { layer = j; tree = t; kind = tree_type; word = 0 }
 
 module _ (K : Seeded) (sk : List ℕ) (j t : ℕ) where
   -- the node with index i at height z (algorithm 9)

@@ -1,5 +1,6 @@
 //! What a signature leads to.
-ghost use Rattle.std.specs.Prelude.{◌≡◌, ◌+◌, ◌*◌, ◌^◌, ◌≤◌, ◌++◌, length};
+ghost use Rattle.std.specs.Prelude.{◌≡◌, ◌+◌, ◌≤◌, ◌++◌, length};
+ghost use Rattle.slh_core.specs.Costs.{slh_verify_bound};
 ghost use Rattle.slh_trees.specs.Checking.{checked_root, digest_root, signature_size};
 
 use crate::digest::split_digest;
@@ -8,7 +9,7 @@ use crate::hypertree::ht_root;
 use hybrid_array::ArraySize;
 use slh_core::address::ForsTree;
 use slh_core::nbytes::NBytes;
-use slh_core::params::{ForsParams, forest_sizes, layer_sizes};
+use slh_core::params::{ForsParams, MAX_DIGEST_LEN, MAX_MESSAGE_LEN, forest_sizes, layer_sizes};
 use slh_core::steps::Steps;
 use std::sync::ledger::Ledger;
 
@@ -23,8 +24,7 @@ fn root_for_digest<P: ForsParams, L: Ledger>(
     requires digest { length digest.now ≡ P.M.USIZE }
     requires whole { length sig.now ≡ signature_size P.scheme }
     ensures value { result ≡ digest_root P.scheme pk_seed.now digest.now sig.now }
-    ensures bound { let layer_cost = 15 * P.WotsSigLen.USIZE + 1 + P.HPrime.USIZE in
-        steps.new ≤ steps.old + P.K.USIZE * (1 + P.A.USIZE) + 1 + P.D.USIZE * layer_cost }
+    ensures bound { steps.new ≤ steps.old + slh_verify_bound P.scheme }
 {
     layer_sizes::<P>();
     forest_sizes::<P>();
@@ -48,16 +48,15 @@ pub fn check_root<P: ForsParams, L: Ledger>(
     sig: &[u8],
     steps: &mut Steps<L>,
 ) -> NBytes<P::N>
-    requires message { length head.now + length ctx.now + length msg.now ≤ 2 ^ 60 + 512 }
+    requires message { length head.now + length ctx.now + length msg.now ≤ MAX_MESSAGE_LEN }
     requires whole { length sig.now ≡ signature_size P.scheme }
     ensures value { let message = head.now ++ ctx.now ++ msg.now in
         result ≡ checked_root P.scheme pk_seed.now pk_root.now message sig.now }
-    ensures bound { let layer_cost = 15 * P.WotsSigLen.USIZE + 1 + P.HPrime.USIZE in
-        steps.new ≤ steps.old + P.K.USIZE * (1 + P.A.USIZE) + 1 + P.D.USIZE * layer_cost }
+    ensures bound { steps.new ≤ steps.old + slh_verify_bound P.scheme }
 {
     forest_sizes::<P>();
     let rand = NBytes::<P::N>::exact(&sig[..P::N::USIZE]);
-    let mut store = [0u8; 256];
+    let mut store = [0u8; MAX_DIGEST_LEN];
     let digest = &mut store[..P::M::USIZE];
     P::h_msg(&rand, pk_seed, pk_root, head, ctx, msg, digest);
     root_for_digest::<P, L>(pk_seed, digest, sig, steps)

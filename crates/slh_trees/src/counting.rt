@@ -1,8 +1,9 @@
 // The toy suite with a count in its state, which each hash call raises. It shows that no call is
 // hidden behind a step counter of its own: the wanted numbers are those of the standard's
 // algorithms, by hand.
-ghost use Rattle.std.specs.Prelude.{◌≡◌, ◌<◌, refl};
+ghost use Rattle.std.specs.Prelude.{◌≡◌, refl};
 ghost use Rattle.slh_core.specs.Parameters.{scheme_of};
+ghost use Rattle.slh_core.specs.Steps.{IsFresh};
 ghost use Rattle.slh_trees.specs.ToySuite.{toy, toy_lengths, toy_digest_length};
 
 use crate::fors::{fors_node, fors_pk_from_sig, fors_sign, fors_sign_root, fors_sk_gen};
@@ -184,9 +185,7 @@ fn lowest() -> WotsHash {
 
 // A chain of fifteen steps, a key pair, a signature of the byte 2c and its check, a tree.
 fn key_pair_calls<L: Ledger>(blank: Blank) -> [u32; 5]
-    requires name { blank.name ≡ L.name }
-    requires parts { blank.parts ≡ L.parts }
-    requires some { 0 < blank.parts }
+    requires fresh { IsFresh blank L.name L.parts }
 {
     let mut steps = Steps::<L>::new(blank);
     let (chain, pair, sign, check, tree) = (keyed(), keyed(), keyed(), keyed(), keyed());
@@ -220,9 +219,7 @@ fn calls_of_key_pairs(rt: HostRuntime) {
 
 // A signature of the byte 2c under leaf 3, its check, and the signature with the root.
 fn tree_calls<L: Ledger>(blank: Blank) -> [u32; 3]
-    requires name { blank.name ≡ L.name }
-    requires parts { blank.parts ≡ L.parts }
-    requires some { 0 < blank.parts }
+    requires fresh { IsFresh blank L.name L.parts }
 {
     let mut steps = Steps::<L>::new(blank);
     let (sign, check, root) = (keyed(), keyed(), keyed());
@@ -236,9 +233,7 @@ fn tree_calls<L: Ledger>(blank: Blank) -> [u32; 3]
 
 // A signature of the byte 2c under tree 2 and leaf 3, and its check.
 fn layer_calls<L: Ledger>(blank: Blank) -> [u32; 2]
-    requires name { blank.name ≡ L.name }
-    requires parts { blank.parts ≡ L.parts }
-    requires some { 0 < blank.parts }
+    requires fresh { IsFresh blank L.name L.parts }
 {
     let mut steps = Steps::<L>::new(blank);
     let (sign, check) = (keyed(), keyed());
@@ -261,9 +256,7 @@ fn calls_of_trees(rt: HostRuntime) {
 
 // A secret, a tree, a signature of the byte 9d, its check, and the signature with the key.
 fn forest_calls<L: Ledger>(blank: Blank) -> [u32; 5]
-    requires name { blank.name ≡ L.name }
-    requires parts { blank.parts ≡ L.parts }
-    requires some { 0 < blank.parts }
+    requires fresh { IsFresh blank L.name L.parts }
 {
     let mut steps = Steps::<L>::new(blank);
     let (secret, tree, sign, check, root) = (keyed(), keyed(), keyed(), keyed(), keyed());

@@ -2,20 +2,25 @@
 ghost use Rattle.std.specs.Prelude.{◌≡◌, ◌+◌, ◌-◌, ◌*◌, ◌^◌, ◌≤◌, ◌<◌, ◌++◌, length, take, drop};
 ghost use Rattle.std.specs.Prelude.{slice_index, EachIndex};
 ghost use Rattle.slh_core.specs.Bytes.{joined};
+ghost use Rattle.slh_core.specs.Costs.{auth_path_cost, fors_leaf_cost, fors_node_cost};
+ghost use Rattle.slh_core.specs.Costs.{fors_sign_cost, fors_pk_from_sig_cost, fors_pk_cost};
 ghost use Rattle.slh_core.specs.Suite.{seeded};
-ghost use Rattle.slh_trees.specs.Checking.{checked_fors_node, fors_pk_from_sig as spec_fors_pk_from_sig};
-ghost use Rattle.slh_trees.specs.Fors.{fors_place, fors_secret, fors_leaf, fors_node as spec_fors_node};
+ghost use Rattle.slh_trees.specs.Checking.{checked_fors_node};
+ghost use Rattle.slh_trees.specs.Checking.{fors_pk_from_sig as spec_fors_pk_from_sig};
+ghost use Rattle.slh_trees.specs.Fors.{fors_place, fors_secret, fors_node as spec_fors_node};
 ghost use Rattle.slh_trees.specs.Fors.{fors_auth_path, fors_pk, opened_leaves, fors_sig};
 ghost use Rattle.slh_trees.specs.Merkle.{node_bytes, climb as spec_climb};
 
-use crate::climb::{NodeAddress, climb_path, sibling};
+use crate::climb::climb_path;
 use crate::laws::forest_leads_to_key;
-use crate::treehash::{node_of, push_leaf};
+use crate::leaves::Leaves;
+use crate::node::NodeAddress;
+use crate::treehash::{treehash, write_auth_path};
 use hybrid_array::ArraySize;
 use slh_core::address::{ForsPrf, ForsTree};
 use slh_core::digits::base_2b;
 use slh_core::nbytes::NBytes;
-use slh_core::params::{ForsParams, forest_sizes};
+use slh_core::params::{ForsParams, MAX_FORS_TREES, MAX_OPENED_LEN, MAX_ROOTS_LEN, forest_sizes};
 use slh_core::parts::put_part;
 use slh_core::steps::Steps;
 use std::sync::ledger::Ledger;
@@ -42,39 +47,38 @@ pub fn fors_sk_gen<P: ForsParams, L: Ledger>(
     P::prf_sk(keyed, sk_seed, &at, steps)
 }
 
-/// The hash of the secret with an index.
-#[tactic(auto, unfolding(crate::specs::Fors::fors_leaf))]
-fn leaf_at<P: ForsParams, L: Ledger>(
-    sk_seed: &NBytes<P::N>,
-    keyed: &P::Keyed,
-    adrs: &ForsTree,
-    idx: u32,
-    steps: &mut Steps<L>,
-) -> NBytes<P::N>
-    requires { idx < P.K.USIZE * 2 ^ P.A.USIZE }
-    ensures value { let K = seeded P.suite P.N.USIZE (P.seed_of keyed.now) in
-        let a = adrs.now in
-        result ≡ fors_leaf K sk_seed.now a.tree_adrs_low a.key_pair_adrs idx }
-    ensures cost { steps.new ≡ steps.old + 2 }
-{
-    let secret = fors_sk_gen::<P, L>(sk_seed, keyed, adrs, idx, steps);
-    P::f(keyed, &adrs.at_node(0, idx), &secret, steps)
+impl<P: ForsParams> Leaves<P> for ForsTree {
+    ghost use Rattle.std.proofs.Common.{rules};
+    ghost use Rattle.slh_core.specs.Costs.{fors_leaf_cost};
+    ghost use Rattle.slh_trees.specs.Fors.{fors_leaf};
+
+    ghost trees = { P.K.USIZE };
+
+    ghost height = { P.A.USIZE };
+
+    ghost leaf = { λ K sk a. fors_leaf K sk a.tree_adrs_low a.key_pair_adrs };
+
+    ghost leaf_cost = { fors_leaf_cost };
+
+    #[tactic(auto, unfolding(crate::specs::Fors::fors_leaf))]
+    fn leaf<L: Ledger>(
+        &self,
+        sk_seed: &NBytes<P::N>,
+        index: u32,
+        keyed: &P::Keyed,
+        steps: &mut Steps<L>,
+    ) -> NBytes<P::N> {
+        let secret = fors_sk_gen::<P, L>(sk_seed, keyed, self, index, steps);
+        P::f(keyed, &self.at_node(0, index), &secret, steps)
+    }
+
+    ghost height_high = { Prim.search rules };
+
+    ghost few = { Prim.search rules };
 }
 
-/// The index of the leaf after `q` others below the node with index `i` at height `z`.
-fn leaf_below<P: ForsParams>(i: u32, z: u32, q: u32) -> u32
-    requires height { z ≤ P.A.USIZE }
-    requires node { i < P.K.USIZE * 2 ^ (P.A.USIZE - z) }
-    requires leaf { q < 2 ^ z }
-    ensures value { result ≡ i * 2 ^ z + q }
-    ensures below { result < P.K.USIZE * 2 ^ P.A.USIZE }
-{
-    forest_sizes::<P>();
-    (i << z) + q
-}
-
-/// The node with index `i` at height `z` (FIPS 205, algorithm 15). Its leaves are
-/// taken from left to right.
+/// The node with index `i` at height `z` (FIPS 205, algorithm 15), where indices run through all
+/// trees of the forest.
 pub fn fors_node<P: ForsParams, L: Ledger>(
     sk_seed: &NBytes<P::N>,
     i: u32,
@@ -88,41 +92,9 @@ pub fn fors_node<P: ForsParams, L: Ledger>(
     ensures value { let K = seeded P.suite P.N.USIZE (P.seed_of keyed.now) in
         let a = adrs.now in
         result ≡ spec_fors_node K sk_seed.now a.tree_adrs_low a.key_pair_adrs z i }
-    ensures cost { steps.new + 1 ≡ steps.old + 3 * 2 ^ z }
+    ensures cost { steps.new ≡ steps.old + fors_node_cost z }
 {
-    forest_sizes::<P>();
-    let mut store = [0u8; 1024];
-    for q in 0..1u32 << z {
-        let index = leaf_below::<P>(i, z, q);
-        let leaf = leaf_at::<P, L>(sk_seed, keyed, adrs, index, steps);
-        push_leaf::<P, ForsTree, L>(&leaf, index, q, keyed, adrs, &mut store, steps);
-    }
-    node_of::<P::N>(&store, z as usize)
-}
-
-/// Writes the siblings on the way up from leaf `y`.
-#[tactic(auto, unfolding(crate::specs::Merkle::merkle_auth_path, slh_core::specs::Bytes::joined))]
-fn write_fors_auth_path<P: ForsParams, L: Ledger>(
-    sk_seed: &NBytes<P::N>,
-    keyed: &P::Keyed,
-    y: u32,
-    adrs: &ForsTree,
-    out: &mut [u8],
-    steps: &mut Steps<L>,
-)
-    requires leaf { y < P.K.USIZE * 2 ^ P.A.USIZE }
-    requires room { length out.old ≡ P.A.USIZE * P.N.USIZE }
-    ensures value { let K = seeded P.suite P.N.USIZE (P.seed_of keyed.now) in
-        let a = adrs.now in
-        out.new ≡ fors_auth_path K sk_seed.now a.tree_adrs_low a.key_pair_adrs y P.A.USIZE }
-    ensures cost { steps.new + P.A.USIZE + 3 ≡ steps.old + 3 * 2 ^ P.A.USIZE }
-{
-    forest_sizes::<P>();
-    let n = P::N::USIZE;
-    for z in 0..P::A::USIZE {
-        let value = fors_node::<P, L>(sk_seed, sibling(y >> z), z as u32, keyed, adrs, steps);
-        put_part(out, n, z, value.as_slice());
-    }
+    treehash::<P, ForsTree, L>(sk_seed, i, z, keyed, adrs, steps)
 }
 
 /// Opens the secret with index `y`: writes it, and the siblings on the way up from it.
@@ -141,18 +113,19 @@ fn open_secret<P: ForsParams, L: Ledger>(
         let a = adrs.now in
         out.new ≡ fors_secret K sk_seed.now a.tree_adrs_low a.key_pair_adrs y
         ++ fors_auth_path K sk_seed.now a.tree_adrs_low a.key_pair_adrs y P.A.USIZE }
-    ensures cost { steps.new + P.A.USIZE + 2 ≡ steps.old + 3 * 2 ^ P.A.USIZE }
+    ensures cost { steps.new ≡ steps.old + (1 + auth_path_cost fors_leaf_cost P.A.USIZE) }
 {
     forest_sizes::<P>();
     let (secret, path) = out.split_at_mut(P::N::USIZE);
     secret.copy_from_slice(fors_sk_gen::<P, L>(sk_seed, keyed, adrs, y, steps).as_slice());
-    write_fors_auth_path::<P, L>(sk_seed, keyed, y, adrs, path, steps);
+    let height = P::A::USIZE;
+    write_auth_path::<P, ForsTree, L>(sk_seed, y, height, keyed, adrs, path, steps);
 }
 
 /// How many bytes are opened in one tree.
 fn opened_len<P: ForsParams>() -> usize
     ensures value { result ≡ (1 + P.A.USIZE) * P.N.USIZE }
-    ensures small { result ≤ 544 }
+    ensures small { result ≤ MAX_OPENED_LEN }
 {
     forest_sizes::<P>();
     (1 + P::A::USIZE) * P::N::USIZE
@@ -174,12 +147,11 @@ pub fn fors_sign<P: ForsParams, L: Ledger>(
         let t = adrs.now.tree_adrs_low in
         let l = adrs.now.key_pair_adrs in
         out.new ≡ fors_sig K sk_seed.now t l P.K.USIZE P.A.USIZE md.now }
-    ensures cost { let k = P.K.USIZE in
-        steps.new + k * (P.A.USIZE + 2) ≡ steps.old + k * (3 * 2 ^ P.A.USIZE) }
+    ensures cost { steps.new ≡ steps.old + fors_sign_cost P.K.USIZE P.A.USIZE }
 {
     forest_sizes::<P>();
     let k = P::K::USIZE;
-    let mut digits = [0u16; 64];
+    let mut digits = [0u16; MAX_FORS_TREES];
     base_2b(md, P::A::USIZE as u32, &mut digits[..k]);
     open_all::<P, L>(&digits[..k], sk_seed, keyed, adrs, out, steps);
 }
@@ -201,8 +173,7 @@ fn open_all<P: ForsParams, L: Ledger>(
         let t = adrs.now.tree_adrs_low in
         let l = adrs.now.key_pair_adrs in
         out.new ≡ opened_leaves K sk_seed.now t l P.K.USIZE P.A.USIZE digits.now }
-    ensures cost { let k = P.K.USIZE in
-        steps.new + k * (P.A.USIZE + 2) ≡ steps.old + k * (3 * 2 ^ P.A.USIZE) }
+    ensures cost { steps.new ≡ steps.old + fors_sign_cost P.K.USIZE P.A.USIZE }
 {
     let size = opened_len::<P>();
     for (i, digit) in digits.iter().enumerate() {
@@ -239,14 +210,14 @@ pub fn fors_pk_from_sig<P: ForsParams, L: Ledger>(
         let t = adrs.now.tree_adrs_low in
         let l = adrs.now.key_pair_adrs in
         result ≡ spec_fors_pk_from_sig K t l P.K.USIZE P.A.USIZE sig.now md.now }
-    ensures cost { steps.new ≡ steps.old + (P.K.USIZE * (1 + P.A.USIZE) + 1) }
+    ensures cost { steps.new ≡ steps.old + fors_pk_from_sig_cost P.K.USIZE P.A.USIZE }
 {
     forest_sizes::<P>();
     let k = P::K::USIZE;
     let len = k * P::N::USIZE;
-    let mut digits = [0u16; 64];
+    let mut digits = [0u16; MAX_FORS_TREES];
     base_2b(md, P::A::USIZE as u32, &mut digits[..k]);
-    let mut roots = [0u8; 2048];
+    let mut roots = [0u8; MAX_ROOTS_LEN];
     climb_all::<P, L>(&digits[..k], sig, keyed, adrs, &mut roots[..len], steps);
     P::t(keyed, &adrs.fors_roots(), &roots[..len], steps)
 }
@@ -304,8 +275,9 @@ fn climb_opened<P: ForsParams, L: Ledger>(
     climb_path::<P, ForsTree, L>(&leaf, y, P::A::USIZE, path, keyed, adrs, steps)
 }
 
-/// Writes the signature of the digest's first part, and answers the forest's public key. Each node
-/// of the forest is hashed once.
+/// Writes the signature of the digest's first part, and answers the forest's public key, which the
+/// lowest layer signs: the hash of the roots of all trees, and no root itself. Each node of the
+/// forest is hashed once.
 pub fn fors_sign_root<P: ForsParams, L: Ledger>(
     md: &[u8],
     sk_seed: &NBytes<P::N>,
@@ -324,7 +296,7 @@ pub fn fors_sign_root<P: ForsParams, L: Ledger>(
         let t = adrs.now.tree_adrs_low in
         let l = adrs.now.key_pair_adrs in
         out.new ≡ fors_sig K sk_seed.now t l P.K.USIZE P.A.USIZE md.now }
-    ensures cost { steps.new + P.K.USIZE ≡ steps.old + (P.K.USIZE * (3 * 2 ^ P.A.USIZE) + 1) }
+    ensures cost { steps.new ≡ steps.old + fors_pk_cost P.K.USIZE P.A.USIZE }
 {
     forest_leads_to_key::<P>();
     fors_sign::<P, L>(md, sk_seed, keyed, adrs, out, steps);

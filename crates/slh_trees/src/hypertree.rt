@@ -1,6 +1,7 @@
 //! The hypertree: layers of trees, each of which signs the root below (FIPS 205, section 7).
 ghost use Rattle.std.specs.Prelude.{◌≡◌, ◌↔◌, ◌+◌, ◌-◌, ◌*◌, ◌/◌, ◌%◌, ◌^◌, ◌≤◌, ◌<◌};
 ghost use Rattle.std.specs.Prelude.{length, IsTrue};
+ghost use Rattle.slh_core.specs.Costs.{ht_sign_cost, ht_verify_bound};
 ghost use Rattle.slh_core.specs.Suite.{seeded};
 ghost use Rattle.slh_trees.specs.Checking.{checked_message};
 ghost use Rattle.slh_trees.specs.Hypertree.{ht_sig, layer_size};
@@ -46,9 +47,7 @@ fn tree_adrs_of(layer: u32, tree: u64) -> WotsHash
     WotsHash {
         layer_adrs: layer,
         tree_adrs_low: tree,
-        key_pair_adrs: 0,
-        chain_adrs: 0,
-        hash_adrs: 0,
+        ..WotsHash::default()
     }
 }
 
@@ -70,8 +69,8 @@ pub fn ht_sign<P: HypertreeParams, L: Ledger>(
     ensures value { let K = seeded P.suite P.N.USIZE (P.seed_of keyed.now) in
         let hp = P.HPrime.USIZE in
         out.new ≡ ht_sig K hp sk_seed.now idx_tree idx_leaf m.now P.D.USIZE }
-    ensures cost { let tree_cost = 2 ^ P.HPrime.USIZE * (16 * P.WotsSigLen.USIZE + 2) in
-        steps.new + P.D.USIZE ≡ steps.old + P.D.USIZE * tree_cost }
+    ensures cost { let hp = P.HPrime.USIZE in
+        steps.new ≡ steps.old + ht_sign_cost P.WotsSigLen.USIZE hp P.D.USIZE }
 {
     layer_sizes::<P>();
     let height = P::HPrime::USIZE;
@@ -102,8 +101,8 @@ pub(crate) fn ht_root<P: HypertreeParams, L: Ledger>(
     ensures value { let K = seeded P.suite P.N.USIZE (P.seed_of keyed.now) in
         let hp = P.HPrime.USIZE in
         result ≡ checked_message K hp idx_tree idx_leaf sig.now m.now P.D.USIZE }
-    ensures bound { let layer_cost = 15 * P.WotsSigLen.USIZE + 1 + P.HPrime.USIZE in
-        steps.new ≤ steps.old + P.D.USIZE * layer_cost }
+    ensures bound { let hp = P.HPrime.USIZE in
+        steps.new ≤ steps.old + ht_verify_bound P.WotsSigLen.USIZE hp P.D.USIZE }
 {
     layer_sizes::<P>();
     let height = P::HPrime::USIZE;
@@ -137,8 +136,8 @@ pub fn ht_verify<P: HypertreeParams, L: Ledger>(
         let hp = P.HPrime.USIZE in
         let root = checked_message K hp idx_tree idx_leaf sig.now m.now P.D.USIZE in
         IsTrue result ↔ (root ≡ pk_root.now) }
-    ensures bound { let layer_cost = 15 * P.WotsSigLen.USIZE + 1 + P.HPrime.USIZE in
-        steps.new ≤ steps.old + P.D.USIZE * layer_cost }
+    ensures bound { let hp = P.HPrime.USIZE in
+        steps.new ≤ steps.old + ht_verify_bound P.WotsSigLen.USIZE hp P.D.USIZE }
 {
     let root = ht_root::<P, L>(m, sig, keyed, idx_tree, idx_leaf, steps);
     root.as_slice() == pk_root.as_slice()

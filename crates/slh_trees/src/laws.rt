@@ -82,6 +82,7 @@ pub fn made_leads_to_top<P: ForsParams>()
 
 /// How many bytes a signature has, as the standard counts them: in values of n bytes.
 pub fn signature_values<P: ForsParams>()
-    ensures { let values = 1 + P.K.USIZE * (1 + P.A.USIZE) + P.H.USIZE + P.D.USIZE * P.WotsSigLen.USIZE in
+    ensures { let forest = P.K.USIZE * (1 + P.A.USIZE) in
+        let values = 1 + forest + P.H.USIZE + P.D.USIZE * P.WotsSigLen.USIZE in
         signature_size P.scheme ≡ values * P.N.USIZE }
 {}

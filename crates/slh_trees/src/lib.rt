@@ -12,6 +12,8 @@ pub mod digest;
 pub mod fors;
 pub mod hypertree;
 pub mod laws;
+mod leaves;
+mod node;
 #[cfg(test)]
 mod tests;
 pub mod toy;

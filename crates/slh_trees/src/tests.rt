@@ -1,7 +1,8 @@
 // A key of the toy suite with secret seed 5, PRF key 7 and public seed 3, and its signature of the
 // message 48 under an empty context without a randomizer. The values were worked by hand from the
 // definitions.
-ghost use Rattle.std.specs.Prelude.{◌≡◌, ◌+◌, ◌<◌, length};
+ghost use Rattle.std.specs.Prelude.{◌≡◌, ◌+◌, length};
+ghost use Rattle.slh_core.specs.Steps.{IsFresh};
 
 use crate::check::check_root;
 use crate::digest::split_digest;
@@ -46,9 +47,7 @@ fn top_root<L: Ledger>(steps: &mut Steps<L>) -> NBytes<U1>
 }
 
 fn root_of_key<L: Ledger>(blank: Blank) -> NBytes<U1>
-    requires name { blank.name ≡ L.name }
-    requires parts { blank.parts ≡ L.parts }
-    requires some { 0 < blank.parts }
+    requires fresh { IsFresh blank L.name L.parts }
 {
     let mut steps = Steps::<L>::new(blank);
     top_root(&mut steps)
@@ -83,9 +82,7 @@ fn digest_of_the_message(rt: HostRuntime) {
 
 // Both parts of the signature, the forest's key, and whether the upper part leads to the root.
 fn sign<L: Ledger>(blank: Blank) -> ([u8; 6], [u8; 14], NBytes<U1>, bool)
-    requires name { blank.name ≡ L.name }
-    requires parts { blank.parts ≡ L.parts }
-    requires some { 0 < blank.parts }
+    requires fresh { IsFresh blank L.name L.parts }
 {
     let mut steps = Steps::<L>::new(blank);
     let keyed = Toy::keyed(&byte(3));
@@ -110,9 +107,7 @@ fn parts_of_the_signature(rt: HostRuntime) {
 
 fn root_for<L: Ledger>(sig: &[u8], blank: Blank) -> NBytes<U1>
     requires whole { length sig.now ≡ 21 }
-    requires name { blank.name ≡ L.name }
-    requires parts { blank.parts ≡ L.parts }
-    requires some { 0 < blank.parts }
+    requires fresh { IsFresh blank L.name L.parts }
 {
     let mut steps = Steps::<L>::new(blank);
     check_root::<Toy, L>(&byte(3), &byte(225), &[0, 0], &[], &[0x48], sig, &mut steps)

@@ -1,23 +1,31 @@
 //! Trees in one pass over their leaves, with one finished node kept for each height.
 ghost use Rattle.std.specs.Prelude.{◌≡◌, ◌≢◌, ℕ, ◌+◌, ◌-◌, ◌*◌, ◌/◌, ◌%◌, ◌^◌, ◌≤◌, ◌<◌};
 ghost use Rattle.std.specs.Prelude.{List, length, count_ones};
+ghost use Rattle.slh_core.specs.Costs.{node_cost, auth_path_cost};
 ghost use Rattle.slh_core.specs.Suite.{seeded};
-ghost use Rattle.slh_trees.specs.Merkle.{merkle};
+ghost use Rattle.slh_trees.specs.Merkle.{merkle, merkle_auth_path};
 ghost use Rattle.slh_trees.specs.Treehash.{stored_node, HoldsNodes};
 
-use crate::climb::NodeAddress;
+use crate::leaves::{Leaves, leaf_numbers};
+use crate::node::{NodeAddress, parent, sibling};
 use hybrid_array::ArraySize;
 use slh_core::nbytes::NBytes;
 use slh_core::params::{WotsParams, chain_sizes};
+use slh_core::parts::put_part;
 use slh_core::steps::Steps;
 use std::sync::ledger::Ledger;
+
+/// The bytes of a store of nodes: a place of 32 for each height from 0 to 31.
+const TREEHASH_LEN: usize = 32 * 32;
 
 /// Puts a node in the place of its height.
 #[tactic(auto, unfolding(crate::specs::Treehash::stored_node))]
 fn store_node<N: ArraySize>(store: &mut [u8], h: usize, node: &NBytes<N>)
     requires fits { 32 * h + 32 ≤ length store.old }
     ensures there { stored_node N.USIZE store.new h ≡ node.now }
-    ensures others { (k : ℕ) → k ≢ h → stored_node N.USIZE store.new k ≡ stored_node N.USIZE store.old k }
+    ensures others { (k : ℕ)
+        → k ≢ h
+        → stored_node N.USIZE store.new k ≡ stored_node N.USIZE store.old k }
 {
     let bytes = node.as_slice();
     store[32 * h..32 * h + bytes.len()].copy_from_slice(bytes);
@@ -25,7 +33,7 @@ fn store_node<N: ArraySize>(store: &mut [u8], h: usize, node: &NBytes<N>)
 
 /// The node in the place of a height.
 #[tactic(auto, unfolding(crate::specs::Treehash::stored_node))]
-pub(crate) fn node_of<N: ArraySize>(store: &[u8], h: usize) -> NBytes<N>
+fn node_of<N: ArraySize>(store: &[u8], h: usize) -> NBytes<N>
     requires few { N.USIZE ≤ 32 }
     requires fits { 32 * h + 32 ≤ length store.now }
     ensures { result ≡ stored_node N.USIZE store.now h }
@@ -35,7 +43,7 @@ pub(crate) fn node_of<N: ArraySize>(store: &[u8], h: usize) -> NBytes<N>
 
 /// Takes the leaf with an index, before which `q` leaves were taken: pairs that it finishes are
 /// hashed, and the node that is left is put in its place.
-pub(crate) fn push_leaf<P: WotsParams, A: NodeAddress + Drop, L: Ledger>(
+fn push_leaf<P: WotsParams, A: NodeAddress + Drop, L: Ledger>(
     leaf: &NBytes<P::N>,
     index: u32,
     q: u32,
@@ -45,7 +53,7 @@ pub(crate) fn push_leaf<P: WotsParams, A: NodeAddress + Drop, L: Ledger>(
     steps: &mut Steps<L>,
 )
     requires few { q < 2 ^ 31 }
-    requires room { length store.old ≡ 1024 }
+    requires room { length store.old ≡ TREEHASH_LEN }
     ensures holds { let K = seeded P.suite P.N.USIZE (P.seed_of keyed.now) in
         (leaves : ℕ → List ℕ) (i z : ℕ)
         → index ≡ i * 2 ^ z + q
@@ -65,8 +73,73 @@ pub(crate) fn push_leaf<P: WotsParams, A: NodeAddress + Drop, L: Ledger>(
         bits /= 2;
         index /= 2;
         h += 1;
-        let at = adrs.at_node(h as u32, index);
-        current = P::h(keyed, &at, &left, &current, steps);
+        current = parent::<P, A, L>(&left, &current, h as u32, index, keyed, adrs, steps);
     }
     store_node(store, h, &current);
+}
+
+/// The index of the leaf after `q` others below the node with index `i` at height `z`.
+#[inline]
+fn leaf_below(i: u32, z: u32, q: u32) -> u32
+    requires height { z ≤ 31 }
+    requires fits { i * 2 ^ z + q < 2 ^ 32 }
+    ensures { result ≡ i * 2 ^ z + q }
+{
+    (i << z) + q
+}
+
+/// The node with index `i` at height `z` of the trees of an address (FIPS 205, algorithms 9 and
+/// 15). Its leaves are taken from left to right.
+pub(crate) fn treehash<P: WotsParams, A: Leaves<P> + Drop, L: Ledger>(
+    sk_seed: &NBytes<P::N>,
+    i: u32,
+    z: u32,
+    keyed: &P::Keyed,
+    adrs: &A,
+    steps: &mut Steps<L>,
+) -> NBytes<P::N>
+    requires height { z ≤ A.height }
+    requires node { i < A.trees * 2 ^ (A.height - z) }
+    ensures value { let K = seeded P.suite P.N.USIZE (P.seed_of keyed.now) in
+        let leaves = A.leaf K sk_seed.now adrs.now in
+        result ≡ merkle K (A.place adrs.now) leaves z i }
+    ensures cost { steps.new ≡ steps.old + node_cost A.leaf_cost z }
+{
+    chain_sizes::<P>();
+    leaf_numbers::<P, A>();
+    let mut store = [0u8; TREEHASH_LEN];
+    for q in 0..1u32 << z {
+        let index = leaf_below(i, z, q);
+        let leaf = adrs.leaf(sk_seed, index, keyed, steps);
+        push_leaf::<P, A, L>(&leaf, index, q, keyed, adrs, &mut store, steps);
+    }
+    node_of::<P::N>(&store, z as usize)
+}
+
+/// Writes the siblings on the way up from leaf `y` to the root of its tree.
+#[tactic(auto, unfolding(crate::specs::Merkle::merkle_auth_path, slh_core::specs::Bytes::joined))]
+pub(crate) fn write_auth_path<P: WotsParams, A: Leaves<P> + Drop, L: Ledger>(
+    sk_seed: &NBytes<P::N>,
+    y: u32,
+    height: usize,
+    keyed: &P::Keyed,
+    adrs: &A,
+    out: &mut [u8],
+    steps: &mut Steps<L>,
+)
+    requires leaf { y < A.trees * 2 ^ A.height }
+    requires height { height ≡ A.height }
+    requires room { length out.old ≡ height * P.N.USIZE }
+    ensures value { let K = seeded P.suite P.N.USIZE (P.seed_of keyed.now) in
+        let leaves = A.leaf K sk_seed.now adrs.now in
+        out.new ≡ merkle_auth_path K (A.place adrs.now) leaves y height }
+    ensures cost { steps.new ≡ steps.old + auth_path_cost A.leaf_cost height }
+{
+    chain_sizes::<P>();
+    leaf_numbers::<P, A>();
+    let n = P::N::USIZE;
+    for z in 0..height {
+        let value = treehash::<P, A, L>(sk_seed, sibling(y >> z), z as u32, keyed, adrs, steps);
+        put_part(out, n, z, value.as_slice());
+    }
 }

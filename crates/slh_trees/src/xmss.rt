@@ -1,18 +1,20 @@
 //! XMSS: the trees of a layer (FIPS 205, section 6).
 ghost use Rattle.std.specs.Prelude.{◌≡◌, ◌+◌, ◌-◌, ◌*◌, ◌^◌, ◌≤◌, ◌<◌, ◌++◌, length, sum};
+ghost use Rattle.slh_core.specs.Costs.{xmss_node_cost, xmss_sign_cost};
+ghost use Rattle.slh_core.specs.Costs.{xmss_pk_from_sig_cost, xmss_pk_from_sig_bound};
 ghost use Rattle.slh_core.specs.Digits.{wots_digits};
 ghost use Rattle.slh_core.specs.Suite.{seeded};
 ghost use Rattle.slh_trees.specs.Checking.{checked_node};
 ghost use Rattle.slh_trees.specs.Xmss.{xmss_node as spec_xmss_node, auth_path, xmss_sig};
 
-use crate::climb::{climb_path, sibling};
+use crate::climb::climb_path;
 use crate::laws::path_leads_to_root;
-use crate::treehash::{node_of, push_leaf};
+use crate::leaves::Leaves;
+use crate::treehash::{treehash, write_auth_path};
 use hybrid_array::ArraySize;
 use slh_core::address::{HashTree, WotsHash};
 use slh_core::nbytes::NBytes;
 use slh_core::params::{XmssParams, tree_sizes};
-use slh_core::parts::put_part;
 use slh_core::steps::Steps;
 use slh_core::wots::{wots_pk_from_sig, wots_pk_gen, wots_sign, wots_sign_leaf};
 use std::sync::ledger::Ledger;
@@ -26,24 +28,45 @@ fn at_leaf(adrs: &WotsHash, key_pair: u32) -> WotsHash
         layer_adrs: adrs.layer_adrs,
         tree_adrs_low: adrs.tree_adrs_low,
         key_pair_adrs: key_pair,
-        chain_adrs: 0,
-        hash_adrs: 0,
+        ..WotsHash::default()
     }
 }
 
-/// The index of the leaf after `q` others below the node with index `node` at a height.
-fn leaf_below<P: XmssParams>(node: u32, height: u32, q: u32) -> u32
-    requires height { height ≤ P.HPrime.USIZE }
-    requires node { node < 2 ^ (P.HPrime.USIZE - height) }
-    requires leaf { q < 2 ^ height }
-    ensures { result ≡ node * 2 ^ height + q }
-{
-    tree_sizes::<P>();
-    (node << height) + q
+impl<P: XmssParams> Leaves<P> for HashTree {
+    ghost use Rattle.std.proofs.Common.{rules};
+    ghost use Rattle.slh_core.specs.Costs.{wots_pk_cost};
+    ghost use Rattle.slh_core.specs.Wots.{wots_pk};
+
+    ghost trees = { 1 };
+
+    ghost height = { P.HPrime.USIZE };
+
+    ghost leaf = { λ K sk a. wots_pk K sk a.layer_adrs a.tree_adrs_low };
+
+    ghost leaf_cost = { wots_pk_cost P.WotsSigLen.USIZE };
+
+    fn leaf<L: Ledger>(
+        &self,
+        sk_seed: &NBytes<P::N>,
+        index: u32,
+        keyed: &P::Keyed,
+        steps: &mut Steps<L>,
+    ) -> NBytes<P::N> {
+        let adrs = WotsHash {
+            layer_adrs: self.layer_adrs,
+            tree_adrs_low: self.tree_adrs_low,
+            key_pair_adrs: index,
+            ..WotsHash::default()
+        };
+        wots_pk_gen::<P, L>(sk_seed, keyed, &adrs, steps)
+    }
+
+    ghost height_high = { Prim.search rules };
+
+    ghost few = { Prim.search rules };
 }
 
-/// The node with index `node` at a height of the tree of an address (FIPS 205, algorithm
-/// 9). Its leaves are taken from left to right.
+/// The node with index `node` at a height of the tree of an address (FIPS 205, algorithm 9).
 pub fn xmss_node<P: XmssParams, L: Ledger>(
     sk_seed: &NBytes<P::N>,
     node: u32,
@@ -57,44 +80,9 @@ pub fn xmss_node<P: XmssParams, L: Ledger>(
     ensures value { let K = seeded P.suite P.N.USIZE (P.seed_of keyed.now) in
         let a = adrs.now in
         result ≡ spec_xmss_node K sk_seed.now a.layer_adrs a.tree_adrs_low height node }
-    ensures cost { steps.new + 1 ≡ steps.old + 2 ^ height * (16 * P.WotsSigLen.USIZE + 2) }
+    ensures cost { steps.new ≡ steps.old + xmss_node_cost P.WotsSigLen.USIZE height }
 {
-    tree_sizes::<P>();
-    let place = adrs.tree_adrs();
-    let mut store = [0u8; 1024];
-    for q in 0..1u32 << height {
-        let index = leaf_below::<P>(node, height, q);
-        let leaf = wots_pk_gen::<P, L>(sk_seed, keyed, &at_leaf(adrs, index), steps);
-        push_leaf::<P, HashTree, L>(&leaf, index, q, keyed, &place, &mut store, steps);
-    }
-    node_of::<P::N>(&store, height as usize)
-}
-
-/// Writes the siblings on the way up from leaf `idx`.
-#[tactic(auto, using(crate::proofs::Powers::twice, crate::proofs::Powers::sibling_below), unfolding(crate::specs::Merkle::merkle_auth_path, slh_core::specs::Bytes::joined))]
-fn write_auth_path<P: XmssParams, L: Ledger>(
-    sk_seed: &NBytes<P::N>,
-    keyed: &P::Keyed,
-    idx: u32,
-    adrs: &WotsHash,
-    out: &mut [u8],
-    steps: &mut Steps<L>,
-)
-    requires idx { idx < 2 ^ P.HPrime.USIZE }
-    requires room { length out.old ≡ P.HPrime.USIZE * P.N.USIZE }
-    ensures value { let K = seeded P.suite P.N.USIZE (P.seed_of keyed.now) in
-        let a = adrs.now in
-        out.new ≡ auth_path K sk_seed.now a.layer_adrs a.tree_adrs_low idx P.HPrime.USIZE }
-    ensures cost { let leaf_cost = 16 * P.WotsSigLen.USIZE + 2 in
-        steps.new + P.HPrime.USIZE + leaf_cost ≡ steps.old + 2 ^ P.HPrime.USIZE * leaf_cost }
-{
-    tree_sizes::<P>();
-    let n = P::N::USIZE;
-    let height = P::HPrime::USIZE;
-    for z in 0..height {
-        let value = xmss_node::<P, L>(sk_seed, sibling(idx >> z), z as u32, keyed, adrs, steps);
-        put_part(out, n, z, value.as_slice());
-    }
+    treehash::<P, HashTree, L>(sk_seed, node, height, keyed, &adrs.tree_adrs(), steps)
 }
 
 /// Writes the signature of a message under leaf `idx`: the key pair's signature, and the siblings
@@ -115,16 +103,15 @@ pub fn xmss_sign<P: XmssParams, L: Ledger>(
         let hp = P.HPrime.USIZE in
         out.new ≡ xmss_sig K sk_seed.now a.layer_adrs a.tree_adrs_low idx m.now hp }
     ensures cost { let digits = wots_digits P.N.USIZE m.now in
-        let tree_cost = 2 ^ P.HPrime.USIZE * (16 * P.WotsSigLen.USIZE + 2) in
-        steps.new + P.HPrime.USIZE + (15 * P.WotsSigLen.USIZE + 2)
-        ≡ steps.old + sum digits + tree_cost }
-    ensures bound { steps.new + 1 ≤ steps.old + 2 ^ P.HPrime.USIZE * (16 * P.WotsSigLen.USIZE + 2) }
+        steps.new ≡ steps.old + xmss_sign_cost P.WotsSigLen.USIZE P.HPrime.USIZE digits }
+    ensures bound { steps.new ≤ steps.old + xmss_node_cost P.WotsSigLen.USIZE P.HPrime.USIZE }
 {
     tree_sizes::<P>();
-    let split = P::WotsSigLen::USIZE * P::N::USIZE;
-    let (chains, path) = out.split_at_mut(split);
+    let height = P::HPrime::USIZE;
+    let (chains, path) = out.split_at_mut(P::WotsSigLen::USIZE * P::N::USIZE);
     wots_sign::<P, L>(m, sk_seed, keyed, &at_leaf(adrs, idx), chains, steps);
-    write_auth_path::<P, L>(sk_seed, keyed, idx, adrs, path, steps);
+    let place = adrs.tree_adrs();
+    write_auth_path::<P, HashTree, L>(sk_seed, idx, height, keyed, &place, path, steps);
 }
 
 /// The root that the signature of a message under leaf `idx` leads to (FIPS 205, algorithm 11).
@@ -144,8 +131,9 @@ pub fn xmss_pk_from_sig<P: XmssParams, L: Ledger>(
         let hp = P.HPrime.USIZE in
         result ≡ checked_node K a.layer_adrs a.tree_adrs_low idx sig.now m.now hp }
     ensures cost { let digits = wots_digits P.N.USIZE m.now in
-        steps.new + sum digits ≡ steps.old + (15 * P.WotsSigLen.USIZE + 1 + P.HPrime.USIZE) }
-    ensures bound { steps.new ≤ steps.old + (15 * P.WotsSigLen.USIZE + 1 + P.HPrime.USIZE) }
+        steps.new ≡ steps.old + xmss_pk_from_sig_cost P.WotsSigLen.USIZE P.HPrime.USIZE digits }
+    ensures bound { let len = P.WotsSigLen.USIZE in
+        steps.new ≤ steps.old + xmss_pk_from_sig_bound len P.HPrime.USIZE }
 {
     tree_sizes::<P>();
     let height = P::HPrime::USIZE;
@@ -174,13 +162,14 @@ pub fn xmss_sign_root<P: XmssParams, L: Ledger>(
         let a = adrs.now in
         let hp = P.HPrime.USIZE in
         out.new ≡ xmss_sig K sk_seed.now a.layer_adrs a.tree_adrs_low idx m.now hp }
-    ensures cost { steps.new + 1 ≡ steps.old + 2 ^ P.HPrime.USIZE * (16 * P.WotsSigLen.USIZE + 2) }
+    ensures cost { steps.new ≡ steps.old + xmss_node_cost P.WotsSigLen.USIZE P.HPrime.USIZE }
 {
     tree_sizes::<P>();
     path_leads_to_root::<P>();
     let height = P::HPrime::USIZE;
     let (chains, path) = out.split_at_mut(P::WotsSigLen::USIZE * P::N::USIZE);
     let leaf = wots_sign_leaf::<P, L>(m, sk_seed, keyed, &at_leaf(adrs, idx), chains, steps);
-    write_auth_path::<P, L>(sk_seed, keyed, idx, adrs, path, steps);
+    let place = adrs.tree_adrs();
+    write_auth_path::<P, HashTree, L>(sk_seed, idx, height, keyed, &place, path, steps);
     climb_path::<P, HashTree, L>(&leaf, idx, height, path, keyed, &adrs.tree_adrs(), steps)
 }

@@ -2,6 +2,7 @@ use Rattle.std.proofs.Common.{◌≡◌, ◌+◌, ◌*◌, take, length}
 use Rattle.slh_core.specs.Bytes.{joined}
 use Rattle.slh_core.specs.Wots.{chain_value}
 use Rattle.slh_core.specs.Suite.{seeded}
+use Rattle.slh_core.specs.declared.params.TheConstants.{MAX_ENDS_LEN}
 use Rattle.slh_core.proofs.wots.wots_pk_gen.Given as goal
 
 -- the ends so far, and their steps
@@ -12,6 +13,6 @@ invariant-loop-c g l =
     record {
       ends : take (l.c * l.n) l.ends
           ≡ joined (λ k. chain_value K l.sk_seed a.layer_adrs a.tree_adrs_low a.key_pair_adrs k 15) l.c;
-      room : length l.ends ≡ 2144;
+      room : length l.ends ≡ MAX_ENDS_LEN;
       cost : l.steps ≡ l.initial.steps + 16 * l.c;
     }

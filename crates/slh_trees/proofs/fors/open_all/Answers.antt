@@ -1,10 +1,11 @@
 use Rattle.std.proofs.Common.{arith, ◌≡◌, ◌+◌, ◌-◌, ◌*◌, ◌≤◌, ◌++◌, length, refl}
-use Rattle.std.proofs.lemmas.Grind.{common_steps}
 use Rattle.std.proofs.lemmas.Slice.{take-put_mid}
 use Rattle.slh_core.specs.Bytes.{joined}
 use Rattle.slh_core.specs.Suite.{seeded}
 use Rattle.slh_core.proofs.Joins.{joined_more}
 use Rattle.slh_trees.specs.Fors.{fors_opened}
+use Rattle.slh_core.specs.Costs.{auth_path_cost, fors_leaf_cost}
+use Rattle.slh_trees.proofs.CostSteps.{one_more}
 use Rattle.slh_trees.proofs.Layers.{part_fits}
 use Rattle.slh_trees.proofs.fors.open_all.Goals as goal
 
@@ -21,5 +22,5 @@ loop-i-preserved g c =
     record {
       values = rw (take-put_mid (c.loop-i.i * size) ((c.loop-i.i + 1) * size - c.loop-i.i * size) c.loop-i.out c.open_secret.new.out ((c.loop-i.i + 1) * size) next (omega arith), i.values, joined_more, c.open_secret.ensures.value, c.index_of-y.ensures.value)
           (refl {a = joined opened c.loop-i.i ++ opened c.loop-i.i});
-      cost = grind (arith, common_steps);
+      cost = omega (arith, one_more c.loop-i.i (1 + auth_path_cost fors_leaf_cost g.P.A.ArraySize.USIZE), i.cost, c.open_secret.ensures.cost);
     }

@@ -1,5 +1,6 @@
 use Rattle.std.proofs.Common.{◌≡◌, ◌+◌, ◌*◌, ◌^◌, take}
 use Rattle.slh_core.specs.Bytes.{joined}
+use Rattle.slh_core.specs.Costs.{fors_sign_cost}
 use Rattle.slh_core.specs.Suite.{seeded}
 use Rattle.slh_trees.specs.Fors.{fors_opened}
 use Rattle.slh_trees.proofs.fors.open_all.Given as goal
@@ -12,5 +13,5 @@ invariant-loop-i g l =
     record {
       values : take (l.i * l.size) l.out
           ≡ joined (fors_opened K l.sk_seed l.adrs.tree_adrs_low l.adrs.key_pair_adrs a l.digits) l.i;
-      cost : l.steps + l.i * (a + 2) ≡ l.initial.steps + l.i * (3 * 2 ^ a);
+      cost : l.steps ≡ l.initial.steps + fors_sign_cost l.i a;
     }

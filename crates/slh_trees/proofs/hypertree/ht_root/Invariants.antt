@@ -1,4 +1,5 @@
 use Rattle.std.proofs.Common.{◌≡◌, ◌+◌, ◌*◌, ◌^◌, ◌<◌, ◌≤◌}
+use Rattle.slh_core.specs.Costs.{ht_verify_bound}
 use Rattle.slh_core.specs.Suite.{seeded}
 use Rattle.slh_trees.specs.Checking.{checked_message}
 use Rattle.slh_trees.specs.Hypertree.{leaf_at, tree_at}
@@ -14,5 +15,5 @@ invariant-loop-j g l =
       leaf : l.leaf ≡ leaf_at hp l.idx_tree l.idx_leaf l.j;
       below : l.leaf < 2 ^ hp;
       message : l.message ≡ checked_message K hp l.idx_tree l.idx_leaf l.sig l.fn.m l.j;
-      cost : l.steps ≤ l.initial.steps + l.j * (15 * g.P.WotsSigLen.ArraySize.USIZE + 1 + hp);
+      cost : l.steps ≤ l.initial.steps + ht_verify_bound g.P.WotsSigLen.ArraySize.USIZE hp l.j;
     }

@@ -1,10 +1,11 @@
 use Rattle.std.proofs.Common.{arith, ◌≡◌, ◌+◌, ◌-◌, ◌*◌, ◌≤◌, [], length, refl}
-use Rattle.std.proofs.lemmas.Grind.{common_steps}
 use Rattle.std.proofs.lemmas.Slice.{take-put_mid}
 use Rattle.slh_core.specs.Bytes.{joined}
 use Rattle.slh_core.specs.Suite.{seeded}
 use Rattle.slh_core.proofs.Joins.{joined_more}
 use Rattle.slh_trees.specs.Hypertree.{layer_signature}
+use Rattle.slh_core.specs.Costs.{xmss_node_cost}
+use Rattle.slh_trees.proofs.CostSteps.{one_more}
 use Rattle.slh_trees.proofs.Layers.{tree_at-zero, tree_at-more, leaf_at-more, layer_message-more, part_fits}
 use Rattle.slh_trees.proofs.hypertree.ht_sign.Goals as goal
 
@@ -37,5 +38,5 @@ loop-j-preserved g c =
       below = rw (← c.USIZE-height.ensures) c.next_place.ensures.below;
       message = rw (c.xmss_sign_root-message.ensures.root, c.tree_adrs_of-at.ensures, i.tree) (layer_message-more K hp c.args.sk_seed.now c.args.idx_tree c.args.idx_leaf c.args.m.now c.loop-j.j);
       values = rw (take-put_mid (c.loop-j.j * size) ((c.loop-j.j + 1) * size - c.loop-j.j * size) c.loop-j.out c.xmss_sign_root-message.new.out ((c.loop-j.j + 1) * size) next (omega arith), i.values, joined_more, c.xmss_sign_root-message.ensures.value, c.tree_adrs_of-at.ensures, i.tree, i.leaf, i.message) refl;
-      cost = grind (arith, common_steps);
+      cost = omega (arith, one_more c.loop-j.j (xmss_node_cost g.P.WotsSigLen.ArraySize.USIZE hp), i.cost, c.xmss_sign_root-message.ensures.cost);
     }

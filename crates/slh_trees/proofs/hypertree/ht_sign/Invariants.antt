@@ -1,5 +1,6 @@
 use Rattle.std.proofs.Common.{◌≡◌, ◌+◌, ◌*◌, ◌^◌, ◌<◌, take}
 use Rattle.slh_core.specs.Bytes.{joined}
+use Rattle.slh_core.specs.Costs.{ht_sign_cost}
 use Rattle.slh_core.specs.Suite.{seeded}
 use Rattle.slh_trees.specs.Hypertree.{layer_signature, layer_message, leaf_at, tree_at}
 use Rattle.slh_trees.proofs.hypertree.ht_sign.Given as goal
@@ -15,5 +16,5 @@ invariant-loop-j g l =
       below : l.leaf < 2 ^ hp;
       message : l.message ≡ layer_message K hp l.sk_seed l.idx_tree l.idx_leaf l.fn.m l.j;
       values : take (l.j * l.size) l.out ≡ joined (layer_signature K hp l.sk_seed l.idx_tree l.idx_leaf l.fn.m) l.j;
-      cost : l.steps + l.j ≡ l.initial.steps + l.j * (2 ^ hp * (16 * g.P.WotsSigLen.ArraySize.USIZE + 2));
+      cost : l.steps ≡ l.initial.steps + ht_sign_cost g.P.WotsSigLen.ArraySize.USIZE hp l.j;
     }

@@ -3,7 +3,8 @@ use Rattle.std.specs.Prelude.{count_ones}
 use Rattle.slh_core.specs.Suite.{seeded}
 use Rattle.slh_trees.specs.Merkle.{merkle}
 use Rattle.slh_trees.specs.Treehash.{HoldsNodes}
-use Rattle.slh_trees.proofs.TreehashSteps.{half, height_small, height_below, ones_odd, ones_even, ones_shifted, bit_below, pair_up, index_at, odd_index, carried_up, HoldsNodes-more}
+use Rattle.slh_trees.proofs.Powers.{half}
+use Rattle.slh_trees.proofs.TreehashSteps.{height_small, height_below, ones_odd, ones_even, ones_shifted, bit_below, pair_up, index_at, odd_index, carried_up, HoldsNodes-more}
 use Rattle.slh_trees.proofs.treehash.push_leaf.Goals as goal
 
 pub loop-bits-init : goal.loop-bits-init
@@ -54,9 +55,9 @@ loop-bits-preserved g c =
           let odd : c.loop-bits.index % 2 ≡ 1 = rw i.index (odd_index at z c.args.q h c.args.index e inside bit) in
           let place : at * 2 ^ (z - h) + c.args.q / 2 ^ h ≡ c.loop-bits.index = rw (i.index, e, index_at at z c.args.q h (omega arith)) refl in
           let left : c.node_of-left.result ≡ merkle K B leaves h (c.loop-bits.index - 1) = rw (c.node_of-left.ensures, holds h bit, place) refl in
-          rw (c.h-current.ensures.value, c.at_node-at.ensures)
+          rw c.parent-current.ensures.value
           (pair_up K B leaves h c.loop-bits.index c.node_of-left.result c.loop-bits.current odd left (i.value leaves at z e below is holds));
-      cost = omega (arith, c.h-current.ensures.step, i.cost);
+      cost = omega (arith, c.parent-current.ensures.cost, i.cost);
     }
 
 pub returns-clause-holds : goal.returns-clause-holds

@@ -1,9 +1,10 @@
 use Rattle.std.proofs.Common.{◌≡◌, ◌+◌, ◌*◌, length}
 use Rattle.std.specs.Prelude.{count_ones}
 use Rattle.slh_core.specs.Suite.{seeded}
-use Rattle.slh_trees.specs.Fors.{fors_node}
+use Rattle.slh_trees.specs.Merkle.{merkle}
 use Rattle.slh_trees.specs.Treehash.{HoldsNodes}
-use Rattle.slh_trees.proofs.fors.fors_node.Given as goal
+use Rattle.slh_trees.specs.declared.treehash.TheConstants.{TREEHASH_LEN}
+use Rattle.slh_trees.proofs.treehash.treehash.Given as goal
 
 -- the nodes that are finished after q leaves, and their steps
 abbrev pub invariant-loop-q : goal.invariant-loop-q
@@ -11,7 +12,7 @@ invariant-loop-q g l =
     let n = g.P.N.ArraySize.USIZE in
     let K = seeded g.P.HashSuite.suite n (g.P.HashSuite.seed_of l.keyed) in
     record {
-      room : length l.store ≡ 1024;
-      holds : HoldsNodes n (fors_node K l.sk_seed l.adrs.tree_adrs_low l.adrs.key_pair_adrs) l.z l.i l.q l.store;
-      cost : l.steps + count_ones l.q ≡ l.initial.steps + 3 * l.q;
+      room : length l.store ≡ TREEHASH_LEN;
+      holds : HoldsNodes n (merkle K (g.A.NodeAddress.place l.adrs) (g.A.Leaves.leaf K l.sk_seed l.adrs)) l.z l.i l.q l.store;
+      cost : l.steps + count_ones l.q ≡ l.initial.steps + l.q * (g.A.Leaves.leaf_cost + 1);
     }

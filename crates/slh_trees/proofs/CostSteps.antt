@@ -1,0 +1,33 @@
+-- The costs of nodes and of the siblings on a way up, height by height.
+use Rattle.std.proofs.Common.{◌≡◌, ℕ, zero, suc, ◌+◌, ◌-◌, ◌*◌, ◌^◌, ◌≤◌, arith}
+use Rattle.std.proofs.Math.Nat.{pow-suc}
+use Rattle.slh_core.specs.Costs.{node_cost, auth_path_cost, fors_leaf_cost, fors_node_cost, fors_sign_cost, fors_pk_from_sig_cost, fors_pk_cost}
+use Rattle.slh_trees.proofs.Powers.{twice_more}
+
+-- a leaf for each of 2 ^ z is more than one leaf and a step for each height
+path_room : (leaf z : ℕ) → z + (leaf + 1) ≤ 2 ^ z * (leaf + 1)
+path_room leaf zero = omega arith
+path_room leaf (suc z) = rw (pow-suc 2 z) (omega (arith, path_room leaf z))
+
+-- one sibling more
+pub auth_path_cost-more : (leaf z : ℕ) → auth_path_cost leaf (z + 1) ≡ auth_path_cost leaf z + node_cost leaf z
+auth_path_cost-more leaf z = omega (arith, path_room leaf z, twice_more z (leaf + 1))
+
+-- a node over all of its leaves, with a step for each node above a first leaf
+pub node_cost-whole : (leaf z : ℕ) → node_cost leaf z + 1 ≡ 2 ^ z * (leaf + 1)
+node_cost-whole leaf z = omega (arith, path_room leaf z)
+
+-- a leaf, the siblings on its way up and the way up itself: each node below the root once
+node_cost-path : (leaf h : ℕ) → leaf + auth_path_cost leaf h + h ≡ node_cost leaf h
+node_cost-path leaf h = omega (arith, path_room leaf h)
+
+pub one_more : (j x : ℕ) → (j + 1) * x ≡ j * x + x
+one_more j x = omega arith
+
+in_all_trees : (k x y z : ℕ) → z ≡ (1 + x) + (1 + y) → k * (1 + x) + (k * (1 + y) + 1) ≡ k * z + 1
+in_all_trees k x y z e = rw e (omega arith)
+
+-- a forest's signature and the way from it to the key: as many calls as the key alone
+pub fors_pk_cost-signed : (k a : ℕ) → fors_sign_cost k a + fors_pk_from_sig_cost k a ≡ fors_pk_cost k a
+fors_pk_cost-signed k a =
+    in_all_trees k (auth_path_cost fors_leaf_cost a) a (fors_node_cost a) (omega (arith, node_cost-path fors_leaf_cost a))
