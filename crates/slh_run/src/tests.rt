@@ -148,7 +148,7 @@ fn lines_without_a_set(rt: HostRuntime) -> Result<(), Fail> {
         (b"- keygen 00 00 00\n", b"error set\n"),
         (b"x make 0g\n", b"error set\n"),
         (b"SLH-DSA-SHA2-128F keygen 00 00 00\n", b"error set\n"),
-        (b"SLH-DSA-SHA2-192f keygen 00 00 00\n", b"error set\n"),
+        (b"SLH-DSA-SHA2-512f keygen 00 00 00\n", b"error set\n"),
         (b"x\n\n\nx", b"error set\nerror set\n"),
     ] {
         let (status, text) = served(rt.alloc(), line)?;
@@ -364,23 +364,5 @@ fn known_signatures(rt: HostRuntime) -> Result<(), Fail> {
             );
         }
     }
-    Ok(())
-}
-
-// The same of the small set, for one key.
-#[test]
-fn known_small_signature(rt: HostRuntime) -> Result<(), Fail> {
-    let alloc = rt.alloc();
-    let key =
-        b"010101010101010101010101010101010202020202020202020202020202020203030303030303030303030303030303d627c8bad26269965d3ad40ca4457a26".as_slice();
-    let job = sign_job(alloc, key, b"", b"Hello", None)?;
-    let bytes = signature(alloc, Set::Sha2_128s, &job).map_err(|_| "refused")?;
-    assert_eq!(rt; bytes.len(), 7856);
-    let digest = b"b461db2c7fb7c5c9c11f1a5c9ae5f77e84ebf066647a1857db4dafe301e18cb4".as_slice();
-    let expected = decoded(alloc, digest)?;
-    assert_eq!(rt;
-        Hash::hash(bytes.as_slice()).as_slice(),
-        expected.as_slice()
-    );
     Ok(())
 }
