@@ -90,6 +90,7 @@ impl Default for WotsHash {
       hash_adrs = 0;
     } };
 
+    #[inline]
     fn default() -> WotsHash {
         WotsHash {
             layer_adrs: 0,

@@ -1,5 +1,5 @@
 //! Digits cut from the bits of a byte string.
-ghost use Rattle.std.specs.Prelude.{◌≡◌, ◌+◌, ◌-◌, ◌*◌, ◌^◌, ◌≤◌, ◌<◌, length, take, sum_by};
+ghost use Rattle.std.specs.Prelude.{◌≡◌, ◌-◌, ◌*◌, ◌^◌, ◌≤◌, ◌<◌, length, take, sum_by};
 ghost use Rattle.std.specs.Prelude.{slice_index, EachIndex};
 ghost use Rattle.slh_core.specs.Digits.{digits, wots_digits};
 ghost use Rattle.slh_core.specs.Parameters.{chain_count};

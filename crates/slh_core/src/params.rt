@@ -89,7 +89,7 @@ pub fn chain_sizes<P: WotsParams>()
     ensures n_low { 1 ≤ P.N.USIZE }
     ensures n_high { P.N.USIZE ≤ 32 }
     ensures message_len { P.WotsMsgLen.USIZE ≡ 2 * P.N.USIZE }
-    ensures signature_len { P.WotsSigLen.USIZE ≡ 2 * P.N.USIZE + 3 }
+    ensures signature_len { P.WotsSigLen.USIZE ≡ chain_count P.N.USIZE }
 {}
 
 /// What the law says of the sizes of trees.
@@ -97,7 +97,7 @@ pub fn tree_sizes<P: XmssParams>()
     ensures n_low { 1 ≤ P.N.USIZE }
     ensures n_high { P.N.USIZE ≤ 32 }
     ensures message_len { P.WotsMsgLen.USIZE ≡ 2 * P.N.USIZE }
-    ensures signature_len { P.WotsSigLen.USIZE ≡ 2 * P.N.USIZE + 3 }
+    ensures signature_len { P.WotsSigLen.USIZE ≡ chain_count P.N.USIZE }
     ensures height_low { 1 ≤ P.HPrime.USIZE }
     ensures height_high { P.HPrime.USIZE ≤ 31 }
 {}
@@ -106,7 +106,7 @@ pub fn tree_sizes<P: XmssParams>()
 pub fn layer_sizes<P: HypertreeParams>()
     ensures n_low { 1 ≤ P.N.USIZE }
     ensures n_high { P.N.USIZE ≤ 32 }
-    ensures signature_len { P.WotsSigLen.USIZE ≡ 2 * P.N.USIZE + 3 }
+    ensures signature_len { P.WotsSigLen.USIZE ≡ chain_count P.N.USIZE }
     ensures height_low { 1 ≤ P.HPrime.USIZE }
     ensures height_high { P.HPrime.USIZE ≤ 31 }
     ensures layers { 1 ≤ P.D.USIZE }

@@ -1,6 +1,6 @@
 //! What a hash suite is.
-ghost use Rattle.std.specs.Prelude.{◌≡◌, ℕ, ◌+◌, ◌^◌, ◌≤◌, List, ◌++◌, length};
-ghost use Rattle.slh_core.specs.Suite.{Suite, HasLength, HasDigestLength};
+ghost use Rattle.std.specs.Prelude.{◌≡◌, ℕ, ◌+◌, ◌≤◌, List, ◌++◌, length};
+ghost use Rattle.slh_core.specs.Suite.{Suite, HasLength, HasDigestLength, Seeded, seeded};
 
 use crate::address::Address;
 use crate::nbytes::NBytes;
@@ -30,9 +30,12 @@ pub trait HashSuite {
     /// The public seed that a state stands for.
     ghost seed_of: { Self.Keyed → List ℕ };
 
+    /// The functions with that seed.
+    ghost keyed_suite: { Self.Keyed → Seeded };
+
     /// The state for a public seed.
     fn keyed(pk_seed: &NBytes<Self::N>) -> Self::Keyed
-        ensures { seed_of result ≡ pk_seed.now };
+        ensures { keyed_suite result ≡ seeded suite Self.N.USIZE pk_seed.now };
 
     /// F: the hash of one value.
     fn f<A: Address, L: Ledger>(
@@ -41,7 +44,8 @@ pub trait HashSuite {
         m: &NBytes<Self::N>,
         steps: &mut Steps<L>,
     ) -> NBytes<Self::N>
-        ensures value { result ≡ suite.f (seed_of keyed.now) (A.bytes adrs.now) m.now }
+        ensures value { let K = keyed_suite keyed.now in
+            result ≡ K.suite.f K.seed (A.bytes adrs.now) m.now }
         ensures step { steps.new ≡ steps.old + 1 };
 
     /// H: the hash of a left and a right value.
@@ -52,7 +56,8 @@ pub trait HashSuite {
         m2: &NBytes<Self::N>,
         steps: &mut Steps<L>,
     ) -> NBytes<Self::N>
-        ensures value { result ≡ suite.h (seed_of keyed.now) (A.bytes adrs.now) m1.now m2.now }
+        ensures value { let K = keyed_suite keyed.now in
+            result ≡ K.suite.h K.seed (A.bytes adrs.now) m1.now m2.now }
         ensures step { steps.new ≡ steps.old + 1 };
 
     /// T: the hash of many values, joined. There are at most as many as a key pair has chains.
@@ -63,7 +68,8 @@ pub trait HashSuite {
         steps: &mut Steps<L>,
     ) -> NBytes<Self::N>
         requires { length m.now ≤ MAX_ENDS_LEN }
-        ensures value { result ≡ suite.t (seed_of keyed.now) (A.bytes adrs.now) m.now }
+        ensures value { let K = keyed_suite keyed.now in
+            result ≡ K.suite.t K.seed (A.bytes adrs.now) m.now }
         ensures step { steps.new ≡ steps.old + 1 };
 
     /// PRF: a secret value, made from the secret seed.
@@ -73,7 +79,8 @@ pub trait HashSuite {
         adrs: &A,
         steps: &mut Steps<L>,
     ) -> NBytes<Self::N>
-        ensures value { result ≡ suite.prf (seed_of keyed.now) (A.bytes adrs.now) sk_seed.now }
+        ensures value { let K = keyed_suite keyed.now in
+            result ≡ K.suite.prf K.seed (A.bytes adrs.now) sk_seed.now }
         ensures step { steps.new ≡ steps.old + 1 };
 
     /// PRF_msg: the randomizer of a signature.
@@ -103,6 +110,10 @@ pub trait HashSuite {
         requires small { Self.M.USIZE ≤ MAX_DIGEST_LEN }
         ensures { let message = head.now ++ ctx.now ++ msg.now in
             out.new ≡ suite.h_msg rand.now pk_seed.now pk_root.now message };
+
+    /// What the functions with the seed of a state are.
+    ghost keyed_suite_is: { (k : Self.Keyed)
+        → keyed_suite k ≡ seeded suite Self.N.USIZE (seed_of k) };
 
     /// Each function gives as many bytes as its type says.
     ghost lengths: { Self.N.USIZE ≤ 32 → HasLength suite Self.N.USIZE };

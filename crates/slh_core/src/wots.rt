@@ -7,7 +7,6 @@ ghost use Rattle.slh_core.specs.Wots.{chain, chain_value, wots_pk, chain_values,
 ghost use Rattle.slh_core.specs.Wots.{checked_ends, wots_pk_from_sig as spec_wots_pk_from_sig};
 ghost use Rattle.slh_core.specs.Digits.{wots_digits};
 ghost use Rattle.slh_core.specs.Parameters.{chain_count};
-ghost use Rattle.slh_core.specs.Suite.{seeded};
 
 use crate::address::{WotsHash, WotsPrf};
 use crate::digits::message_digits;
@@ -30,7 +29,7 @@ pub fn wots_chain<P: WotsParams, L: Ledger>(
     steps: &mut Steps<L>,
 ) -> NBytes<P::N>
     requires { i + s ≤ 15 }
-    ensures value { let K = seeded P.suite P.N.USIZE (P.seed_of keyed.now) in
+    ensures value { let K = P.keyed_suite keyed.now in
         let a = adrs.now in
         result ≡ chain K a.layer_adrs a.tree_adrs_low a.key_pair_adrs a.chain_adrs x.now i s }
     ensures cost { steps.new ≡ steps.old + s }
@@ -53,7 +52,7 @@ fn own_chain<P: WotsParams, L: Ledger>(
     steps: &mut Steps<L>,
 ) -> NBytes<P::N>
     requires { q ≤ 15 }
-    ensures value { let K = seeded P.suite P.N.USIZE (P.seed_of keyed.now) in
+    ensures value { let K = P.keyed_suite keyed.now in
         let a = adrs.now in
         result ≡ chain_value K sk_seed.now a.layer_adrs a.tree_adrs_low a.key_pair_adrs c q }
     ensures cost { steps.new ≡ steps.old + (q + 1) }
@@ -74,7 +73,7 @@ pub fn wots_pk_gen<P: WotsParams, L: Ledger>(
     adrs: &WotsHash,
     steps: &mut Steps<L>,
 ) -> NBytes<P::N>
-    ensures value { let K = seeded P.suite P.N.USIZE (P.seed_of keyed.now) in
+    ensures value { let K = P.keyed_suite keyed.now in
         let a = adrs.now in
         result ≡ wots_pk K sk_seed.now a.layer_adrs a.tree_adrs_low a.key_pair_adrs }
     ensures cost { steps.new ≡ steps.old + wots_pk_cost P.WotsSigLen.USIZE }
@@ -101,7 +100,7 @@ pub fn wots_sign<P: WotsParams, L: Ledger>(
     steps: &mut Steps<L>,
 )
     requires { length out.old ≡ P.WotsSigLen.USIZE * P.N.USIZE }
-    ensures value { let K = seeded P.suite P.N.USIZE (P.seed_of keyed.now) in
+    ensures value { let K = P.keyed_suite keyed.now in
         let a = adrs.now in
         out.new ≡ wots_sig K sk_seed.now a.layer_adrs a.tree_adrs_low a.key_pair_adrs m.now }
     ensures cost { let digits = wots_digits P.N.USIZE m.now in
@@ -128,7 +127,7 @@ fn write_chains<P: WotsParams, L: Ledger>(
     requires count { length digits.now ≡ chain_count P.N.USIZE }
     requires below { EachIndex digits.now (λ k. slice_index digits.now k < 16) }
     requires room { length out.old ≡ length digits.now * P.N.USIZE }
-    ensures value { let K = seeded P.suite P.N.USIZE (P.seed_of keyed.now) in
+    ensures value { let K = P.keyed_suite keyed.now in
         let a = adrs.now in
         let sk = sk_seed.now in
         out.new ≡ chain_values K sk a.layer_adrs a.tree_adrs_low a.key_pair_adrs digits.now }
@@ -153,10 +152,10 @@ pub fn wots_sign_leaf<P: WotsParams, L: Ledger>(
     steps: &mut Steps<L>,
 ) -> NBytes<P::N>
     requires { length out.old ≡ P.WotsSigLen.USIZE * P.N.USIZE }
-    ensures leaf { let K = seeded P.suite P.N.USIZE (P.seed_of keyed.now) in
+    ensures leaf { let K = P.keyed_suite keyed.now in
         let a = adrs.now in
         result ≡ wots_pk K sk_seed.now a.layer_adrs a.tree_adrs_low a.key_pair_adrs }
-    ensures value { let K = seeded P.suite P.N.USIZE (P.seed_of keyed.now) in
+    ensures value { let K = P.keyed_suite keyed.now in
         let a = adrs.now in
         out.new ≡ wots_sig K sk_seed.now a.layer_adrs a.tree_adrs_low a.key_pair_adrs m.now }
     ensures cost { steps.new ≡ steps.old + wots_pk_cost P.WotsSigLen.USIZE }
@@ -194,11 +193,11 @@ fn write_both<P: WotsParams, L: Ledger>(
     requires below { EachIndex digits.now (λ k. slice_index digits.now k < 16) }
     requires room { length out.old ≡ length digits.now * P.N.USIZE }
     requires ends_room { length ends.old ≡ length digits.now * P.N.USIZE }
-    ensures value { let K = seeded P.suite P.N.USIZE (P.seed_of keyed.now) in
+    ensures value { let K = P.keyed_suite keyed.now in
         let sk = sk_seed.now in
         let a = adrs.now in
         out.new ≡ chain_values K sk a.layer_adrs a.tree_adrs_low a.key_pair_adrs digits.now }
-    ensures ends { let K = seeded P.suite P.N.USIZE (P.seed_of keyed.now) in
+    ensures ends { let K = P.keyed_suite keyed.now in
         let sk = sk_seed.now in
         let a = adrs.now in
         let j = a.layer_adrs in
@@ -227,7 +226,7 @@ pub fn wots_pk_from_sig<P: WotsParams, L: Ledger>(
     steps: &mut Steps<L>,
 ) -> NBytes<P::N>
     requires { length sig.now ≡ P.WotsSigLen.USIZE * P.N.USIZE }
-    ensures value { let K = seeded P.suite P.N.USIZE (P.seed_of keyed.now) in
+    ensures value { let K = P.keyed_suite keyed.now in
         let a = adrs.now in
         let j = a.layer_adrs in
         result ≡ spec_wots_pk_from_sig K j a.tree_adrs_low a.key_pair_adrs sig.now m.now }
@@ -259,7 +258,7 @@ fn finish_chains<P: WotsParams, L: Ledger>(
     requires below { EachIndex digits.now (λ k. slice_index digits.now k < 16) }
     requires whole { length sig.now ≡ length digits.now * P.N.USIZE }
     requires room { length out.old ≡ length digits.now * P.N.USIZE }
-    ensures value { let K = seeded P.suite P.N.USIZE (P.seed_of keyed.now) in
+    ensures value { let K = P.keyed_suite keyed.now in
         let a = adrs.now in
         out.new ≡ checked_ends K a.layer_adrs a.tree_adrs_low a.key_pair_adrs sig.now digits.now }
     ensures cost { steps.new + sum digits.now ≡ steps.old + 15 * length digits.now }

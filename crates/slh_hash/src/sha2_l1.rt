@@ -1,6 +1,7 @@
 //! The suite of security category 1 (FIPS 205, section 11.2.1).
-ghost use Rattle.std.specs.Prelude.{◌≡◌, ◌+◌, ◌^◌, ◌≤◌, ◌++◌, length};
+ghost use Rattle.std.specs.Prelude.{◌≡◌, ◌+◌, ◌≤◌, ◌++◌, length, refl};
 ghost use Rattle.hmac_sha256.specs.Sha256.{sha256};
+ghost use Rattle.slh_core.specs.Suite.{seeded};
 ghost use Rattle.slh_hash.specs.Sha2.{sha2_category_1};
 ghost use Rattle.slh_hash.specs.Lengths.{sha2_category_1_lengths, sha2_category_1_digest_length};
 
@@ -35,6 +36,9 @@ impl<N: ArraySize, M: ArraySize> HashSuite for Sha2L1<N, M> {
     ghost suite = { sha2_category_1 N.USIZE M.USIZE };
 
     ghost seed_of = { λ keyed. keyed.pk_seed };
+
+    ghost keyed_suite = { λ keyed.
+        seeded (sha2_category_1 N.USIZE M.USIZE) N.USIZE keyed.pk_seed };
 
     fn keyed(pk_seed: &NBytes<N>) -> Sha2Keyed<N> {
         start(pk_seed)
@@ -115,6 +119,8 @@ impl<N: ArraySize, M: ArraySize> HashSuite for Sha2L1<N, M> {
         let end = put_three(rand.as_slice(), pk_seed.as_slice(), &digest, &mut seed);
         mgf1_256(&seed[..end], out);
     }
+
+    ghost keyed_suite_is = { λ _. refl };
 
     ghost lengths = { sha2_category_1_lengths N.USIZE M.USIZE };
 

@@ -1,6 +1,7 @@
 //! The suite of security categories 3 and 5 (FIPS 205, section 11.2.2).
-ghost use Rattle.std.specs.Prelude.{◌≡◌, ◌+◌, ◌^◌, ◌≤◌, ◌++◌, length};
+ghost use Rattle.std.specs.Prelude.{◌≡◌, ◌++◌, refl};
 ghost use Rattle.sha2.specs.Sha512.{sha512};
+ghost use Rattle.slh_core.specs.Suite.{seeded};
 ghost use Rattle.slh_hash.specs.Sha2.{sha2_category_3_5};
 ghost use Rattle.slh_hash.specs.Lengths.{sha2_category_3_5_lengths};
 ghost use Rattle.slh_hash.specs.Lengths.{sha2_category_3_5_digest_length};
@@ -37,6 +38,9 @@ impl<N: ArraySize, M: ArraySize> HashSuite for Sha2L35<N, M> {
     ghost suite = { sha2_category_3_5 N.USIZE M.USIZE };
 
     ghost seed_of = { λ keyed. keyed.keyed.pk_seed };
+
+    ghost keyed_suite = { λ keyed.
+        seeded (sha2_category_3_5 N.USIZE M.USIZE) N.USIZE keyed.keyed.pk_seed };
 
     fn keyed(pk_seed: &NBytes<N>) -> Sha2Keyed35<N> {
         start_35(pk_seed)
@@ -112,6 +116,8 @@ impl<N: ArraySize, M: ArraySize> HashSuite for Sha2L35<N, M> {
         let end = put_three(rand.as_slice(), pk_seed.as_slice(), &digest, &mut seed);
         mgf1_512(&seed[..end], out);
     }
+
+    ghost keyed_suite_is = { λ _. refl };
 
     ghost lengths = { sha2_category_3_5_lengths N.USIZE M.USIZE };
 

@@ -1,5 +1,5 @@
 -- The costs of nodes and of the siblings on a way up, height by height.
-use Rattle.std.proofs.Common.{◌≡◌, ℕ, zero, suc, ◌+◌, ◌-◌, ◌*◌, ◌^◌, ◌≤◌, arith}
+use Rattle.std.proofs.Common.{◌≡◌, ℕ, zero, suc, ◌+◌, ◌*◌, ◌^◌, ◌≤◌, arith}
 use Rattle.std.proofs.Math.Nat.{pow-suc}
 use Rattle.slh_core.specs.Costs.{node_cost, auth_path_cost, fors_leaf_cost, fors_node_cost, fors_sign_cost, fors_pk_from_sig_cost, fors_pk_cost}
 use Rattle.slh_trees.proofs.Powers.{twice_more}

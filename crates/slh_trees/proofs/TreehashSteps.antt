@@ -5,7 +5,7 @@ use lib.Count.{ones}
 use Rattle.std.proofs.lemmas.Bool.{cases_lt, cases_order}
 use Rattle.std.proofs.lemmas.Nat.{ones_cat, mul-add-lt, mul-le, pow-add, shr-shr, pow_pos, shl-shr}
 use Rattle.std.proofs.Math.Pow.{pow_mono}
-use Rattle.std.proofs.Math.Nat.{pow-suc, div-div-eq-div-mul, div-eq_of_lt, mod-eq_of_lt, mul-add-div_right}
+use Rattle.std.proofs.Math.Nat.{div-eq_of_lt, mod-eq_of_lt, mul-add-div_right}
 use Rattle.slh_core.specs.Suite.{Seeded}
 use Rattle.slh_trees.specs.Merkle.{Place, node_bytes, merkle}
 use Rattle.slh_trees.specs.Treehash.{stored_node, HoldsNodes}

@@ -1,6 +1,5 @@
 //! The way from a leaf to the root of its tree.
 ghost use Rattle.std.specs.Prelude.{◌≡◌, ◌+◌, ◌*◌, ◌≤◌, length};
-ghost use Rattle.slh_core.specs.Suite.{seeded};
 ghost use Rattle.slh_trees.specs.Merkle.{climb as spec_climb};
 
 use crate::node::{NodeAddress, parent};
@@ -24,7 +23,7 @@ pub(crate) fn climb_path<P: WotsParams, A: NodeAddress + Drop, L: Ledger>(
 ) -> NBytes<P::N>
     requires few { heights ≤ 31 }
     requires whole { length path.now ≡ heights * P.N.USIZE }
-    ensures value { let K = seeded P.suite P.N.USIZE (P.seed_of keyed.now) in
+    ensures value { let K = P.keyed_suite keyed.now in
         result ≡ spec_climb K (A.place adrs.now) leaf.now idx path.now heights }
     ensures cost { steps.new ≡ steps.old + heights }
 {

@@ -1,8 +1,9 @@
 // The toy suite with a count in its state, which each hash call raises. It shows that no call is
 // hidden behind a step counter of its own: the wanted numbers are those of the standard's
 // algorithms, by hand.
-ghost use Rattle.std.specs.Prelude.{◌≡◌, refl};
+ghost use Rattle.std.specs.Prelude.{refl};
 ghost use Rattle.slh_core.specs.Parameters.{scheme_of};
+ghost use Rattle.slh_core.specs.Suite.{seeded};
 ghost use Rattle.slh_core.specs.Steps.{IsFresh};
 ghost use Rattle.slh_trees.specs.ToySuite.{toy, toy_lengths, toy_digest_length};
 
@@ -44,6 +45,8 @@ impl HashSuite for Counting {
     ghost suite = { toy };
 
     ghost seed_of = { λ keyed. keyed.seed };
+
+    ghost keyed_suite = { λ keyed. seeded toy 1 keyed.seed };
 
     fn keyed(pk_seed: &NBytes<U1>) -> CountingKeyed {
         CountingKeyed {
@@ -114,6 +117,8 @@ impl HashSuite for Counting {
     ) {
         Toy::h_msg(rand, pk_seed, pk_root, head, ctx, msg, out);
     }
+
+    ghost keyed_suite_is = { λ _. refl };
 
     ghost lengths = { λ _. toy_lengths };
 

@@ -4,7 +4,6 @@ ghost use Rattle.std.specs.Prelude.{slice_index, EachIndex};
 ghost use Rattle.slh_core.specs.Bytes.{joined};
 ghost use Rattle.slh_core.specs.Costs.{auth_path_cost, fors_leaf_cost, fors_node_cost};
 ghost use Rattle.slh_core.specs.Costs.{fors_sign_cost, fors_pk_from_sig_cost, fors_pk_cost};
-ghost use Rattle.slh_core.specs.Suite.{seeded};
 ghost use Rattle.slh_trees.specs.Checking.{checked_fors_node};
 ghost use Rattle.slh_trees.specs.Checking.{fors_pk_from_sig as spec_fors_pk_from_sig};
 ghost use Rattle.slh_trees.specs.Fors.{fors_place, fors_secret, fors_node as spec_fors_node};
@@ -35,7 +34,7 @@ pub fn fors_sk_gen<P: ForsParams, L: Ledger>(
     steps: &mut Steps<L>,
 ) -> NBytes<P::N>
     requires { idx < P.K.USIZE * 2 ^ P.A.USIZE }
-    ensures value { let K = seeded P.suite P.N.USIZE (P.seed_of keyed.now) in
+    ensures value { let K = P.keyed_suite keyed.now in
         let a = adrs.now in
         result ≡ fors_secret K sk_seed.now a.tree_adrs_low a.key_pair_adrs idx }
     ensures cost { steps.new ≡ steps.old + 1 }
@@ -60,6 +59,7 @@ impl<P: ForsParams> Leaves<P> for ForsTree {
 
     ghost leaf_cost = { fors_leaf_cost };
 
+    #[inline]
     #[tactic(auto, unfolding(crate::specs::Fors::fors_leaf))]
     fn leaf<L: Ledger>(
         &self,
@@ -89,7 +89,7 @@ pub fn fors_node<P: ForsParams, L: Ledger>(
 ) -> NBytes<P::N>
     requires height { z ≤ P.A.USIZE }
     requires node { i < P.K.USIZE * 2 ^ (P.A.USIZE - z) }
-    ensures value { let K = seeded P.suite P.N.USIZE (P.seed_of keyed.now) in
+    ensures value { let K = P.keyed_suite keyed.now in
         let a = adrs.now in
         result ≡ spec_fors_node K sk_seed.now a.tree_adrs_low a.key_pair_adrs z i }
     ensures cost { steps.new ≡ steps.old + fors_node_cost z }
@@ -109,7 +109,7 @@ fn open_secret<P: ForsParams, L: Ledger>(
 )
     requires leaf { y < P.K.USIZE * 2 ^ P.A.USIZE }
     requires room { length out.old ≡ (1 + P.A.USIZE) * P.N.USIZE }
-    ensures value { let K = seeded P.suite P.N.USIZE (P.seed_of keyed.now) in
+    ensures value { let K = P.keyed_suite keyed.now in
         let a = adrs.now in
         out.new ≡ fors_secret K sk_seed.now a.tree_adrs_low a.key_pair_adrs y
         ++ fors_auth_path K sk_seed.now a.tree_adrs_low a.key_pair_adrs y P.A.USIZE }
@@ -143,7 +143,7 @@ pub fn fors_sign<P: ForsParams, L: Ledger>(
 )
     requires digest { length md.now ≡ P.MD.USIZE }
     requires room { length out.old ≡ P.K.USIZE * ((1 + P.A.USIZE) * P.N.USIZE) }
-    ensures value { let K = seeded P.suite P.N.USIZE (P.seed_of keyed.now) in
+    ensures value { let K = P.keyed_suite keyed.now in
         let t = adrs.now.tree_adrs_low in
         let l = adrs.now.key_pair_adrs in
         out.new ≡ fors_sig K sk_seed.now t l P.K.USIZE P.A.USIZE md.now }
@@ -169,7 +169,7 @@ fn open_all<P: ForsParams, L: Ledger>(
     requires count { length digits.now ≡ P.K.USIZE }
     requires below { EachIndex digits.now (λ i. slice_index digits.now i < 2 ^ P.A.USIZE) }
     requires room { length out.old ≡ P.K.USIZE * ((1 + P.A.USIZE) * P.N.USIZE) }
-    ensures value { let K = seeded P.suite P.N.USIZE (P.seed_of keyed.now) in
+    ensures value { let K = P.keyed_suite keyed.now in
         let t = adrs.now.tree_adrs_low in
         let l = adrs.now.key_pair_adrs in
         out.new ≡ opened_leaves K sk_seed.now t l P.K.USIZE P.A.USIZE digits.now }
@@ -206,7 +206,7 @@ pub fn fors_pk_from_sig<P: ForsParams, L: Ledger>(
 ) -> NBytes<P::N>
     requires digest { length md.now ≡ P.MD.USIZE }
     requires whole { length sig.now ≡ P.K.USIZE * ((1 + P.A.USIZE) * P.N.USIZE) }
-    ensures value { let K = seeded P.suite P.N.USIZE (P.seed_of keyed.now) in
+    ensures value { let K = P.keyed_suite keyed.now in
         let t = adrs.now.tree_adrs_low in
         let l = adrs.now.key_pair_adrs in
         result ≡ spec_fors_pk_from_sig K t l P.K.USIZE P.A.USIZE sig.now md.now }
@@ -236,7 +236,7 @@ fn climb_all<P: ForsParams, L: Ledger>(
     requires below { EachIndex digits.now (λ i. slice_index digits.now i < 2 ^ P.A.USIZE) }
     requires whole { length sig.now ≡ P.K.USIZE * ((1 + P.A.USIZE) * P.N.USIZE) }
     requires room { length out.old ≡ P.K.USIZE * P.N.USIZE }
-    ensures value { let K = seeded P.suite P.N.USIZE (P.seed_of keyed.now) in
+    ensures value { let K = P.keyed_suite keyed.now in
         let t = adrs.now.tree_adrs_low in
         let l = adrs.now.key_pair_adrs in
         let a = P.A.USIZE in
@@ -262,7 +262,7 @@ fn climb_opened<P: ForsParams, L: Ledger>(
 ) -> NBytes<P::N>
     requires leaf { y < P.K.USIZE * 2 ^ P.A.USIZE }
     requires whole { length opened.now ≡ (1 + P.A.USIZE) * P.N.USIZE }
-    ensures value { let K = seeded P.suite P.N.USIZE (P.seed_of keyed.now) in
+    ensures value { let K = P.keyed_suite keyed.now in
         let B = fors_place adrs.now.tree_adrs_low adrs.now.key_pair_adrs in
         let leaf = K.suite.f K.seed (node_bytes B 0 y) (take P.N.USIZE opened.now) in
         result ≡ spec_climb K B leaf y (drop P.N.USIZE opened.now) P.A.USIZE }
@@ -288,11 +288,11 @@ pub fn fors_sign_root<P: ForsParams, L: Ledger>(
 ) -> NBytes<P::N>
     requires digest { length md.now ≡ P.MD.USIZE }
     requires room { length out.old ≡ P.K.USIZE * ((1 + P.A.USIZE) * P.N.USIZE) }
-    ensures key { let K = seeded P.suite P.N.USIZE (P.seed_of keyed.now) in
+    ensures key { let K = P.keyed_suite keyed.now in
         let t = adrs.now.tree_adrs_low in
         let l = adrs.now.key_pair_adrs in
         result ≡ fors_pk K sk_seed.now t l P.K.USIZE P.A.USIZE }
-    ensures value { let K = seeded P.suite P.N.USIZE (P.seed_of keyed.now) in
+    ensures value { let K = P.keyed_suite keyed.now in
         let t = adrs.now.tree_adrs_low in
         let l = adrs.now.key_pair_adrs in
         out.new ≡ fors_sig K sk_seed.now t l P.K.USIZE P.A.USIZE md.now }

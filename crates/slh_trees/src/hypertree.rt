@@ -2,7 +2,6 @@
 ghost use Rattle.std.specs.Prelude.{◌≡◌, ◌↔◌, ◌+◌, ◌-◌, ◌*◌, ◌/◌, ◌%◌, ◌^◌, ◌≤◌, ◌<◌};
 ghost use Rattle.std.specs.Prelude.{length, IsTrue};
 ghost use Rattle.slh_core.specs.Costs.{ht_sign_cost, ht_verify_bound};
-ghost use Rattle.slh_core.specs.Suite.{seeded};
 ghost use Rattle.slh_trees.specs.Checking.{checked_message};
 ghost use Rattle.slh_trees.specs.Hypertree.{ht_sig, layer_size};
 
@@ -66,7 +65,7 @@ pub fn ht_sign<P: HypertreeParams, L: Ledger>(
     requires tree { idx_tree < 2 ^ (P.H.USIZE - P.HPrime.USIZE) }
     requires leaf { idx_leaf < 2 ^ P.HPrime.USIZE }
     requires room { length out.old ≡ P.D.USIZE * layer_size P.N.USIZE P.HPrime.USIZE }
-    ensures value { let K = seeded P.suite P.N.USIZE (P.seed_of keyed.now) in
+    ensures value { let K = P.keyed_suite keyed.now in
         let hp = P.HPrime.USIZE in
         out.new ≡ ht_sig K hp sk_seed.now idx_tree idx_leaf m.now P.D.USIZE }
     ensures cost { let hp = P.HPrime.USIZE in
@@ -98,7 +97,7 @@ pub(crate) fn ht_root<P: HypertreeParams, L: Ledger>(
     requires tree { idx_tree < 2 ^ (P.H.USIZE - P.HPrime.USIZE) }
     requires leaf { idx_leaf < 2 ^ P.HPrime.USIZE }
     requires whole { length sig.now ≡ P.D.USIZE * layer_size P.N.USIZE P.HPrime.USIZE }
-    ensures value { let K = seeded P.suite P.N.USIZE (P.seed_of keyed.now) in
+    ensures value { let K = P.keyed_suite keyed.now in
         let hp = P.HPrime.USIZE in
         result ≡ checked_message K hp idx_tree idx_leaf sig.now m.now P.D.USIZE }
     ensures bound { let hp = P.HPrime.USIZE in
@@ -132,7 +131,7 @@ pub fn ht_verify<P: HypertreeParams, L: Ledger>(
     requires tree { idx_tree < 2 ^ (P.H.USIZE - P.HPrime.USIZE) }
     requires leaf { idx_leaf < 2 ^ P.HPrime.USIZE }
     requires whole { length sig.now ≡ P.D.USIZE * layer_size P.N.USIZE P.HPrime.USIZE }
-    ensures value { let K = seeded P.suite P.N.USIZE (P.seed_of keyed.now) in
+    ensures value { let K = P.keyed_suite keyed.now in
         let hp = P.HPrime.USIZE in
         let root = checked_message K hp idx_tree idx_leaf sig.now m.now P.D.USIZE in
         IsTrue result ↔ (root ≡ pk_root.now) }

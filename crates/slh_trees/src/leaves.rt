@@ -1,6 +1,6 @@
 //! What stands at the leaves of trees.
 ghost use Rattle.std.specs.Prelude.{◌≡◌, ℕ, ◌+◌, ◌*◌, ◌^◌, ◌≤◌, ◌<◌, List};
-ghost use Rattle.slh_core.specs.Suite.{Seeded, seeded};
+ghost use Rattle.slh_core.specs.Suite.{Seeded};
 
 use crate::node::NodeAddress;
 use slh_core::nbytes::NBytes;
@@ -32,7 +32,7 @@ pub(crate) trait Leaves<P: WotsParams>: NodeAddress {
         steps: &mut Steps<L>,
     ) -> NBytes<P::N>
         requires { index < trees * 2 ^ height }
-        ensures value { let K = seeded P.suite P.N.USIZE (P.seed_of keyed.now) in
+        ensures value { let K = P.keyed_suite keyed.now in
             result ≡ leaf K sk_seed.now self.now index }
         ensures cost { steps.new ≡ steps.old + leaf_cost };
 

@@ -1,6 +1,5 @@
 //! The nodes of trees: their addresses, and the hash of two children.
 ghost use Rattle.std.specs.Prelude.{◌≡◌, ◌+◌, ◌^◌, ◌<◌};
-ghost use Rattle.slh_core.specs.Suite.{seeded};
 ghost use Rattle.slh_trees.specs.Fors.{fors_place};
 ghost use Rattle.slh_trees.specs.Merkle.{Place, node_bytes, sibling_of};
 ghost use Rattle.slh_trees.specs.Xmss.{tree_place};
@@ -69,7 +68,7 @@ pub(crate) fn parent<P: WotsParams, A: NodeAddress + Drop, L: Ledger>(
     adrs: &A,
     steps: &mut Steps<L>,
 ) -> NBytes<P::N>
-    ensures value { let K = seeded P.suite P.N.USIZE (P.seed_of keyed.now) in
+    ensures value { let K = P.keyed_suite keyed.now in
         let at = node_bytes (A.place adrs.now) height index in
         result ≡ K.suite.h K.seed at left.now right.now }
     ensures cost { steps.new ≡ steps.old + 1 }

@@ -1,5 +1,6 @@
 //! A suite of one byte, whose values can be computed by hand. It hides nothing.
-ghost use Rattle.std.specs.Prelude.{◌≡◌, ◌%◌, ◌<◌, ◌++◌, [], ◌∷◌, sum, slice_index, codes};
+ghost use Rattle.std.specs.Prelude.{◌≡◌, ◌%◌, ◌<◌, ◌++◌, [], ◌∷◌, sum, slice_index, codes, refl};
+ghost use Rattle.slh_core.specs.Suite.{seeded};
 ghost use Rattle.slh_trees.specs.ToySuite.{toy, toy_lengths, toy_digest_length};
 
 use hybrid_array::sizes::{U1, U2, U3, U4, U5, U21};
@@ -57,6 +58,8 @@ impl HashSuite for Toy {
     ghost suite = { toy };
 
     ghost seed_of = { λ keyed. keyed };
+
+    ghost keyed_suite = { λ keyed. seeded toy 1 keyed };
 
     fn keyed(pk_seed: &NBytes<U1>) -> NBytes<U1> {
         pk_seed.copy()
@@ -133,6 +136,8 @@ impl HashSuite for Toy {
         out[1] = ((first + 37) % 256) as u8;
         out[2] = ((first + 74) % 256) as u8;
     }
+
+    ghost keyed_suite_is = { λ _. refl };
 
     ghost lengths = { λ _. toy_lengths };
 

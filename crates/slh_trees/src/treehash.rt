@@ -1,8 +1,7 @@
 //! Trees in one pass over their leaves, with one finished node kept for each height.
-ghost use Rattle.std.specs.Prelude.{◌≡◌, ◌≢◌, ℕ, ◌+◌, ◌-◌, ◌*◌, ◌/◌, ◌%◌, ◌^◌, ◌≤◌, ◌<◌};
+ghost use Rattle.std.specs.Prelude.{◌≡◌, ◌≢◌, ℕ, ◌+◌, ◌-◌, ◌*◌, ◌^◌, ◌≤◌, ◌<◌};
 ghost use Rattle.std.specs.Prelude.{List, length, count_ones};
 ghost use Rattle.slh_core.specs.Costs.{node_cost, auth_path_cost};
-ghost use Rattle.slh_core.specs.Suite.{seeded};
 ghost use Rattle.slh_trees.specs.Merkle.{merkle, merkle_auth_path};
 ghost use Rattle.slh_trees.specs.Treehash.{stored_node, HoldsNodes};
 
@@ -54,7 +53,7 @@ fn push_leaf<P: WotsParams, A: NodeAddress + Drop, L: Ledger>(
 )
     requires few { q < 2 ^ 31 }
     requires room { length store.old ≡ TREEHASH_LEN }
-    ensures holds { let K = seeded P.suite P.N.USIZE (P.seed_of keyed.now) in
+    ensures holds { let K = P.keyed_suite keyed.now in
         (leaves : ℕ → List ℕ) (i z : ℕ)
         → index ≡ i * 2 ^ z + q
         → q < 2 ^ z
@@ -100,7 +99,7 @@ pub(crate) fn treehash<P: WotsParams, A: Leaves<P> + Drop, L: Ledger>(
 ) -> NBytes<P::N>
     requires height { z ≤ A.height }
     requires node { i < A.trees * 2 ^ (A.height - z) }
-    ensures value { let K = seeded P.suite P.N.USIZE (P.seed_of keyed.now) in
+    ensures value { let K = P.keyed_suite keyed.now in
         let leaves = A.leaf K sk_seed.now adrs.now in
         result ≡ merkle K (A.place adrs.now) leaves z i }
     ensures cost { steps.new ≡ steps.old + node_cost A.leaf_cost z }
@@ -130,7 +129,7 @@ pub(crate) fn write_auth_path<P: WotsParams, A: Leaves<P> + Drop, L: Ledger>(
     requires leaf { y < A.trees * 2 ^ A.height }
     requires height { height ≡ A.height }
     requires room { length out.old ≡ height * P.N.USIZE }
-    ensures value { let K = seeded P.suite P.N.USIZE (P.seed_of keyed.now) in
+    ensures value { let K = P.keyed_suite keyed.now in
         let leaves = A.leaf K sk_seed.now adrs.now in
         out.new ≡ merkle_auth_path K (A.place adrs.now) leaves y height }
     ensures cost { steps.new ≡ steps.old + auth_path_cost A.leaf_cost height }

@@ -1,11 +1,10 @@
 //! XMSS: the trees of a layer (FIPS 205, section 6).
-ghost use Rattle.std.specs.Prelude.{◌≡◌, ◌+◌, ◌-◌, ◌*◌, ◌^◌, ◌≤◌, ◌<◌, ◌++◌, length, sum};
+ghost use Rattle.std.specs.Prelude.{◌≡◌, ◌+◌, ◌-◌, ◌*◌, ◌^◌, ◌≤◌, ◌<◌, length};
 ghost use Rattle.slh_core.specs.Costs.{xmss_node_cost, xmss_sign_cost};
 ghost use Rattle.slh_core.specs.Costs.{xmss_pk_from_sig_cost, xmss_pk_from_sig_bound};
 ghost use Rattle.slh_core.specs.Digits.{wots_digits};
-ghost use Rattle.slh_core.specs.Suite.{seeded};
 ghost use Rattle.slh_trees.specs.Checking.{checked_node};
-ghost use Rattle.slh_trees.specs.Xmss.{xmss_node as spec_xmss_node, auth_path, xmss_sig};
+ghost use Rattle.slh_trees.specs.Xmss.{xmss_node as spec_xmss_node, xmss_sig};
 
 use crate::climb::climb_path;
 use crate::laws::path_leads_to_root;
@@ -77,7 +76,7 @@ pub fn xmss_node<P: XmssParams, L: Ledger>(
 ) -> NBytes<P::N>
     requires height { height ≤ P.HPrime.USIZE }
     requires node { node < 2 ^ (P.HPrime.USIZE - height) }
-    ensures value { let K = seeded P.suite P.N.USIZE (P.seed_of keyed.now) in
+    ensures value { let K = P.keyed_suite keyed.now in
         let a = adrs.now in
         result ≡ spec_xmss_node K sk_seed.now a.layer_adrs a.tree_adrs_low height node }
     ensures cost { steps.new ≡ steps.old + xmss_node_cost P.WotsSigLen.USIZE height }
@@ -98,7 +97,7 @@ pub fn xmss_sign<P: XmssParams, L: Ledger>(
 )
     requires idx { idx < 2 ^ P.HPrime.USIZE }
     requires room { length out.old ≡ (P.WotsSigLen.USIZE + P.HPrime.USIZE) * P.N.USIZE }
-    ensures value { let K = seeded P.suite P.N.USIZE (P.seed_of keyed.now) in
+    ensures value { let K = P.keyed_suite keyed.now in
         let a = adrs.now in
         let hp = P.HPrime.USIZE in
         out.new ≡ xmss_sig K sk_seed.now a.layer_adrs a.tree_adrs_low idx m.now hp }
@@ -126,7 +125,7 @@ pub fn xmss_pk_from_sig<P: XmssParams, L: Ledger>(
 ) -> NBytes<P::N>
     requires idx { idx < 2 ^ P.HPrime.USIZE }
     requires whole { length sig.now ≡ (P.WotsSigLen.USIZE + P.HPrime.USIZE) * P.N.USIZE }
-    ensures value { let K = seeded P.suite P.N.USIZE (P.seed_of keyed.now) in
+    ensures value { let K = P.keyed_suite keyed.now in
         let a = adrs.now in
         let hp = P.HPrime.USIZE in
         result ≡ checked_node K a.layer_adrs a.tree_adrs_low idx sig.now m.now hp }
@@ -155,10 +154,10 @@ pub fn xmss_sign_root<P: XmssParams, L: Ledger>(
 ) -> NBytes<P::N>
     requires idx { idx < 2 ^ P.HPrime.USIZE }
     requires room { length out.old ≡ (P.WotsSigLen.USIZE + P.HPrime.USIZE) * P.N.USIZE }
-    ensures root { let K = seeded P.suite P.N.USIZE (P.seed_of keyed.now) in
+    ensures root { let K = P.keyed_suite keyed.now in
         let a = adrs.now in
         result ≡ spec_xmss_node K sk_seed.now a.layer_adrs a.tree_adrs_low P.HPrime.USIZE 0 }
-    ensures value { let K = seeded P.suite P.N.USIZE (P.seed_of keyed.now) in
+    ensures value { let K = P.keyed_suite keyed.now in
         let a = adrs.now in
         let hp = P.HPrime.USIZE in
         out.new ≡ xmss_sig K sk_seed.now a.layer_adrs a.tree_adrs_low idx m.now hp }

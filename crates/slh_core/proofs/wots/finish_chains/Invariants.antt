@@ -2,13 +2,12 @@ use Rattle.std.proofs.Common.{◌≡◌, ◌+◌, ◌*◌, take}
 use Rattle.std.specs.Prelude.{sum}
 use Rattle.slh_core.specs.Bytes.{joined}
 use Rattle.slh_core.specs.Wots.{checked_chain}
-use Rattle.slh_core.specs.Suite.{seeded}
 use Rattle.slh_core.proofs.wots.finish_chains.Given as goal
 
 -- the ends so far, and their steps
 abbrev pub invariant-loop-c : goal.invariant-loop-c
 invariant-loop-c g l =
-    let K = seeded g.P.HashSuite.suite g.P.N.ArraySize.USIZE (g.P.HashSuite.seed_of l.keyed) in
+    let K = g.P.HashSuite.keyed_suite l.keyed in
     let a = l.adrs in
     record {
       ends : take (l.c * l.n) l.out

@@ -1,14 +1,13 @@
 use Rattle.std.proofs.Common.{◌≡◌, ◌+◌, ◌*◌, take, length}
 use Rattle.slh_core.specs.Bytes.{joined}
 use Rattle.slh_core.specs.Wots.{chain_value}
-use Rattle.slh_core.specs.Suite.{seeded}
 use Rattle.slh_core.specs.declared.params.TheConstants.{MAX_ENDS_LEN}
 use Rattle.slh_core.proofs.wots.wots_pk_gen.Given as goal
 
 -- the ends so far, and their steps
 abbrev pub invariant-loop-c : goal.invariant-loop-c
 invariant-loop-c g l =
-    let K = seeded g.P.HashSuite.suite g.P.N.ArraySize.USIZE (g.P.HashSuite.seed_of l.keyed) in
+    let K = g.P.HashSuite.keyed_suite l.keyed in
     let a = l.adrs in
     record {
       ends : take (l.c * l.n) l.ends

@@ -2,14 +2,13 @@ use Rattle.std.proofs.Common.{arith, ◌<◌, ◌++◌, refl}
 use Rattle.std.specs.Prelude.{slice_index}
 use Rattle.slh_core.specs.Bytes.{joined}
 use Rattle.slh_core.specs.Wots.{chain_value}
-use Rattle.slh_core.specs.Suite.{seeded}
 use Rattle.slh_core.proofs.Chains.{chain-chain_value}
 use Rattle.slh_core.proofs.Joins.{joined_more}
 use Rattle.slh_core.proofs.wots.write_both.Goals as goal
 
 pub loop-c-preserved : goal.loop-c-preserved
 loop-c-preserved g c =
-    let K = seeded g.P.HashSuite.suite g.P.N.ArraySize.USIZE (g.P.HashSuite.seed_of c.args.keyed.now) in
+    let K = g.P.HashSuite.keyed_suite c.args.keyed.now in
     let own = chain_value K c.args.sk_seed.now c.args.adrs.now.layer_adrs c.args.adrs.now.tree_adrs_low c.args.adrs.now.key_pair_adrs in
     let at = c.loop-c.c in
     let i = c.loop-c.invariant in

@@ -1,12 +1,11 @@
 use Rattle.std.proofs.Common.{◌≡◌, ◌+◌}
-use Rattle.slh_core.specs.Suite.{seeded}
 use Rattle.slh_trees.specs.Merkle.{climb}
 use Rattle.slh_trees.proofs.climb.climb_path.Given as goal
 
 -- the node above the leaf, and its steps
 abbrev pub invariant-loop-z : goal.invariant-loop-z
 invariant-loop-z g l =
-    let K = seeded g.P.HashSuite.suite g.P.N.ArraySize.USIZE (g.P.HashSuite.seed_of l.keyed) in
+    let K = g.P.HashSuite.keyed_suite l.keyed in
     record {
       value : l.node ≡ climb K (g.A.NodeAddress.place l.adrs) l.leaf l.idx l.path l.z;
       cost : l.steps ≡ l.initial.steps + l.z;

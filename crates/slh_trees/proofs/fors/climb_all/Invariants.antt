@@ -1,13 +1,12 @@
 use Rattle.std.proofs.Common.{◌≡◌, ◌+◌, ◌*◌, take}
 use Rattle.slh_core.specs.Bytes.{joined}
-use Rattle.slh_core.specs.Suite.{seeded}
 use Rattle.slh_trees.specs.Checking.{checked_fors_node}
 use Rattle.slh_trees.proofs.fors.climb_all.Given as goal
 
 -- the roots so far
 abbrev pub invariant-loop-i : goal.invariant-loop-i
 invariant-loop-i g l =
-    let K = seeded g.P.HashSuite.suite g.P.N.ArraySize.USIZE (g.P.HashSuite.seed_of l.keyed) in
+    let K = g.P.HashSuite.keyed_suite l.keyed in
     let a = g.P.A.ArraySize.USIZE in
     record {
       values : take (l.i * l.n) l.out

@@ -1,7 +1,6 @@
 use Rattle.std.proofs.Common.{arith, ◌≡◌, ◌+◌, ◌-◌, ◌*◌, ◌≤◌, ◌++◌, length, refl}
 use Rattle.std.proofs.lemmas.Slice.{take-put_mid}
 use Rattle.slh_core.specs.Bytes.{joined}
-use Rattle.slh_core.specs.Suite.{seeded}
 use Rattle.slh_core.proofs.Joins.{joined_more}
 use Rattle.slh_trees.specs.Fors.{fors_opened}
 use Rattle.slh_core.specs.Costs.{auth_path_cost, fors_leaf_cost}
@@ -12,7 +11,7 @@ use Rattle.slh_trees.proofs.fors.open_all.Goals as goal
 pub loop-i-preserved : goal.loop-i-preserved
 unfolding fors_opened
 loop-i-preserved g c =
-    let K = seeded g.P.HashSuite.suite g.P.N.ArraySize.USIZE (g.P.HashSuite.seed_of c.args.keyed.now) in
+    let K = g.P.HashSuite.keyed_suite c.args.keyed.now in
     let opened = fors_opened K c.args.sk_seed.now c.args.adrs.now.tree_adrs_low c.args.adrs.now.key_pair_adrs g.P.A.ArraySize.USIZE c.args.digits.now in
     let i = c.loop-i.invariant in
     let size = c.opened_len-size.result in

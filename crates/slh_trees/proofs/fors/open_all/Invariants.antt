@@ -1,14 +1,13 @@
-use Rattle.std.proofs.Common.{◌≡◌, ◌+◌, ◌*◌, ◌^◌, take}
+use Rattle.std.proofs.Common.{◌≡◌, ◌+◌, ◌*◌, take}
 use Rattle.slh_core.specs.Bytes.{joined}
 use Rattle.slh_core.specs.Costs.{fors_sign_cost}
-use Rattle.slh_core.specs.Suite.{seeded}
 use Rattle.slh_trees.specs.Fors.{fors_opened}
 use Rattle.slh_trees.proofs.fors.open_all.Given as goal
 
 -- the trees so far
 abbrev pub invariant-loop-i : goal.invariant-loop-i
 invariant-loop-i g l =
-    let K = seeded g.P.HashSuite.suite g.P.N.ArraySize.USIZE (g.P.HashSuite.seed_of l.keyed) in
+    let K = g.P.HashSuite.keyed_suite l.keyed in
     let a = g.P.A.ArraySize.USIZE in
     record {
       values : take (l.i * l.size) l.out

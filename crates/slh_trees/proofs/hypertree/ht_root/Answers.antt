@@ -1,6 +1,5 @@
-use Rattle.std.proofs.Common.{arith, refl}
+use Rattle.std.proofs.Common.{arith, ◌≡◌, ap, refl}
 use Rattle.std.proofs.lemmas.Grind.{common_steps}
-use Rattle.slh_core.specs.Suite.{seeded}
 use Rattle.slh_trees.specs.Checking.{checked_message}
 use Rattle.slh_trees.proofs.Layers.{tree_at-zero, tree_at-more, leaf_at-more, checked_message-more}
 use Rattle.slh_trees.proofs.hypertree.ht_root.Goals as goal
@@ -18,13 +17,14 @@ loop-j-init g c =
 
 pub loop-j-preserved : goal.loop-j-preserved
 loop-j-preserved g c =
-    let K = seeded g.P.HashSuite.suite g.P.N.ArraySize.USIZE (g.P.HashSuite.seed_of c.args.keyed.now) in
+    let K = g.P.HashSuite.keyed_suite c.args.keyed.now in
     let hp = g.P.HPrime.ArraySize.USIZE in
+    let size : K.n ≡ g.P.N.ArraySize.USIZE = ap (λ k. k.n) (g.met.P.HashSuite.keyed_suite_is c.args.keyed.now) in
     let i = c.loop-j.invariant in
     record {
       tree = rw (c.next_place.ensures.tree, c.USIZE-height.ensures, i.tree) (tree_at-more _ _ _);
       leaf = rw (c.next_place.ensures.leaf, c.USIZE-height.ensures, i.tree) (leaf_at-more hp c.args.idx_tree c.args.idx_leaf c.loop-j.j);
       below = rw (← c.USIZE-height.ensures) c.next_place.ensures.below;
-      message = rw (c.xmss_pk_from_sig-message.ensures.value, c.tree_adrs_of-at.ensures, i.tree, i.leaf, i.message, c.layer_len-size.ensures.value) (checked_message-more K hp c.args.idx_tree c.args.idx_leaf c.args.sig.now c.args.m.now c.loop-j.j);
+      message = rw (c.xmss_pk_from_sig-message.ensures.value, c.tree_adrs_of-at.ensures, i.tree, i.leaf, i.message, c.layer_len-size.ensures.value, ← size) (checked_message-more K hp c.args.idx_tree c.args.idx_leaf c.args.sig.now c.args.m.now c.loop-j.j);
       cost = grind (arith, common_steps);
     }

@@ -1,6 +1,5 @@
-use Rattle.std.proofs.Common.{◌≡◌, ◌+◌, ◌*◌, ◌^◌, ◌<◌, ◌≤◌}
+use Rattle.std.proofs.Common.{◌≡◌, ◌+◌, ◌^◌, ◌<◌, ◌≤◌}
 use Rattle.slh_core.specs.Costs.{ht_verify_bound}
-use Rattle.slh_core.specs.Suite.{seeded}
 use Rattle.slh_trees.specs.Checking.{checked_message}
 use Rattle.slh_trees.specs.Hypertree.{leaf_at, tree_at}
 use Rattle.slh_trees.proofs.hypertree.ht_root.Given as goal
@@ -8,7 +7,7 @@ use Rattle.slh_trees.proofs.hypertree.ht_root.Given as goal
 -- the root so far, and the place of the next layer
 abbrev pub invariant-loop-j : goal.invariant-loop-j
 invariant-loop-j g l =
-    let K = seeded g.P.HashSuite.suite g.P.N.ArraySize.USIZE (g.P.HashSuite.seed_of l.keyed) in
+    let K = g.P.HashSuite.keyed_suite l.keyed in
     let hp = g.P.HPrime.ArraySize.USIZE in
     record {
       tree : l.tree ≡ tree_at hp l.idx_tree l.j;

@@ -1,7 +1,6 @@
 use Rattle.std.proofs.Common.{arith, ◌≡◌, ◌+◌, ◌-◌, ◌*◌, ◌≤◌, [], length, refl}
 use Rattle.std.proofs.lemmas.Slice.{take-put_mid}
 use Rattle.slh_core.specs.Bytes.{joined}
-use Rattle.slh_core.specs.Suite.{seeded}
 use Rattle.slh_core.proofs.Joins.{joined_more}
 use Rattle.slh_trees.specs.Hypertree.{layer_signature}
 use Rattle.slh_core.specs.Costs.{xmss_node_cost}
@@ -25,7 +24,7 @@ loop-j-init g c =
 pub loop-j-preserved : goal.loop-j-preserved
 unfolding layer_signature
 loop-j-preserved g c =
-    let K = seeded g.P.HashSuite.suite g.P.N.ArraySize.USIZE (g.P.HashSuite.seed_of c.args.keyed.now) in
+    let K = g.P.HashSuite.keyed_suite c.args.keyed.now in
     let hp = g.P.HPrime.ArraySize.USIZE in
     let i = c.loop-j.invariant in
     let size = c.layer_len-size.result in

@@ -1,14 +1,13 @@
 use Rattle.std.proofs.Common.{◌≡◌, ◌+◌, ◌*◌, ◌^◌, ◌<◌, take}
 use Rattle.slh_core.specs.Bytes.{joined}
 use Rattle.slh_core.specs.Costs.{ht_sign_cost}
-use Rattle.slh_core.specs.Suite.{seeded}
 use Rattle.slh_trees.specs.Hypertree.{layer_signature, layer_message, leaf_at, tree_at}
 use Rattle.slh_trees.proofs.hypertree.ht_sign.Given as goal
 
 -- the layers so far, and the place of the next one
 abbrev pub invariant-loop-j : goal.invariant-loop-j
 invariant-loop-j g l =
-    let K = seeded g.P.HashSuite.suite g.P.N.ArraySize.USIZE (g.P.HashSuite.seed_of l.keyed) in
+    let K = g.P.HashSuite.keyed_suite l.keyed in
     let hp = g.P.HPrime.ArraySize.USIZE in
     record {
       tree : l.tree ≡ tree_at hp l.idx_tree l.j;

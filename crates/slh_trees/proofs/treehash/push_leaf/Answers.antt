@@ -1,6 +1,5 @@
 use Rattle.std.proofs.Common.{rules, arith, ◌≡◌, ◌+◌, ◌-◌, ◌*◌, ◌/◌, ◌%◌, ◌^◌, ◌<◌, ◌≤◌, ap, ◌∙◌, refl}
 use Rattle.std.specs.Prelude.{count_ones}
-use Rattle.slh_core.specs.Suite.{seeded}
 use Rattle.slh_trees.specs.Merkle.{merkle}
 use Rattle.slh_trees.specs.Treehash.{HoldsNodes}
 use Rattle.slh_trees.proofs.Powers.{half}
@@ -39,7 +38,7 @@ store_node-requires g c = record {
 pub loop-bits-preserved : goal.loop-bits-preserved
 unfolding HoldsNodes
 loop-bits-preserved g c =
-    let K = seeded g.P.HashSuite.suite g.P.N.ArraySize.USIZE (g.P.HashSuite.seed_of c.args.keyed.now) in
+    let K = g.P.HashSuite.keyed_suite c.args.keyed.now in
     let B = g.A.NodeAddress.place c.args.adrs.now in
     let i = c.loop-bits.invariant in
     let h = c.loop-bits.h in
@@ -62,7 +61,7 @@ loop-bits-preserved g c =
 
 pub returns-clause-holds : goal.returns-clause-holds
 returns-clause-holds g c = λ leaves at z e below is holds.
-    let K = seeded g.P.HashSuite.suite g.P.N.ArraySize.USIZE (g.P.HashSuite.seed_of c.args.keyed.now) in
+    let K = g.P.HashSuite.keyed_suite c.args.keyed.now in
     let B = g.A.NodeAddress.place c.args.adrs.now in
     let i = c.loop-bits.invariant in
     let h = c.loop-bits.h in

@@ -1,6 +1,5 @@
 use Rattle.std.proofs.Common.{◌≡◌, ℕ, ◌+◌, ◌*◌, ◌/◌, ◌^◌, ◌<◌, List}
 use Rattle.std.specs.Prelude.{count_ones}
-use Rattle.slh_core.specs.Suite.{seeded}
 use Rattle.slh_trees.specs.Merkle.{merkle}
 use Rattle.slh_trees.specs.Treehash.{HoldsNodes}
 use Rattle.slh_trees.proofs.treehash.push_leaf.Given as goal
@@ -9,7 +8,7 @@ use Rattle.slh_trees.proofs.treehash.push_leaf.Given as goal
 abbrev pub invariant-loop-bits : goal.invariant-loop-bits
 invariant-loop-bits g l =
     let n = g.P.N.ArraySize.USIZE in
-    let K = seeded g.P.HashSuite.suite n (g.P.HashSuite.seed_of l.keyed) in
+    let K = g.P.HashSuite.keyed_suite l.keyed in
     let B = g.A.NodeAddress.place l.adrs in
     record {
       bits : l.bits ≡ l.q / 2 ^ l.h;

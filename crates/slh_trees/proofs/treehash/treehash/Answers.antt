@@ -2,7 +2,6 @@ use Rattle.std.proofs.Common.{rules, arith, ◌≡◌, ◌+◌, ◌*◌, ◌^◌
 use Rattle.std.specs.Prelude.{count_ones}
 use Rattle.std.proofs.lemmas.Nat.{one_shl}
 use Rattle.slh_core.specs.Costs.{node_cost}
-use Rattle.slh_core.specs.Suite.{seeded}
 use Rattle.slh_trees.specs.Merkle.{merkle}
 use Rattle.slh_trees.proofs.CostSteps.{node_cost-whole}
 use Rattle.slh_trees.proofs.TreehashSteps.{HoldsNodes-none, HoldsNodes-all, leaf_below_of, ones-zero, ones-pow}
@@ -26,7 +25,7 @@ leaf-leaf-requires g c =
 
 pub loop-q-preserved : goal.loop-q-preserved
 loop-q-preserved g c =
-    let K = seeded g.P.HashSuite.suite g.P.N.ArraySize.USIZE (g.P.HashSuite.seed_of c.args.keyed.now) in
+    let K = g.P.HashSuite.keyed_suite c.args.keyed.now in
     let leaves = g.A.Leaves.leaf K c.args.sk_seed.now c.args.adrs.now in
     let below : c.loop-q.q < 2 ^ c.args.z = omega (arith, one_shl c.args.z 32 (omega arith)) in
     record {
@@ -37,7 +36,7 @@ loop-q-preserved g c =
 
 pub returns-clause-value : goal.returns-clause-value
 returns-clause-value g c =
-    let K = seeded g.P.HashSuite.suite g.P.N.ArraySize.USIZE (g.P.HashSuite.seed_of c.args.keyed.now) in
+    let K = g.P.HashSuite.keyed_suite c.args.keyed.now in
     let nodes = merkle K (g.A.NodeAddress.place c.args.adrs.now) (g.A.Leaves.leaf K c.args.sk_seed.now c.args.adrs.now) in
     let all : c.loop-q.q ≡ 2 ^ c.args.z = omega (arith, one_shl c.args.z 32 (omega arith)) in
     rw c.node_of.ensures (HoldsNodes-all g.P.N.ArraySize.USIZE nodes c.args.z c.args.i c.loop-q.q c.loop-q.store all c.loop-q.invariant.holds)

@@ -1,6 +1,5 @@
 use Rattle.std.proofs.Common.{◌≡◌, ◌+◌, ◌*◌, length}
 use Rattle.std.specs.Prelude.{count_ones}
-use Rattle.slh_core.specs.Suite.{seeded}
 use Rattle.slh_trees.specs.Merkle.{merkle}
 use Rattle.slh_trees.specs.Treehash.{HoldsNodes}
 use Rattle.slh_trees.specs.declared.treehash.TheConstants.{TREEHASH_LEN}
@@ -10,7 +9,7 @@ use Rattle.slh_trees.proofs.treehash.treehash.Given as goal
 abbrev pub invariant-loop-q : goal.invariant-loop-q
 invariant-loop-q g l =
     let n = g.P.N.ArraySize.USIZE in
-    let K = seeded g.P.HashSuite.suite n (g.P.HashSuite.seed_of l.keyed) in
+    let K = g.P.HashSuite.keyed_suite l.keyed in
     record {
       room : length l.store ≡ TREEHASH_LEN;
       holds : HoldsNodes n (merkle K (g.A.NodeAddress.place l.adrs) (g.A.Leaves.leaf K l.sk_seed l.adrs)) l.z l.i l.q l.store;

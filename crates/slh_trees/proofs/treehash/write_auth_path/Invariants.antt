@@ -1,14 +1,13 @@
 use Rattle.std.proofs.Common.{◌≡◌, ◌+◌, ◌*◌, ◌/◌, ◌^◌, take}
 use Rattle.slh_core.specs.Bytes.{joined}
 use Rattle.slh_core.specs.Costs.{auth_path_cost}
-use Rattle.slh_core.specs.Suite.{seeded}
 use Rattle.slh_trees.specs.Merkle.{merkle, sibling_of}
 use Rattle.slh_trees.proofs.treehash.write_auth_path.Given as goal
 
 -- the siblings so far, and their steps
 abbrev pub invariant-loop-z : goal.invariant-loop-z
 invariant-loop-z g l =
-    let K = seeded g.P.HashSuite.suite g.P.N.ArraySize.USIZE (g.P.HashSuite.seed_of l.keyed) in
+    let K = g.P.HashSuite.keyed_suite l.keyed in
     let nodes = merkle K (g.A.NodeAddress.place l.adrs) (g.A.Leaves.leaf K l.sk_seed l.adrs) in
     record {
       values : take (l.z * l.n) l.out ≡ joined (λ z. nodes z (sibling_of (l.y / 2 ^ z))) l.z;
