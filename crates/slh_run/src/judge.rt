@@ -76,7 +76,7 @@ fn sign<P: ParameterSet, L: Ledger>(
     let key = SigningKey::<P>::try_from(key)?;
     SigningKey::<P>::check_sign(msg, ctx, randomizer)?;
     let mut bytes = ByteString::zeroed(alloc, P::SigLen::USIZE)?;
-    key.slh_sign_counted(msg, ctx, randomizer, bytes.as_mut_slice(), steps)?;
+    key.slh_sign_checked(msg, ctx, randomizer, bytes.as_mut_slice(), steps);
     Ok(Answer::Signature(bytes))
 }
 

@@ -19,7 +19,7 @@ pub use job::{Answer, Error, Job};
 pub use judge::run;
 pub use line_serve::{
     ByteString, Failed, MemSink, MemSource, NullSink, QuietSource, Replier, Sink, Source, Words,
-    count_fields, field, hex_field, serve_lines, write_all,
+    count_fields, cut_fields, field, hex_field, serve_lines, write_all,
 };
 pub use program::serve;
 pub use set::Set;
