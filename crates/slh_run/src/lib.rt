@@ -11,6 +11,8 @@ mod reply;
 mod request;
 mod set;
 #[cfg(test)]
+mod set_tests;
+#[cfg(test)]
 mod tests;
 
 pub use job::{Answer, Error, Job};

@@ -151,7 +151,7 @@ fn lines_without_a_set(rt: HostRuntime) -> Result<(), Fail> {
         (b"- keygen 00 00 00\n", b"error set\n"),
         (b"x make 0g\n", b"error set\n"),
         (b"SLH-DSA-SHA2-128F keygen 00 00 00\n", b"error set\n"),
-        (b"SLH-DSA-SHA2-192f keygen 00 00 00\n", b"error set\n"),
+        (b"SLH-DSA-SHA2-512f keygen 00 00 00\n", b"error set\n"),
         (b"x\n\n\nx", b"error set\nerror set\n"),
     ] {
         let (status, text) = served(rt.alloc(), line)?;
