@@ -1,6 +1,7 @@
 -- HMAC with SHA-256 (RFC 2104), as a function from a key and a message, both lists of bytes, to a
 -- list of 32 bytes.
-use Rattle.std.specs.Prelude.{ℕ, ◌-◌, List, ◌++◌, bit_xor, length, map, nat_lt, replicate, if◌then◌else◌}
+use Rattle.std.specs.Prelude.{ℕ, ◌-◌, List, ◌++◌, bit_xor, length, map, nat_lt, replicate}
+use Rattle.std.specs.Prelude.{if◌then◌else◌}
 use Rattle.hmac_sha256.specs.Sha256.{sha256}
 
 -- the key itself, or the digest of one that is longer than a block (RFC 2104, section 2)

@@ -1,6 +1,8 @@
 -- SHA-256 (FIPS 180-4), as a function from a list of bytes to a list of 32 bytes. A word is a
 -- number below 2 ^ 32. Section numbers are the standard's.
-use Rattle.std.specs.Prelude.{ℕ, zero, suc, ◌+◌, ◌-◌, ◌*◌, ◌/◌, ◌%◌, ◌^◌, List, [], ◌∷◌, ◌++◌, length, take, drop, replicate, bit_and, bit_xor, nat_lt, slice_index, fold, zip, flat_map, if◌then◌else◌}
+use Rattle.std.specs.Prelude.{ℕ, zero, suc, ◌+◌, ◌-◌, ◌*◌, ◌/◌, ◌%◌, ◌^◌, List, [], ◌∷◌, ◌++◌}
+use Rattle.std.specs.Prelude.{length, take, drop, replicate, bit_and, bit_xor, nat_lt, slice_index}
+use Rattle.std.specs.Prelude.{fold, zip, flat_map, if◌then◌else◌}
 use Rattle.std.specs.Int.{w32, w64, bit_not, rotate_right, to_be_bytes}
 
 -- the sum of two words modulo 2 ^ 32 (3.2)

@@ -15,15 +15,6 @@ pub on_any_err : {T E : Type 0} {P : Type 0} (r : Result T E) → P → OnErr r 
 on_any_err (Ok x) p = tt
 on_any_err (Err e) p = p
 
--- a front of a text is one of a longer text
-pub front_in : (a b : Option (List ℕ)) (waiting text whole more : List ℕ) → HoldsFront a b waiting text → whole ≡ text ++ more → HoldsFront a b waiting whole
-front_in a b waiting text whole more f is = record {
-  front = f.front;
-  rest = f.rest ++ more;
-  holds = f.holds;
-  split = is ∙ ap (λ (l : List ℕ). l ++ more) f.split ∙ append_assoc f.front f.rest more;
-}
-
 pub whole_front : (a b : Option (List ℕ)) (waiting text whole more : List ℕ) → Holds a b waiting text → whole ≡ text ++ more → HoldsFront a b waiting whole
 whole_front a b waiting text whole more h is = record { front = text; rest = more; holds = h; split = is }
 
@@ -70,18 +61,10 @@ module _ (reply : List ℕ → List ℕ) where
         rw (is, replies_to-line p bytes none) (more_waits start taken waiting _ (reply_to reply (unfinished p ++ bytes)) at.replied);
   }
 
-  -- nothing more is held
-  pub stopped : (p bytes : List ℕ) (start taken : Option (List ℕ)) (waiting : List ℕ) (old : Pending) → Answered reply p start taken waiting old → HoldsFront start taken waiting (replies_to reply (closed_lines (p ++ bytes)))
-  stopped p bytes start taken waiting old at = whole_front start taken waiting _ _ _ at.replied (replies_to-more p bytes)
-
   -- the last piece counts, as it isn't empty
   pub replies_to-last : (p : List ℕ) → (length (unfinished p) == 0) ≡ false → replies_to reply (lines p) ≡ replies_to reply (closed_lines p) ++ reply_to reply (unfinished p)
   replies_to-last p some =
       ap (λ (t : Bool). replies_to reply (closed_lines p ++ (if t then [] else unfinished p ∷ []))) some ∙ replies_to-push (closed_lines p) (unfinished p)
-
-  -- from where the engine stands nothing is to be done
-  pub on_from : (taken : Option (List ℕ)) (waiting : List ℕ) (pending : Pending) → GoesOn reply taken waiting pending taken waiting pending []
-  on_from taken waiting pending p start at = subst (λ (l : List ℕ). Answered reply l start taken waiting pending) (sym (append-nil p)) at
 
   -- one step after another
   pub on_then : (a b c : Option (List ℕ)) (v w x : List ℕ) (old mid new : Pending) (xs ys whole : List ℕ) → GoesOn reply a v old b w mid xs → GoesOn reply b w mid c x new ys → whole ≡ xs ++ ys → GoesOn reply a v old c x new whole

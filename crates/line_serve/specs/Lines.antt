@@ -1,5 +1,6 @@
 -- Lines of bytes, and the replies to them.
-use Rattle.std.specs.Prelude.{◌≡◌, ◌==◌, if◌then◌else◌, nat_lt, ℕ, ◌^◌, List, [], ◌∷◌, ◌++◌, length, codes, false}
+use Rattle.std.specs.Prelude.{◌≡◌, ◌==◌, if◌then◌else◌, nat_lt, ℕ, ◌^◌, List, [], ◌∷◌, ◌++◌, length}
+use Rattle.std.specs.Prelude.{codes, false}
 use Rattle.std.specs.List.{slice_split, flat_map, All}
 
 -- LF
@@ -42,7 +43,8 @@ lines b = closed_lines b ++ (if length (unfinished b) == 0 then [] else unfinish
 
 -- the lines whose reply is known before more has come: a last piece that is too long already counts
 abbrev pub ended_lines : List ℕ → List (List ℕ)
-ended_lines b = closed_lines b ++ (if nat_lt line_limit (length (unfinished b)) then unfinished b ∷ [] else [])
+ended_lines b =
+    closed_lines b ++ (if nat_lt line_limit (length (unfinished b)) then unfinished b ∷ [] else [])
 
 -- the reply to a line that is too long: "error line" and a line feed
 abbrev pub too_long : List ℕ

@@ -1,5 +1,6 @@
 //! Answers lines as their bytes come in.
-ghost use Rattle.std.specs.Prelude.{◌≡◌, ◌==◌, ◌^◌, ◌≤◌, ◌++◌, ◌∷◌, [], Option, List, ℕ, length, position, OnOk, OnErr};
+ghost use Rattle.std.specs.Prelude.{◌≡◌, ◌==◌, ◌^◌, ◌≤◌, ◌++◌, ◌∷◌, [], Option, List, ℕ, length};
+ghost use Rattle.std.specs.Prelude.{position, OnOk, OnErr};
 ghost use Rattle.line_serve.specs.Engine.{StandsFor, Takes, GoesOn, Stops, Answered, HaltsFor};
 ghost use Rattle.line_serve.specs.Lines.{HasNoLineFeed, line_feed, reply_to, replies_to, lines};
 
@@ -92,8 +93,8 @@ fn collect<R: Replier, K: Sink>(
     Ok(())
 }
 
-/// Takes a piece of the input, answers each line that it ends, and writes the replies. Where there is no
-/// memory for a reply, those before it are written all the same.
+/// Takes a piece of the input, answers each line that it ends, and writes the replies. Where there
+/// is no memory for a reply, those before it are written all the same.
 pub fn feed<R: Replier, K: Sink>(
     alloc: Global,
     replier: &R,

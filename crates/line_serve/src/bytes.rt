@@ -1,8 +1,8 @@
 //! A string of bytes, and a list of such strings.
-ghost use Rattle.std.specs.Prelude.{◌≡◌, ◌==◌, ◌++◌, ◌-◌, ◌∷◌, [], List, ℕ, length, slice_get, take, replicate, IfOk, OnOk, OnErr};
+ghost use Rattle.std.specs.Prelude.{◌≡◌, ◌==◌, ◌++◌, ◌-◌, ◌∷◌, [], length, slice_get, take};
+ghost use Rattle.std.specs.Prelude.{replicate, IfOk, OnOk, OnErr};
 ghost use Rattle.std.specs.Option.{option_copied};
 ghost use Rattle.std.specs.Borrow.{sem};
-ghost use Rattle.hex.specs.Hex.{encode_lower};
 ghost use Rattle.line_serve.specs.Lending.{LendsBytes};
 
 use std::alloc::{AllocError, Global};
@@ -80,27 +80,6 @@ impl ByteString {
         Ok(ByteString { bytes })
     }
 
-    /// Puts a byte at the end.
-    pub fn push(&mut self, byte: u8) -> Result<(), AllocError>
-        ensures ok { OnOk result (self.new ≡ self.old ++ byte ∷ []) }
-        ensures err { OnErr result (self.new ≡ self.old) }
-    {
-        self.bytes.push(byte)?;
-        Ok(())
-    }
-
-    /// Puts the hexadecimal digits of the bytes at the end, two lower case digits a byte.
-    pub fn push_hex(&mut self, bytes: &[u8]) -> Result<(), AllocError>
-        ensures ok { OnOk result (self.new ≡ self.old ++ encode_lower bytes.now) }
-        ensures err { OnErr result (self.new ≡ self.old) }
-    {
-        let start = self.bytes.len();
-        let end = start.saturating_add(bytes.len().saturating_mul(2));
-        self.bytes.resize(end, 0)?;
-        hex::encode_to_slice(bytes, &mut self.bytes[start..]).unwrap();
-        Ok(())
-    }
-
     /// The bytes, to be written over.
     pub fn as_mut_slice(&mut self) -> &mut [u8]
         ensures* writes_back { sem 𝓛 (LendsBytes self.entry result) }
@@ -109,8 +88,8 @@ impl ByteString {
         self.bytes.as_mut_slice()
     }
 
-    /// Keeps the first bytes, at most so many, and puts copies of `byte` at the end until there are.
-    pub fn resize(&mut self, len: usize, byte: u8) -> Result<(), AllocError>
+    // Keeps the first bytes, at most so many, and puts copies of `byte` at the end until there are.
+    pub(crate) fn resize(&mut self, len: usize, byte: u8) -> Result<(), AllocError>
         ensures ok { OnOk result (self.new
             ≡ take len self.old ++ replicate (len - length self.old) byte) }
         ensures err { OnErr result (self.new ≡ self.old) }

@@ -1,9 +1,10 @@
 //! The fields of a line. One carriage return at the line's end is dropped, and what is left is cut
 //! at its spaces (0x20); parts without bytes are no fields.
-ghost use Rattle.std.specs.Prelude.{◌≡◌, ◌++◌, length, slice_get, true, false, IfOk, OnErr, MatchOption};
+ghost use Rattle.std.specs.Prelude.{◌≡◌, ◌≤◌, ◌++◌, length, take, slice_get, true, false, IfOk};
+ghost use Rattle.std.specs.Prelude.{OnErr, MatchOption};
 ghost use Rattle.std.specs.Option.{option_copied};
 ghost use Rattle.std.specs.Str.Lines.{strip_carriage_return};
-ghost use Rattle.line_serve.specs.Fields.{fields, hex_value, is_dash};
+ghost use Rattle.line_serve.specs.Fields.{contents, fields, hex_value, is_dash};
 
 use crate::bytes::ByteString;
 use std::alloc::{AllocError, Global};
@@ -36,6 +37,26 @@ pub fn field(line: &[u8], i: usize) -> Option<&[u8]>
         .split(|b| *b == b' ')
         .filter(|part| !part.is_empty())
         .nth(i)
+}
+
+/// Cuts the line once, from its start: puts its first fields at the front of `out`, as many as
+/// there is room for, and says how many.
+pub fn cut_fields<'a>(line: &'a [u8], out: &mut [&'a [u8]]) -> usize
+    ensures bound { result ≤ length out.old }
+    ensures front { contents (take result out.new) ≡ take (length out.old) (fields line.now) }
+{
+    let parts = without_return(line)
+        .split(|b| *b == b' ')
+        .filter(|part| !part.is_empty());
+    let mut count = 0;
+    for part in parts {
+        if count >= out.len() {
+            break;
+        }
+        out[count] = part;
+        count += 1;
+    }
+    count
 }
 
 fn is_only_dash(field: &[u8]) -> bool

@@ -5,7 +5,7 @@
 //! - [`Source`] and [`Sink`] are where bytes come from and where they go. [`QuietSource`],
 //!   [`MemSource`], [`MemSink`] and [`NullSink`] are such ends in memory.
 //! - [`Replier`] answers one line, and [`serve_lines`] the lines of a whole source.
-//! - [`count_fields`], [`field`] and [`hex_field`] take a line apart.
+//! - [`cut_fields`], [`count_fields`], [`field`] and [`hex_field`] take a line apart.
 #![tactic(auto)]
 
 mod answer;
@@ -21,7 +21,7 @@ mod write;
 
 pub use answer::Replier;
 pub use bytes::{ByteString, Words};
-pub use fields::{count_fields, field, hex_field};
+pub use fields::{count_fields, cut_fields, field, hex_field};
 pub use lines::serve_lines;
 pub use memory::{MemSink, MemSource, NullSink, QuietSource};
 pub use stream::{Failed, Sink, Source};

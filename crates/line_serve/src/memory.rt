@@ -1,6 +1,8 @@
 //! Sources and sinks in memory. [`MemSource`] and [`MemSink`] number their calls from 0, and fail
 //! at those whose numbers they were given, so that a test can try each fault in turn.
-ghost use Rattle.std.specs.Prelude.{◌≡◌, ◌↔◌, [], ◌+◌, ◌<◌, ◌≤◌, ◌^◌, None, Some, length, take, min, Contains, unwrap_or, IsErr, is_ok, IsTrue, IsOk, IfOk, OnOk, OnErr, if◌then◌else◌, vec_len};
+ghost use Rattle.std.specs.Prelude.{◌≡◌, ◌↔◌, [], ◌+◌, ◌<◌, ◌≤◌, ◌^◌, None, Some, length, take};
+ghost use Rattle.std.specs.Prelude.{min, Contains, unwrap_or, IsErr, is_ok, IsTrue, IsOk, IfOk};
+ghost use Rattle.std.specs.Prelude.{OnOk, OnErr, if◌then◌else◌, vec_len};
 ghost use Rattle.std.specs.Io.{ReadsAtMost};
 ghost use Rattle.std.specs.Io.KnownBytes.{ReadConsumes, WriteAppends};
 ghost use Rattle.line_serve.specs.Causes.{HasCause, Rose};
@@ -129,7 +131,8 @@ pub struct MemSource {
 }
 
 impl MemSource {
-    ghost use Rattle.line_serve.specs.Memory.{source_left, source_fails, source_number, source_faults};
+    ghost use Rattle.line_serve.specs.Memory.{source_left, source_fails, source_number};
+    ghost use Rattle.line_serve.specs.Memory.{source_faults};
 
     /// A source of these bytes, of which the reads with the numbers `fails` fail, the first read
     /// being 0.
@@ -147,7 +150,8 @@ impl MemSource {
 }
 
 impl Source for MemSource {
-    ghost use Rattle.line_serve.specs.Memory.{source_left, source_fails, source_number, source_faults, one_more};
+    ghost use Rattle.line_serve.specs.Memory.{source_left, source_fails, source_number};
+    ghost use Rattle.line_serve.specs.Memory.{source_faults, one_more};
 
     ghost left = { λ s. Some (source_left s) };
 
@@ -180,7 +184,8 @@ pub struct MemSink {
 }
 
 impl MemSink {
-    ghost use Rattle.line_serve.specs.Memory.{sink_bytes, sink_fails, sink_number, sink_faults, sink_refused};
+    ghost use Rattle.line_serve.specs.Memory.{sink_bytes, sink_fails, sink_number, sink_faults};
+    ghost use Rattle.line_serve.specs.Memory.{sink_refused};
 
     /// A sink of which the writes with the numbers `fails` fail, the first write being 0.
     pub fn new(alloc: Global, fails: Vec<u64>) -> Self
@@ -213,7 +218,8 @@ impl MemSink {
 }
 
 impl Sink for MemSink {
-    ghost use Rattle.line_serve.specs.Memory.{sink_bytes, sink_fails, sink_number, sink_faults, sink_refused, one_more};
+    ghost use Rattle.line_serve.specs.Memory.{sink_bytes, sink_fails, sink_number, sink_faults};
+    ghost use Rattle.line_serve.specs.Memory.{sink_refused, one_more};
 
     ghost taken = { λ k. Some (sink_bytes k) };
 
@@ -256,6 +262,7 @@ impl Sink for NullSink {
 
     ghost faults = { λ _. 0 };
 
+    /// Takes all of `piece`.
     fn write(&mut self, piece: &[u8]) -> Result<usize, Failed>
         ensures bound { IfOk result (λ n. n ≤ length piece.now) }
         ensures progress { IfOk result (λ n. 0 < length piece.now → 0 < n) }

@@ -5,7 +5,7 @@ ghost use Rattle.line_serve.specs.Fields.{fields};
 
 use crate::{
     ByteString, Failed, MemSink, MemSource, NullSink, QuietSource, Replier, Source, Words,
-    count_fields, field, hex_field, serve_lines, write_all,
+    count_fields, cut_fields, field, hex_field, serve_lines, write_all,
 };
 use std::alloc::{AllocError, Global};
 use std::test::Fail;
@@ -25,7 +25,7 @@ impl Replier for First {
             return Ok(());
         };
         let mut text = ByteString::from_slice(alloc, first)?;
-        text.push(b'\n')?;
+        text.push_slice(b"\n")?;
         out.push_slice(text.as_slice())
     }
 }
@@ -127,7 +127,8 @@ fn a_line_is_too_long_past_the_limit(rt: HostRuntime) -> Result<(), Fail> {
     Ok(())
 }
 
-// A thousand lines of seven bytes are two pieces of at most 4096 bytes, and a third read finds the end.
+// A thousand lines of seven bytes are two pieces of at most 4096 bytes, and a third read finds the
+// end.
 #[test]
 fn each_fault_in_turn(rt: HostRuntime) -> Result<(), Fail> {
     let alloc = rt.alloc();
@@ -196,6 +197,11 @@ fn fields_of_lines(rt: HostRuntime) {
         assert_eq!(rt; count_fields(line), count);
         assert!(rt; field(line, 1) == second);
     }
+    let mut cut = [b"".as_slice(); 2];
+    assert_eq!(rt; cut_fields(b" a  b c\r", &mut cut), 2);
+    assert!(rt; cut == [b"a".as_slice(), b"b"]);
+    assert_eq!(rt; cut_fields(b"d\r", &mut cut), 1);
+    assert!(rt; cut[0] == b"d".as_slice());
 }
 
 #[test]
@@ -222,9 +228,8 @@ fn byte_strings_and_words(rt: HostRuntime) -> Result<(), Fail> {
     let alloc = rt.alloc();
     let mut text = ByteString::new(alloc);
     text.push_slice(b"key ")?;
-    text.push_hex(b"\x00\xab")?;
-    text.resize(10, b'!')?;
-    assert_eq!(rt; text.as_slice(), b"key 00ab!!".as_slice());
+    text.push_slice(b"00ab")?;
+    assert_eq!(rt; text.as_slice(), b"key 00ab".as_slice());
     text.truncate(3);
     text.as_mut_slice()[0] = b'K';
     assert_eq!(rt; text.as_slice(), b"Key".as_slice());

@@ -56,7 +56,8 @@ pub fn put<K: Sink>(sink: &mut K, text: &[u8]) -> Result<(), Halt>
 pub fn flush<K: Sink>(waiting: &mut ByteString, sink: &mut K) -> Result<(), Halt>
     ensures cleared { waiting.new ≡ [] }
     ensures ok { OnOk result (Moves (K.taken sink.old) waiting.old (K.taken sink.new) waiting.new) }
-    ensures err { OnErr result (Breaks (K.taken sink.old) waiting.old (K.taken sink.new) waiting.new) }
+    ensures err { OnErr result
+        (Breaks (K.taken sink.old) waiting.old (K.taken sink.new) waiting.new) }
     ensures cause { HaltsFor (K.faults sink.old) (K.faults sink.new) result }
 {
     let written = put(sink, waiting.as_slice());
@@ -68,7 +69,8 @@ pub fn flush<K: Sink>(waiting: &mut ByteString, sink: &mut K) -> Result<(), Halt
 pub fn flush_long<K: Sink>(waiting: &mut ByteString, sink: &mut K) -> Result<(), Halt>
     ensures short { OnOk result (length waiting.new < 2 ^ 16) }
     ensures ok { OnOk result (Moves (K.taken sink.old) waiting.old (K.taken sink.new) waiting.new) }
-    ensures err { OnErr result (Breaks (K.taken sink.old) waiting.old (K.taken sink.new) waiting.new) }
+    ensures err { OnErr result
+        (Breaks (K.taken sink.old) waiting.old (K.taken sink.new) waiting.new) }
     ensures cause { HaltsFor (K.faults sink.old) (K.faults sink.new) result }
 {
     if waiting.len() < MAX_WAITING {

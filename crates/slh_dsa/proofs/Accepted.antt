@@ -38,10 +38,10 @@ halves n key a b c d is_key la lb lc ld =
       last = (key_parts n key a b c d (sym is_key) la lb lc ld).p3;
     }
 
-pub accepted_message : (Z : Scheme) (key context message : List ℕ) (opt : Option (List ℕ))
+pub accepted_message : (Z : Scheme) (key context message : List ℕ) (opt_rand : Option (List ℕ))
     → HasLength Z.suite Z.n → 1 ≤ Z.d → IsTrueKey Z key → length key ≡ 4 * Z.n → length context ≤ 255 → length message ≤ 2 ^ 60
-    → verify_error Z (drop (2 * Z.n) key) context message (signature_of Z key opt (frame context message)) ≡ None
-accepted_message Z key context message opt law layers true_key size few short =
+    → verify_error Z (drop (2 * Z.n) key) context message (signature_of Z key opt_rand (frame context message)) ≡ None
+accepted_message Z key context message opt_rand law layers true_key size few short =
     let framed = frame context message in
     let sk = part Z.n key 0 in
     let prf = part Z.n key 1 in
@@ -54,10 +54,10 @@ accepted_message Z key context message opt law layers true_key size few short =
     = ap length true_key ∙ rw (length-append (sk ++ prf ++ s) root, length-append (sk ++ prf) s, length-append sk prf) refl in
     let ld : length root ≡ Z.n = omega arith in
     let near = halves Z.n key sk prf s root true_key la lb lc ld in
-    let fresh = unwrap_or opt s in
-    let rand = Z.suite.prf_msg prf fresh framed in
-    let rand_len : length rand ≡ Z.n = law.prf_msg prf fresh framed in
-    let sig = signature_of Z key opt framed in
+    let bytes = unwrap_or opt_rand s in
+    let rand = Z.suite.prf_msg prf bytes framed in
+    let rand_len : length rand ≡ Z.n = law.prf_msg prf bytes framed in
+    let sig = signature_of Z key opt_rand framed in
     let sig_len : (length sig == signature_size Z) ≡ true
     = (Decides-eqb (length sig) (signature_size Z)).1 (length-digest_signature Z s sk rand (Z.suite.h_msg rand s (part Z.n key 3) framed) law rand_len) in
     let leads : checked_root Z s (part Z.n key 3) framed sig ≡ root = checked_root-signature Z key rand framed law layers rand_len in

@@ -1,21 +1,40 @@
--- What the calls on keys answer (FIPS 205, sections 9 and 10). Z is the scheme, of values of n bytes.
-use Rattle.std.specs.Prelude.{◌==◌, ℕ, ◌^◌, List, length, nat_lt, Bool, Option, None, Some, if◌then◌else◌}
+-- What the calls on keys answer (FIPS 205, sections 9 and 10). Z is the scheme, of values of n
+-- bytes.
+use Rattle.std.specs.Prelude.{◌≡◌, ◌==◌, ℕ, ◌*◌, ◌^◌, ◌≤◌, List, [], ◌∷◌, length, nat_lt, Bool}
+use Rattle.std.specs.Prelude.{Option, None, Some, Result, MatchResult, IfOk, if◌then◌else◌}
+use Rattle.std.specs.Option.{ForSome}
 use Rattle.std.specs.Str.{bytes_eq}
 use Rattle.slh_core.specs.Bytes.{part}
 use Rattle.slh_core.specs.Parameters.{Scheme}
 use Rattle.slh_trees.specs.Checking.{checked_root, signature_size}
 use Rattle.slh_trees.specs.Frame.{frame}
+use Rattle.slh_trees.specs.Keys.{IsTrueKey, signing_key_bytes}
 use Rattle.slh_dsa.specs.declared.error.Error.{Error}
-use Rattle.slh_dsa.specs.declared.error.Error.TheVariants.{Length, ContextTooLong, RandomizerLength, MessageTooLong, Invalid}
+use Rattle.slh_dsa.specs.declared.error.Error.TheVariants.{Length, ContextTooLong, RandomizerLength}
+use Rattle.slh_dsa.specs.declared.error.Error.TheVariants.{MessageTooLong, Invalid}
 
--- the first of several causes that stands
-abbrev pub or_else : Option Error → Option Error → Option Error
-or_else None later = later
-or_else (Some cause) later = Some cause
+-- the first of the refusals that stand
+abbrev pub first_refusal : List (Option Error) → Option Error
+first_refusal [] = None
+first_refusal (None ∷ later) = first_refusal later
+first_refusal (Some refusal ∷ later) = Some refusal
+
+-- the call is refused for exactly this cause, and not at all where there is none
+abbrev pub RefusedExactly : {T : Type 0} → Result T Error → Option Error → Type 0
+RefusedExactly result refusal = MatchResult result (λ _. refusal ≡ None) (λ e. refusal ≡ Some e)
+
+-- there are so many bytes
+abbrev pub length_refusal : ℕ → ℕ → Option Error
+length_refusal wanted len = if len == wanted then None else Some Length
 
 -- a context has at most 255 bytes
 abbrev pub context_refusal : List ℕ → Option Error
 context_refusal context = if nat_lt 255 (length context) then Some ContextTooLong else None
+
+-- opt_rand has n bytes where it is given
+abbrev pub opt_rand_refusal : Scheme → Option (List ℕ) → Option Error
+opt_rand_refusal Z None = None
+opt_rand_refusal Z (Some bytes) = if length bytes == Z.n then None else Some RandomizerLength
 
 -- a message has at most 2^60 bytes
 abbrev pub message_refusal : List ℕ → Option Error
@@ -23,23 +42,35 @@ message_refusal message = if nat_lt (2 ^ 60) (length message) then Some MessageT
 
 -- a signature has the scheme's number of bytes
 abbrev pub signature_refusal : Scheme → ℕ → Option Error
-signature_refusal Z len = if len == signature_size Z then None else Some Length
+signature_refusal Z len = length_refusal (signature_size Z) len
 
--- a randomizer that is given has n bytes
-abbrev pub randomizer_refusal : Scheme → Option (List ℕ) → Option Error
-randomizer_refusal Z None = None
-randomizer_refusal Z (Some opt) = if length opt == Z.n then None else Some RandomizerLength
+-- why no key is made of three seeds
+abbrev pub keygen_refusal : Scheme → List ℕ → List ℕ → List ℕ → Option Error
+keygen_refusal Z sk_seed sk_prf pk_seed = first_refusal
+    (length_refusal Z.n (length sk_seed) ∷ length_refusal Z.n (length sk_prf)
+    ∷ length_refusal Z.n (length pk_seed) ∷ [])
 
--- why signing a message into so many bytes is refused, if it is
+-- why bytes are no signing key, and no verifying key
+abbrev pub signing_key_refusal : Scheme → List ℕ → Option Error
+signing_key_refusal Z key = length_refusal (4 * Z.n) (length key)
+
+abbrev pub verifying_key_refusal : Scheme → List ℕ → Option Error
+verifying_key_refusal Z key = length_refusal (2 * Z.n) (length key)
+
+-- why signing is refused for what it is given
+abbrev pub sign_input_refusal : Scheme → List ℕ → Option (List ℕ) → List ℕ → Option Error
+sign_input_refusal Z context opt_rand message = first_refusal
+    (context_refusal context ∷ opt_rand_refusal Z opt_rand ∷ message_refusal message ∷ [])
+
+-- why signing into so many bytes is refused
 abbrev pub sign_refusal : Scheme → List ℕ → Option (List ℕ) → List ℕ → ℕ → Option Error
-sign_refusal Z context opt message len =
-    or_else (signature_refusal Z len) (or_else (context_refusal context)
-    (or_else (randomizer_refusal Z opt) (message_refusal message)))
+sign_refusal Z context opt_rand message len = first_refusal
+    (signature_refusal Z len ∷ sign_input_refusal Z context opt_rand message ∷ [])
 
--- why verifying is refused before anything is hashed, if it is
+-- why verifying is refused before anything is hashed
 abbrev pub verify_refusal : Scheme → List ℕ → List ℕ → List ℕ → Option Error
-verify_refusal Z context message sig =
-    or_else (signature_refusal Z (length sig)) (or_else (context_refusal context) (message_refusal message))
+verify_refusal Z context message sig = first_refusal
+    (signature_refusal Z (length sig) ∷ context_refusal context ∷ message_refusal message ∷ [])
 
 -- whether a signature leads to the root of a verifying key
 abbrev pub is_valid : Scheme → List ℕ → List ℕ → List ℕ → List ℕ → Bool
@@ -47,8 +78,22 @@ is_valid Z key context message sig =
     let root = part Z.n key 1 in
     bytes_eq (checked_root Z (part Z.n key 0) root (frame context message) sig) root
 
--- what verifying answers: the first cause, or `Invalid`, or none
+-- what verifying answers: the first refusal, or `Invalid`, or none
 abbrev pub verify_error : Scheme → List ℕ → List ℕ → List ℕ → List ℕ → Option Error
-verify_error Z key context message sig =
-    or_else (verify_refusal Z context message sig)
-    (if is_valid Z key context message sig then None else Some Invalid)
+verify_error Z key context message sig = first_refusal
+    (verify_refusal Z context message sig
+    ∷ (if is_valid Z key context message sig then None else Some Invalid) ∷ [])
+
+-- what is to be signed has sizes that signing takes, for values of n bytes
+pub record IsSignable (n : ℕ) (context : List ℕ) (opt_rand : Option (List ℕ)) (message : List ℕ)
+    : Type 0 where
+  pub context_fits : length context ≤ 255
+  pub opt_rand_fits : ForSome opt_rand (λ bytes. length bytes ≡ n)
+  pub message_fits : length message ≤ 2 ^ 60
+
+-- the key of three seeds, made where all have n bytes. It is a true key, of 4n bytes.
+pub record IsKeygenAnswer (Z : Scheme) (sk_seed sk_prf pk_seed : List ℕ)
+    (result : Result (List ℕ) Error) : Type 0 where
+  pub refusal : RefusedExactly result (keygen_refusal Z sk_seed sk_prf pk_seed)
+  pub value : IfOk result (λ key. key ≡ signing_key_bytes Z sk_seed sk_prf pk_seed)
+  pub true_key : IfOk result (λ key. IsTrueKey Z key × (length key ≡ 4 * Z.n))

@@ -4,11 +4,12 @@
 /// together, it answers the first in this order.
 #[derive(Clone, Copy, Debug, PartialEq, Eq)]
 pub enum Error {
-    /// A seed doesn't have n bytes, a signing key 4n, a verifying key 2n, or a signature its own number.
+    /// A seed doesn't have n bytes, a signing key 4n, a verifying key 2n, or a signature its own
+    /// number.
     Length,
     /// The context has more than 255 bytes.
     ContextTooLong,
-    /// A randomizer was given that doesn't have n bytes.
+    /// An `opt_rand` was given that doesn't have n bytes.
     RandomizerLength,
     /// The message has more than 2^60 bytes.
     MessageTooLong,

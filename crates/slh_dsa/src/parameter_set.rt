@@ -3,10 +3,8 @@ ghost use Rattle.std.specs.Prelude.{◌≡◌, ◌*◌, ◌≤◌, ℕ, List, le
 ghost use Rattle.slh_trees.specs.Checking.{signature_size};
 
 use hybrid_array::ArraySize;
-use hybrid_array::sizes::{U2, U4, U21, U32, U64, U7856, U17088};
 use slh_core::params::ForsParams;
-use slh_hash::{Sha2_128f, Sha2_128s};
-use slh_trees::toy::Toy;
+use slh_core::set_row::SetRow;
 
 /// A parameter set: a name, a suite and all sizes.
 pub trait ParameterSet: ForsParams {
@@ -37,83 +35,26 @@ pub trait ParameterSet: ForsParams {
     ghost sig_len: { Self.SigLen.USIZE ≡ signature_size Self.scheme };
 }
 
-impl ParameterSet for Sha2_128s {
-    ghost use Rattle.std.specs.Prelude.{codes};
-    ghost use Rattle.std.proofs.Common.{rules};
+impl<P: SetRow> ParameterSet for P {
+    const NAME: &'static str = <P as SetRow>::NAME;
 
-    const NAME: &'static str = "SLH-DSA-SHA2-128s";
+    type SkLen = <P as SetRow>::SkLen;
 
-    type SkLen = U64;
+    type VkLen = <P as SetRow>::VkLen;
 
-    type VkLen = U32;
+    type SigLen = <P as SetRow>::SigLen;
 
-    type SigLen = U7856;
-
-    ghost set_name = { codes "SLH-DSA-SHA2-128s" };
+    ghost set_name = { P.set_name };
 
     fn set_name() -> &'static str {
-        Self::NAME
+        <P as SetRow>::set_name()
     }
 
-    ghost name_len = { Prim.search rules };
+    ghost name_len = { P.valid.name_len };
 
-    ghost sk_len = { Prim.search rules };
+    ghost sk_len = { P.valid.sk_len };
 
-    ghost vk_len = { Prim.search rules };
+    ghost vk_len = { P.valid.vk_len };
 
-    ghost sig_len = { Prim.search rules };
-}
-
-impl ParameterSet for Sha2_128f {
-    ghost use Rattle.std.specs.Prelude.{codes};
-    ghost use Rattle.std.proofs.Common.{rules};
-
-    const NAME: &'static str = "SLH-DSA-SHA2-128f";
-
-    type SkLen = U64;
-
-    type VkLen = U32;
-
-    type SigLen = U17088;
-
-    ghost set_name = { codes "SLH-DSA-SHA2-128f" };
-
-    fn set_name() -> &'static str {
-        Self::NAME
-    }
-
-    ghost name_len = { Prim.search rules };
-
-    ghost sk_len = { Prim.search rules };
-
-    ghost vk_len = { Prim.search rules };
-
-    ghost sig_len = { Prim.search rules };
-}
-
-impl ParameterSet for Toy {
-    ghost use Rattle.std.specs.Prelude.{codes};
-    ghost use Rattle.std.proofs.Common.{rules};
-
-    const NAME: &'static str = "TOY";
-
-    type SkLen = U4;
-
-    type VkLen = U2;
-
-    type SigLen = U21;
-
-    ghost set_name = { codes "TOY" };
-
-    fn set_name() -> &'static str {
-        Self::NAME
-    }
-
-    ghost name_len = { Prim.search rules };
-
-    ghost sk_len = { Prim.search rules };
-
-    ghost vk_len = { Prim.search rules };
-
-    ghost sig_len = { Prim.search rules };
+    ghost sig_len = { P.valid.sig_len };
 }

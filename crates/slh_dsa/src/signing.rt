@@ -44,14 +44,14 @@ pub(crate) fn sign_digest<P: ForsParams, L: Ledger>(
     ht_sign::<P, L>(&key, sk_seed, &keyed, tree, leaf, layers, steps);
 }
 
-/// Writes the signature of the message that the three slices joined are, by the parts of a key and n
-/// bytes for the randomizer (FIPS 205, algorithm 19).
+/// Writes the signature of the message that the three slices joined are, by the parts of a key and
+/// the n bytes of `opt_rand` (FIPS 205, algorithm 19).
 pub(crate) fn sign_message<P: ForsParams, L: Ledger>(
     sk_seed: &NBytes<P::N>,
     sk_prf: &NBytes<P::N>,
     pk_seed: &NBytes<P::N>,
     pk_root: &NBytes<P::N>,
-    opt: &NBytes<P::N>,
+    opt_rand: &NBytes<P::N>,
     head: &[u8],
     ctx: &[u8],
     msg: &[u8],
@@ -62,13 +62,13 @@ pub(crate) fn sign_message<P: ForsParams, L: Ledger>(
     requires room { length out.old ≡ signature_size P.scheme }
     ensures value { let Z = P.scheme in
         let message = head.now ++ ctx.now ++ msg.now in
-        let rand = Z.suite.prf_msg sk_prf.now opt.now message in
+        let rand = Z.suite.prf_msg sk_prf.now opt_rand.now message in
         let digest = Z.suite.h_msg rand pk_seed.now pk_root.now message in
         out.new ≡ digest_signature Z pk_seed.now sk_seed.now rand digest }
     ensures cost { steps.new ≡ steps.old + slh_sign_cost P.scheme }
 {
     forest_sizes::<P>();
-    let rand = P::prf_msg(sk_prf, opt, head, ctx, msg);
+    let rand = P::prf_msg(sk_prf, opt_rand, head, ctx, msg);
     let mut store = [0u8; MAX_DIGEST_LEN];
     let digest = &mut store[..P::M::USIZE];
     P::h_msg(&rand, pk_seed, pk_root, head, ctx, msg, digest);

@@ -1,21 +1,21 @@
 //! Signing keys (FIPS 205, section 9.1).
-ghost use Rattle.std.specs.Prelude.{◌≡◌, ◌↔◌, ◌+◌, ◌*◌, ◌^◌, ◌<◌, length, drop, None, Some, unwrap_or, IsOk, IfOk, IfErr, OnOk, OnErr, MatchResult};
+ghost use Rattle.std.specs.Prelude.{◌≡◌, ◌+◌, ◌*◌, ◌^◌, ◌<◌, length, drop, unwrap_or, IfOk, OnOk};
+ghost use Rattle.std.specs.Prelude.{OnErr};
 ghost use Rattle.std.specs.Option.{option_copied, ForSome};
 ghost use Rattle.slh_core.specs.Bytes.{part};
 ghost use Rattle.slh_core.specs.Costs.{slh_keygen_cost, slh_sign_cost};
 ghost use Rattle.slh_core.specs.Steps.{IsFresh};
 ghost use Rattle.slh_trees.specs.Checking.{signature_size};
 ghost use Rattle.slh_trees.specs.Frame.{frame};
-ghost use Rattle.slh_trees.specs.Keys.{signing_key_bytes};
 ghost use Rattle.slh_trees.specs.Signing.{signature_of};
-ghost use Rattle.slh_dsa.specs.Calls.{sign_refusal};
-ghost use Rattle.slh_dsa.specs.declared.error.Error.TheVariants.{Length};
+ghost use Rattle.slh_dsa.specs.Calls.{IsKeygenAnswer, IsSignable, RefusedExactly};
+ghost use Rattle.slh_dsa.specs.Calls.{sign_input_refusal, sign_refusal, signing_key_refusal};
 
 use crate::error::Error;
 use crate::parameter_set::ParameterSet;
 use crate::root::top_root;
 use crate::signing::sign_message;
-use crate::sizes::{check_context, check_message, check_randomizer, check_signature, frame_head};
+use crate::sizes::{check_context, check_message, check_opt_rand, check_signature, frame_head};
 use crate::verifying_key::VerifyingKey;
 use hybrid_array::ArraySize;
 use slh_core::nbytes::NBytes;
@@ -47,14 +47,10 @@ impl<P: ParameterSet> Model for SigningKey<P> {
 }
 
 impl<P: ParameterSet> SigningKey<P> {
-    /// The key of three seeds of n bytes each (FIPS 205, algorithm 18). `Length`: a seed has fewer or
-    /// more.
+    /// The key of three seeds of n bytes each (FIPS 205, algorithm 18). `Length`: a seed has fewer
+    /// or more.
     pub fn slh_keygen_internal(sk_seed: &[u8], sk_prf: &[u8], pk_seed: &[u8]) -> Result<Self, Error>
-        ensures ok { IsOk result ↔ ((length sk_seed.now ≡ P.N.USIZE)
-            × (length sk_prf.now ≡ P.N.USIZE) × (length pk_seed.now ≡ P.N.USIZE)) }
-        ensures value { IfOk result (λ key.
-            key ≡ signing_key_bytes P.scheme sk_seed.now sk_prf.now pk_seed.now) }
-        ensures refusal { IfErr result (λ e. e ≡ Length) }
+        ensures key { IsKeygenAnswer P.scheme sk_seed.now sk_prf.now pk_seed.now result }
     {
         Self::keygen_on::<Brand>(sk_seed, sk_prf, pk_seed, Blank::new(1))
     }
@@ -67,11 +63,7 @@ impl<P: ParameterSet> SigningKey<P> {
         blank: Blank,
     ) -> Result<Self, Error>
         requires fresh { IsFresh blank L.name L.parts }
-        ensures ok { IsOk result ↔ ((length sk_seed.now ≡ P.N.USIZE)
-            × (length sk_prf.now ≡ P.N.USIZE) × (length pk_seed.now ≡ P.N.USIZE)) }
-        ensures value { IfOk result (λ key.
-            key ≡ signing_key_bytes P.scheme sk_seed.now sk_prf.now pk_seed.now) }
-        ensures refusal { IfErr result (λ e. e ≡ Length) }
+        ensures key { IsKeygenAnswer P.scheme sk_seed.now sk_prf.now pk_seed.now result }
     {
         let mut steps = Steps::<L>::new(blank);
         Self::slh_keygen_counted(sk_seed, sk_prf, pk_seed, &mut steps)
@@ -84,11 +76,7 @@ impl<P: ParameterSet> SigningKey<P> {
         pk_seed: &[u8],
         steps: &mut Steps<L>,
     ) -> Result<Self, Error>
-        ensures ok { IsOk result ↔ ((length sk_seed.now ≡ P.N.USIZE)
-            × (length sk_prf.now ≡ P.N.USIZE) × (length pk_seed.now ≡ P.N.USIZE)) }
-        ensures value { IfOk result (λ key.
-            key ≡ signing_key_bytes P.scheme sk_seed.now sk_prf.now pk_seed.now) }
-        ensures refusal { IfErr result (λ e. e ≡ Length) }
+        ensures key { IsKeygenAnswer P.scheme sk_seed.now sk_prf.now pk_seed.now result }
         ensures cost { OnOk result (steps.new ≡ steps.old + slh_keygen_cost P.scheme) }
         ensures free { OnErr result (steps.new ≡ steps.old) }
     {
@@ -108,10 +96,10 @@ impl<P: ParameterSet> SigningKey<P> {
         })
     }
 
-    /// Writes the signature of a message with a context (FIPS 205, algorithm 22) into `out`. Without a
-    /// randomizer the public seed stands in its place. `Length`: `out` doesn't have the bytes of a
-    /// signature; `ContextTooLong`, `RandomizerLength`, `MessageTooLong`. After a refusal `out` is as it
-    /// was.
+    /// Writes the signature of a message with a context (FIPS 205, algorithm 22) into `out`. Where
+    /// no `opt_rand` is given the public seed stands for it. `Length`: `out` doesn't have the bytes
+    /// of a signature; `ContextTooLong`, `RandomizerLength`, `MessageTooLong`. After a refusal
+    /// `out` is as it was.
     pub fn slh_sign_counted<L: Ledger>(
         &self,
         msg: &[u8],
@@ -120,66 +108,85 @@ impl<P: ParameterSet> SigningKey<P> {
         out: &mut [u8],
         steps: &mut Steps<L>,
     ) -> Result<(), Error>
-        ensures refusal { let opt = option_copied opt_rand.entry in
-            let refusal = sign_refusal P.scheme ctx.now opt msg.now (length out.old) in
-            MatchResult result (λ _. refusal ≡ None) (λ e. refusal ≡ Some e) }
-        ensures value { let opt = option_copied opt_rand.entry in
+        ensures refusal { let opt_rand = option_copied opt_rand.entry in
+            RefusedExactly result
+            (sign_refusal P.scheme ctx.now opt_rand msg.now (length out.old)) }
+        ensures value { let opt_rand = option_copied opt_rand.entry in
             let message = frame ctx.now msg.now in
-            OnOk result (out.new ≡ signature_of P.scheme self.now opt message) }
+            OnOk result (out.new ≡ signature_of P.scheme self.now opt_rand message) }
         ensures same { OnErr result (out.new ≡ out.old) }
         ensures cost { OnOk result (steps.new ≡ steps.old + slh_sign_cost P.scheme) }
         ensures free { OnErr result (steps.new ≡ steps.old) }
     {
         check_signature::<P>(out.len())?;
+        Self::check_sign(msg, ctx, opt_rand)?;
+        self.slh_sign_checked(msg, ctx, opt_rand, out, steps);
+        Ok(())
+    }
+
+    /// The refusals of signing but those of its output: `ContextTooLong`, `RandomizerLength`,
+    /// `MessageTooLong`. A caller that takes memory for a signature asks this first, and then calls
+    /// [`SigningKey::slh_sign_checked`].
+    pub fn check_sign(msg: &[u8], ctx: &[u8], opt_rand: Option<&[u8]>) -> Result<(), Error>
+        ensures refusal { let opt_rand = option_copied opt_rand.entry in
+            RefusedExactly result (sign_input_refusal P.scheme ctx.now opt_rand msg.now) }
+        ensures fits { let opt_rand = option_copied opt_rand.entry in
+            OnOk result (IsSignable P.N.USIZE ctx.now opt_rand msg.now) }
+    {
         check_context(ctx)?;
-        check_randomizer::<P>(opt_rand)?;
-        check_message(msg)?;
-        let opt = self.fresh_bytes(opt_rand);
+        check_opt_rand::<P>(opt_rand)?;
+        check_message(msg)
+    }
+
+    /// As `slh_sign_counted`, of what [`SigningKey::check_sign`] doesn't refuse, into the bytes of
+    /// a signature.
+    pub fn slh_sign_checked<L: Ledger>(
+        &self,
+        msg: &[u8],
+        ctx: &[u8],
+        opt_rand: Option<&[u8]>,
+        out: &mut [u8],
+        steps: &mut Steps<L>,
+    )
+        requires fits { IsSignable P.N.USIZE ctx.now (option_copied opt_rand) msg.now }
+        requires room { length out.old ≡ signature_size P.scheme }
+        ensures value { let opt_rand = option_copied opt_rand.entry in
+            let message = frame ctx.now msg.now in
+            out.new ≡ signature_of P.scheme self.now opt_rand message }
+        ensures cost { steps.new ≡ steps.old + slh_sign_cost P.scheme }
+    {
+        let opt_rand = self.opt_rand_or_seed(opt_rand);
         sign_message::<P, L>(
             &self.sk_seed,
             &self.sk_prf,
             &self.pk_seed,
             &self.pk_root,
-            &opt,
+            &opt_rand,
             &frame_head(ctx),
             ctx,
             msg,
             out,
             steps,
         );
-        Ok(())
     }
 
-    /// The refusals of signing but those of its output: `ContextTooLong`, `RandomizerLength`,
-    /// `MessageTooLong`. A caller that takes memory for a signature asks this first.
-    pub fn check_sign(msg: &[u8], ctx: &[u8], opt_rand: Option<&[u8]>) -> Result<(), Error>
-        ensures refusal { let opt = option_copied opt_rand.entry in
-            let refusal = sign_refusal P.scheme ctx.now opt msg.now (signature_size P.scheme) in
-            MatchResult result (λ _. refusal ≡ None) (λ e. refusal ≡ Some e) }
-    {
-        check_context(ctx)?;
-        check_randomizer::<P>(opt_rand)?;
-        check_message(msg)
-    }
-
-    // The bytes from which a signature's randomizer is made.
-    fn fresh_bytes(&self, opt_rand: Option<&[u8]>) -> NBytes<P::N>
-        requires { ForSome (option_copied opt_rand) (λ opt. length opt ≡ P.N.USIZE) }
+    // The bytes of `opt_rand`, or the public seed where none are given (FIPS 205, algorithm 19).
+    fn opt_rand_or_seed(&self, opt_rand: Option<&[u8]>) -> NBytes<P::N>
+        requires { ForSome (option_copied opt_rand) (λ bytes. length bytes ≡ P.N.USIZE) }
         ensures { result
             ≡ unwrap_or (option_copied opt_rand.entry) (part P.N.USIZE self.now 2) }
     {
         chain_sizes::<P>();
         match opt_rand {
-            Some(opt) => NBytes::exact(opt),
+            Some(bytes) => NBytes::exact(bytes),
             None => self.pk_seed.copy(),
         }
     }
 
     /// The key of 4n bytes, whose root isn't computed again. `Length`: there are fewer or more.
     pub fn try_from(bytes: &[u8]) -> Result<Self, Error>
-        ensures ok { IsOk result ↔ (length bytes.now ≡ 4 * P.N.USIZE) }
+        ensures refusal { RefusedExactly result (signing_key_refusal P.scheme bytes.now) }
         ensures value { IfOk result (λ key. key ≡ bytes.now) }
-        ensures refusal { IfErr result (λ e. e ≡ Length) }
     {
         chain_sizes::<P>();
         let n = P::N::USIZE;

@@ -1,23 +1,25 @@
 //! The checks of sizes that come before anything is hashed.
-ghost use Rattle.std.specs.Prelude.{◌≡◌, ◌≤◌, ◌^◌, length, None, Some, MatchResult, OnOk};
+ghost use Rattle.std.specs.Prelude.{◌≡◌, ◌≤◌, ◌^◌, length, OnOk};
 ghost use Rattle.std.specs.Option.{option_copied, ForSome};
 ghost use Rattle.slh_trees.specs.Checking.{signature_size};
 ghost use Rattle.slh_trees.specs.Frame.{frame_head};
-ghost use Rattle.slh_dsa.specs.Calls.{context_refusal, message_refusal, randomizer_refusal, signature_refusal};
+ghost use Rattle.slh_dsa.specs.Calls.{RefusedExactly, context_refusal, message_refusal};
+ghost use Rattle.slh_dsa.specs.Calls.{opt_rand_refusal, signature_refusal};
 
 use crate::error::Error;
 use crate::parameter_set::ParameterSet;
 use hybrid_array::ArraySize;
 use slh_core::params::chain_sizes;
 
+// The most bytes of a context (FIPS 205, algorithm 22).
 const MAX_CONTEXT: usize = 255;
 
+// The most bytes of a message, well within what SHA-256 takes.
 const MAX_MESSAGE: usize = 1 << 60;
 
 /// `ContextTooLong` for a context of more than 255 bytes.
 pub(crate) fn check_context(ctx: &[u8]) -> Result<(), Error>
-    ensures refusal { let refusal = context_refusal ctx.now in
-        MatchResult result (λ _. refusal ≡ None) (λ e. refusal ≡ Some e) }
+    ensures refusal { RefusedExactly result (context_refusal ctx.now) }
     ensures fits { OnOk result (length ctx.now ≤ 255) }
 {
     if ctx.len() > MAX_CONTEXT {
@@ -28,8 +30,7 @@ pub(crate) fn check_context(ctx: &[u8]) -> Result<(), Error>
 
 /// `MessageTooLong` for a message of more than 2^60 bytes.
 pub(crate) fn check_message(msg: &[u8]) -> Result<(), Error>
-    ensures refusal { let refusal = message_refusal msg.now in
-        MatchResult result (λ _. refusal ≡ None) (λ e. refusal ≡ Some e) }
+    ensures refusal { RefusedExactly result (message_refusal msg.now) }
     ensures fits { OnOk result (length msg.now ≤ 2 ^ 60) }
 {
     if msg.len() > MAX_MESSAGE {
@@ -40,8 +41,7 @@ pub(crate) fn check_message(msg: &[u8]) -> Result<(), Error>
 
 /// `Length` for another number of bytes than a signature has.
 pub(crate) fn check_signature<P: ParameterSet>(len: usize) -> Result<(), Error>
-    ensures refusal { let refusal = signature_refusal P.scheme len in
-        MatchResult result (λ _. refusal ≡ None) (λ e. refusal ≡ Some e) }
+    ensures refusal { RefusedExactly result (signature_refusal P.scheme len) }
     ensures fits { OnOk result (len ≡ signature_size P.scheme) }
 {
     if len != P::SigLen::USIZE {
@@ -50,15 +50,15 @@ pub(crate) fn check_signature<P: ParameterSet>(len: usize) -> Result<(), Error>
     Ok(())
 }
 
-/// `RandomizerLength` for a randomizer that is given and doesn't have n bytes.
-pub(crate) fn check_randomizer<P: ParameterSet>(opt_rand: Option<&[u8]>) -> Result<(), Error>
-    ensures refusal { let refusal = randomizer_refusal P.scheme (option_copied opt_rand.entry) in
-        MatchResult result (λ _. refusal ≡ None) (λ e. refusal ≡ Some e) }
+/// `RandomizerLength` for an `opt_rand` that is given and doesn't have n bytes.
+pub(crate) fn check_opt_rand<P: ParameterSet>(opt_rand: Option<&[u8]>) -> Result<(), Error>
+    ensures refusal { let opt_rand = option_copied opt_rand.entry in
+        RefusedExactly result (opt_rand_refusal P.scheme opt_rand) }
     ensures fits { OnOk result
-        (ForSome (option_copied opt_rand.entry) (λ opt. length opt ≡ P.N.USIZE)) }
+        (ForSome (option_copied opt_rand.entry) (λ bytes. length bytes ≡ P.N.USIZE)) }
 {
-    if let Some(opt) = opt_rand
-        && opt.len() != P::N::USIZE
+    if let Some(bytes) = opt_rand
+        && bytes.len() != P::N::USIZE
     {
         return Err(Error::RandomizerLength);
     }

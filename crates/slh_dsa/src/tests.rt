@@ -16,7 +16,7 @@ const KEY: [u8; 4] = [5, 7, 3, 0xe1];
 
 const MESSAGE: [u8; 1] = [0x48];
 
-// Its signature of the message with an empty context and without a randomizer.
+// Its signature of the message with an empty context and without opt_rand.
 const SIGNATURE: [u8; 21] = [
     0x52, 0x52, 0x34, 0x89, 0x73, 0x3b, 0x15, 0x14, 0x1a, 0x49, 0x2b, 0x57, 0xa3, 0x3e, 0x1e, 0x17,
     0x2f, 0x36, 0x20, 0xa3, 0x3e,
@@ -126,16 +126,16 @@ fn refused<L: Ledger>(
 #[test]
 fn refusals_in_order(rt: HostRuntime) {
     let long = LONG_CONTEXT.as_slice();
-    let opt = Some([1, 2].as_slice());
+    let opt_rand = Some([1, 2].as_slice());
     let mut out = [0; 21];
-    let answer = refused::<Brand>(long, opt, &mut out[..20], Blank::new(1));
+    let answer = refused::<Brand>(long, opt_rand, &mut out[..20], Blank::new(1));
     assert_eq!(rt; answer, Err(Error::Length));
-    let answer = refused::<Brand>(long, opt, &mut out, Blank::new(1));
+    let answer = refused::<Brand>(long, opt_rand, &mut out, Blank::new(1));
     assert_eq!(rt; answer, Err(Error::ContextTooLong));
-    let answer = refused::<Brand>(&[], opt, &mut out, Blank::new(1));
+    let answer = refused::<Brand>(&[], opt_rand, &mut out, Blank::new(1));
     assert_eq!(rt; answer, Err(Error::RandomizerLength));
     assert_eq!(rt; out, [0; 21]);
-    let answer = SigningKey::<Toy>::check_sign(&MESSAGE, long, opt);
+    let answer = SigningKey::<Toy>::check_sign(&MESSAGE, long, opt_rand);
     assert_eq!(rt; answer, Err(Error::ContextTooLong));
 }
 

@@ -1,8 +1,8 @@
 //! Verifying keys (FIPS 205, section 9.1).
-ghost use Rattle.std.specs.Prelude.{◌≡◌, ◌≢◌, ◌≤◌, ◌↔◌, ◌+◌, ◌*◌, length, None, Some, IsOk, IfOk, IfErr, MatchResult};
+ghost use Rattle.std.specs.Prelude.{◌≡◌, ◌≢◌, ◌≤◌, ◌+◌, ◌*◌, length, IfOk, IfErr};
 ghost use Rattle.slh_core.specs.Costs.{slh_verify_bound};
-ghost use Rattle.slh_dsa.specs.Calls.{verify_error};
-ghost use Rattle.slh_dsa.specs.declared.error.Error.TheVariants.{Length, Invalid};
+ghost use Rattle.slh_dsa.specs.Calls.{RefusedExactly, verify_error, verifying_key_refusal};
+ghost use Rattle.slh_dsa.specs.declared.error.Error.TheVariants.{Invalid};
 
 use crate::error::Error;
 use crate::parameter_set::ParameterSet;
@@ -16,8 +16,8 @@ use std::alloc::AllocError;
 use std::marker::Model;
 use std::sync::ledger::Ledger;
 
-/// A verifying key: the public seed and the root of the top tree, of n bytes each. Clauses see it as
-/// these 2n bytes.
+/// A verifying key: the public seed and the root of the top tree, of n bytes each. Clauses see it
+/// as these 2n bytes.
 #[derive(Drop)]
 pub struct VerifyingKey<P: ParameterSet> {
     pub(crate) pk_seed: NBytes<P::N>,
@@ -37,9 +37,8 @@ impl<P: ParameterSet> Model for VerifyingKey<P> {
 impl<P: ParameterSet> VerifyingKey<P> {
     /// The key of 2n bytes. `Length`: there are fewer or more.
     pub fn try_from(bytes: &[u8]) -> Result<Self, Error>
-        ensures ok { IsOk result ↔ (length bytes.now ≡ 2 * P.N.USIZE) }
+        ensures refusal { RefusedExactly result (verifying_key_refusal P.scheme bytes.now) }
         ensures value { IfOk result (λ key. key ≡ bytes.now) }
-        ensures refusal { IfErr result (λ e. e ≡ Length) }
     {
         chain_sizes::<P>();
         let n = P::N::USIZE;
@@ -53,9 +52,9 @@ impl<P: ParameterSet> VerifyingKey<P> {
         })
     }
 
-    /// Verifies the bytes of a signature of a message with a context (FIPS 205, algorithm 24), where
-    /// they stand. `Length`: they aren't as many as a signature has; `ContextTooLong`, `MessageTooLong`;
-    /// `Invalid`: they don't lead to the key's root.
+    /// Verifies the bytes of a signature of a message with a context (FIPS 205, algorithm 24),
+    /// where they stand. `Length`: they aren't as many as a signature has; `ContextTooLong`,
+    /// `MessageTooLong`; `Invalid`: they don't lead to the key's root.
     pub fn slh_verify_counted<L: Ledger>(
         &self,
         msg: &[u8],
@@ -63,8 +62,8 @@ impl<P: ParameterSet> VerifyingKey<P> {
         sig: &[u8],
         steps: &mut Steps<L>,
     ) -> Result<(), Error>
-        ensures value { let error = verify_error P.scheme self.now ctx.now msg.now sig.now in
-            MatchResult result (λ _. error ≡ None) (λ e. error ≡ Some e) }
+        ensures value { RefusedExactly result
+            (verify_error P.scheme self.now ctx.now msg.now sig.now) }
         ensures bound { steps.new ≤ steps.old + slh_verify_bound P.scheme }
         ensures free { IfErr result (λ e. e ≢ Invalid → steps.new ≡ steps.old) }
     {

@@ -9,7 +9,7 @@ use Rattle.hmac_sha256.specs.Sha256.{sha256}
 use Rattle.slh_core.specs.Address.{compressed_address}
 use Rattle.slh_core.specs.Bytes.{joined, part}
 use Rattle.slh_core.proofs.Joins.{joined_same, part-joined}
-use Rattle.slh_hash.specs.Sha2.{seed_block, tweaked_hash}
+use Rattle.slh_hash.specs.Sha2.{seed_block, tweaked_hash_256}
 
 -- the digest in a place that isn't past the last
 pub digest_of_place : (m : List ℕ) (len last k : ℕ) (tails digests : List (List ℕ)) (tail : ℕ → List ℕ)
@@ -80,10 +80,10 @@ pub group_hashed : (at : ℕ → List ℕ) (n width d r : ℕ) (s nums cur whole
     → made ≡ joined (λ k. take n (slice_index_or digests k [])) r
     → ((k : ℕ) → k < r
     → slice_index_or digests k []
-    ≡ sha256 (seed_block n s ++ (compressed_address (at (slice_index (slice_range nums d (d + r)) k))
+    ≡ sha256 (seed_block 64 n s ++ (compressed_address (at (slice_index (slice_range nums d (d + r)) k))
     ++ part width (slice_range cur (d * width) ((d + r) * width)) k)))
-    → made ≡ joined (λ i. tweaked_hash n s (at (slice_index nums (d + i))) (part width whole (d + i))) r
-unfolding tweaked_hash
+    → made ≡ joined (λ i. tweaked_hash_256 n s (at (slice_index nums (d + i))) (part width whole (d + i))) r
+unfolding tweaked_hash_256
 group_hashed at n width d r s nums cur whole made digests same made_is digest_is =
     made_is ∙ joined_same _ _ r (λ i below.
     ap (take n) (digest_is i below ∙ rw (number_of_group d r i nums below, part_of_group width d r i cur whole below same) refl))

@@ -1,2 +1,3 @@
 mod Grouped
+mod Pieces
 mod Started

@@ -1,2 +1,5 @@
+pub mod HmacSha512
 pub mod Sha2
 pub mod Lengths
+pub mod Keyed
+pub mod Sets

@@ -1,10 +1,13 @@
-//! The hash from which every hash of an address goes on.
+//! The hashes from which every hash of an address goes on.
 ghost use Rattle.hmac_sha256.specs.Hash.{StandsFor, StandsFor-prop, absorbed_bytes};
+ghost use Rattle.sha2.specs.Hashers.{Holds512};
+ghost use Rattle.slh_hash.specs.Keyed.{Holds512-prop};
 ghost use Rattle.slh_hash.specs.Sha2.{seed_block};
 ghost use Rattle.std.specs.Prelude.{◌≡◌, ◌≤◌};
 
 use hmac_sha256::Hash;
 use hybrid_array::ArraySize;
+use sha2::Sha512;
 use slh_core::nbytes::NBytes;
 
 /// A public seed, and SHA-256 as it stands after the seed and the zeros that fill its block of 64
@@ -13,7 +16,16 @@ use slh_core::nbytes::NBytes;
 pub struct Sha2Keyed<N: ArraySize> {
     pub(crate) pk_seed: NBytes<N>,
     pub(crate) started: Hash,
-    ghost stands: { StandsFor started (seed_block N.USIZE pk_seed) } by { StandsFor-prop started (seed_block N.USIZE pk_seed) },
+    ghost stands: { StandsFor started (seed_block 64 N.USIZE pk_seed) } by { StandsFor-prop started (seed_block 64 N.USIZE pk_seed) },
     ghost one_block: { absorbed_bytes started ≡ 64 },
     ghost small: { N.USIZE ≤ 32 },
+}
+
+/// The same for the categories 3 and 5, where H and T go on from SHA-512 as it stands after the
+/// seed and the zeros that fill its block of 128 bytes (FIPS 205, section 11.2.2).
+#[derive(Drop)]
+pub struct Sha2Keyed35<N: ArraySize> {
+    pub(crate) keyed: Sha2Keyed<N>,
+    pub(crate) started: Sha512,
+    ghost holds: { Holds512 started (seed_block 128 N.USIZE keyed.pk_seed) } by { Holds512-prop started (seed_block 128 N.USIZE keyed.pk_seed) },
 }

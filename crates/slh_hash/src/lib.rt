@@ -5,15 +5,21 @@
 
 mod join;
 mod keyed;
+mod mac;
 mod mgf1;
 mod rows;
 mod sets;
 mod sha2_l1;
+mod sha2_l35;
 #[cfg(test)]
 mod tests;
+#[cfg(test)]
+mod tests_35;
 mod tweaked;
 
-pub use keyed::Sha2Keyed;
-pub use mgf1::mgf1_256;
-pub use sets::{Sha2_128f, Sha2_128s};
+pub use keyed::{Sha2Keyed, Sha2Keyed35};
+pub use mac::hmac_sha512;
+pub use mgf1::{mgf1_256, mgf1_512};
+pub use sets::{Sha2_128f, Sha2_128s, Sha2_192f, Sha2_192s, Sha2_256f, Sha2_256s};
 pub use sha2_l1::Sha2L1;
+pub use sha2_l35::Sha2L35;

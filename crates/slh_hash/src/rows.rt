@@ -4,7 +4,7 @@ ghost use Rattle.std.specs.Prelude.{slice_index, slice_index_or, take};
 ghost use Rattle.hmac_sha256.specs.Sha256.{sha256};
 ghost use Rattle.slh_core.specs.Address.{compressed_address};
 ghost use Rattle.slh_core.specs.Bytes.{joined, part};
-ghost use Rattle.slh_hash.specs.Sha2.{seed_block, tweaked_hash};
+ghost use Rattle.slh_hash.specs.Sha2.{seed_block, tweaked_hash_256};
 
 use crate::join::put_two;
 use crate::keyed::Sha2Keyed;
@@ -78,7 +78,7 @@ fn digests_of<N: ArraySize, A: RowAddress + Drop>(
     requires whole { length inputs.now ≡ length numbers.now * width }
     requires short { ADDRESS_LEN + width ≤ MAX_TAIL }
     ensures { (k : ℕ) → k < length numbers.now
-        → slice_index_or result k [] ≡ sha256 (seed_block N.USIZE keyed.now.pk_seed
+        → slice_index_or result k [] ≡ sha256 (seed_block 64 N.USIZE keyed.now.pk_seed
         ++ (compressed_address (A.numbered adrs.now (slice_index numbers.now k))
         ++ part width inputs.now k)) }
 {
@@ -134,7 +134,7 @@ pub(crate) fn hash_each<N: ArraySize, A: RowAddress + Drop, L: Ledger>(
     ensures value { let n = N.USIZE in
         let at : ℕ → List ℕ = λ k. A.numbered adrs.now (slice_index numbers.now k) in
         let s = keyed.now.pk_seed in
-        let hash : ℕ → List ℕ = λ k. tweaked_hash n s (at k) (part n values.old k) in
+        let hash : ℕ → List ℕ = λ k. tweaked_hash_256 n s (at k) (part n values.old k) in
         values.new ≡ joined hash (length numbers.now) }
     ensures step { steps.new ≡ steps.old + length numbers.now }
 {
@@ -166,7 +166,7 @@ fn hash_short_pairs<N: ArraySize, A: RowAddress + Drop, L: Ledger>(
     ensures value { let n = N.USIZE in
         let at : ℕ → List ℕ = λ k. A.numbered adrs.now (slice_index numbers.now k) in
         let s = keyed.now.pk_seed in
-        let hash : ℕ → List ℕ = λ k. tweaked_hash n s (at k) (part (2 * n) pairs.now k) in
+        let hash : ℕ → List ℕ = λ k. tweaked_hash_256 n s (at k) (part (2 * n) pairs.now k) in
         out.new ≡ joined hash (length numbers.now) }
     ensures step { steps.new ≡ steps.old + length numbers.now }
 {
@@ -198,7 +198,7 @@ fn hash_long_pairs<N: ArraySize, A: RowAddress + Drop, L: Ledger>(
     ensures value { let n = N.USIZE in
         let at : ℕ → List ℕ = λ k. A.numbered adrs.now (slice_index numbers.now k) in
         let s = keyed.now.pk_seed in
-        let hash : ℕ → List ℕ = λ k. tweaked_hash n s (at k) (part (2 * n) pairs.now k) in
+        let hash : ℕ → List ℕ = λ k. tweaked_hash_256 n s (at k) (part (2 * n) pairs.now k) in
         out.new ≡ joined hash (length numbers.now) }
     ensures step { steps.new ≡ steps.old + length numbers.now }
 {
@@ -228,7 +228,7 @@ pub(crate) fn hash_pairs<N: ArraySize, A: RowAddress + Drop, L: Ledger>(
     ensures value { let n = N.USIZE in
         let at : ℕ → List ℕ = λ k. A.numbered adrs.now (slice_index numbers.now k) in
         let s = keyed.now.pk_seed in
-        let hash : ℕ → List ℕ = λ k. tweaked_hash n s (at k) (part (2 * n) pairs.now k) in
+        let hash : ℕ → List ℕ = λ k. tweaked_hash_256 n s (at k) (part (2 * n) pairs.now k) in
         out.new ≡ joined hash (length numbers.now) }
     ensures step { steps.new ≡ steps.old + length numbers.now }
 {

@@ -1,9 +1,15 @@
-//! The parameter sets over SHA-2 of security category 1 (FIPS 205, section 11, table 2).
+//! The parameter sets over SHA-2 (FIPS 205, section 11, table 2).
+ghost use Rattle.slh_hash.specs.Sets.{sha2_128s, sha2_128f, sha2_192s, sha2_192f};
+ghost use Rattle.slh_hash.specs.Sets.{sha2_256s, sha2_256f};
+
 use crate::sha2_l1::Sha2L1;
+use crate::sha2_l35::Sha2L35;
 use hybrid_array::sizes::{
-    U3, U6, U7, U9, U12, U14, U16, U21, U22, U25, U30, U32, U33, U34, U35, U63, U66,
+    U3, U4, U6, U7, U8, U9, U12, U14, U16, U17, U21, U22, U24, U25, U30, U32, U33, U34, U35, U39,
+    U40, U42, U47, U48, U49, U51, U63, U64, U66, U67, U68, U96, U128, U7856, U16224, U17088,
+    U29792, U35664, U49856,
 };
-use slh_core::params::{ForsParams, HypertreeParams, WotsParams, XmssParams};
+use slh_core::set_row::SetRow;
 
 /// SLH-DSA-SHA2-128s: small signatures.
 pub type Sha2_128s = Sha2L1<U16, U30>;
@@ -11,38 +17,32 @@ pub type Sha2_128s = Sha2L1<U16, U30>;
 /// SLH-DSA-SHA2-128f: fast signing.
 pub type Sha2_128f = Sha2L1<U16, U34>;
 
-impl WotsParams for Sha2_128s {
+/// SLH-DSA-SHA2-192s: small signatures.
+pub type Sha2_192s = Sha2L35<U24, U39>;
+
+/// SLH-DSA-SHA2-192f: fast signing.
+pub type Sha2_192f = Sha2L35<U24, U42>;
+
+/// SLH-DSA-SHA2-256s: small signatures.
+pub type Sha2_256s = Sha2L35<U32, U47>;
+
+/// SLH-DSA-SHA2-256f: fast signing.
+pub type Sha2_256f = Sha2L35<U32, U49>;
+
+impl SetRow for Sha2_128s {
     ghost use Rattle.std.proofs.Common.{rules};
+
+    const NAME: &'static str = "SLH-DSA-SHA2-128s";
 
     type WotsMsgLen = U32;
 
     type WotsSigLen = U35;
 
-    ghost valid_wots = { Prim.search rules };
-}
-
-impl XmssParams for Sha2_128s {
-    ghost use Rattle.std.proofs.Common.{rules};
-
     type HPrime = U9;
-
-    ghost valid_xmss = { Prim.search rules };
-}
-
-impl HypertreeParams for Sha2_128s {
-    ghost use Rattle.std.proofs.Common.{rules};
 
     type D = U7;
 
     type H = U63;
-
-    ghost valid_hypertree = { Prim.search rules };
-}
-
-impl ForsParams for Sha2_128s {
-    ghost use Rattle.slh_core.specs.Parameters.{scheme_of};
-    ghost use Rattle.slh_hash.specs.Sha2.{sha2_category_1};
-    ghost use Rattle.std.proofs.Common.{rules, refl};
 
     type K = U14;
 
@@ -50,45 +50,35 @@ impl ForsParams for Sha2_128s {
 
     type MD = U21;
 
-    ghost scheme = { scheme_of (sha2_category_1 16 30) 16 9 7 12 14 };
+    type SkLen = U64;
 
-    ghost scheme_is = { refl };
+    type VkLen = U32;
 
-    ghost valid_fors = { Prim.search rules };
+    type SigLen = U7856;
+
+    ghost set_name = { sha2_128s.name };
+
+    fn set_name() -> &'static str {
+        Self::NAME
+    }
+
+    ghost valid = { Prim.search rules };
 }
 
-impl WotsParams for Sha2_128f {
+impl SetRow for Sha2_128f {
     ghost use Rattle.std.proofs.Common.{rules};
+
+    const NAME: &'static str = "SLH-DSA-SHA2-128f";
 
     type WotsMsgLen = U32;
 
     type WotsSigLen = U35;
 
-    ghost valid_wots = { Prim.search rules };
-}
-
-impl XmssParams for Sha2_128f {
-    ghost use Rattle.std.proofs.Common.{rules};
-
     type HPrime = U3;
-
-    ghost valid_xmss = { Prim.search rules };
-}
-
-impl HypertreeParams for Sha2_128f {
-    ghost use Rattle.std.proofs.Common.{rules};
 
     type D = U22;
 
     type H = U66;
-
-    ghost valid_hypertree = { Prim.search rules };
-}
-
-impl ForsParams for Sha2_128f {
-    ghost use Rattle.slh_core.specs.Parameters.{scheme_of};
-    ghost use Rattle.slh_hash.specs.Sha2.{sha2_category_1};
-    ghost use Rattle.std.proofs.Common.{rules, refl};
 
     type K = U33;
 
@@ -96,9 +86,161 @@ impl ForsParams for Sha2_128f {
 
     type MD = U25;
 
-    ghost scheme = { scheme_of (sha2_category_1 16 34) 16 3 22 6 33 };
+    type SkLen = U64;
 
-    ghost scheme_is = { refl };
+    type VkLen = U32;
 
-    ghost valid_fors = { Prim.search rules };
+    type SigLen = U17088;
+
+    ghost set_name = { sha2_128f.name };
+
+    fn set_name() -> &'static str {
+        Self::NAME
+    }
+
+    ghost valid = { Prim.search rules };
+}
+
+impl SetRow for Sha2_192s {
+    ghost use Rattle.std.proofs.Common.{rules};
+
+    const NAME: &'static str = "SLH-DSA-SHA2-192s";
+
+    type WotsMsgLen = U48;
+
+    type WotsSigLen = U51;
+
+    type HPrime = U9;
+
+    type D = U7;
+
+    type H = U63;
+
+    type K = U17;
+
+    type A = U14;
+
+    type MD = U30;
+
+    type SkLen = U96;
+
+    type VkLen = U48;
+
+    type SigLen = U16224;
+
+    ghost set_name = { sha2_192s.name };
+
+    fn set_name() -> &'static str {
+        Self::NAME
+    }
+
+    ghost valid = { Prim.search rules };
+}
+
+impl SetRow for Sha2_192f {
+    ghost use Rattle.std.proofs.Common.{rules};
+
+    const NAME: &'static str = "SLH-DSA-SHA2-192f";
+
+    type WotsMsgLen = U48;
+
+    type WotsSigLen = U51;
+
+    type HPrime = U3;
+
+    type D = U22;
+
+    type H = U66;
+
+    type K = U33;
+
+    type A = U8;
+
+    type MD = U33;
+
+    type SkLen = U96;
+
+    type VkLen = U48;
+
+    type SigLen = U35664;
+
+    ghost set_name = { sha2_192f.name };
+
+    fn set_name() -> &'static str {
+        Self::NAME
+    }
+
+    ghost valid = { Prim.search rules };
+}
+
+impl SetRow for Sha2_256s {
+    ghost use Rattle.std.proofs.Common.{rules};
+
+    const NAME: &'static str = "SLH-DSA-SHA2-256s";
+
+    type WotsMsgLen = U64;
+
+    type WotsSigLen = U67;
+
+    type HPrime = U8;
+
+    type D = U8;
+
+    type H = U64;
+
+    type K = U22;
+
+    type A = U14;
+
+    type MD = U39;
+
+    type SkLen = U128;
+
+    type VkLen = U64;
+
+    type SigLen = U29792;
+
+    ghost set_name = { sha2_256s.name };
+
+    fn set_name() -> &'static str {
+        Self::NAME
+    }
+
+    ghost valid = { Prim.search rules };
+}
+
+impl SetRow for Sha2_256f {
+    ghost use Rattle.std.proofs.Common.{rules};
+
+    const NAME: &'static str = "SLH-DSA-SHA2-256f";
+
+    type WotsMsgLen = U64;
+
+    type WotsSigLen = U67;
+
+    type HPrime = U4;
+
+    type D = U17;
+
+    type H = U68;
+
+    type K = U35;
+
+    type A = U9;
+
+    type MD = U40;
+
+    type SkLen = U128;
+
+    type VkLen = U64;
+
+    type SigLen = U49856;
+
+    ghost set_name = { sha2_256f.name };
+
+    fn set_name() -> &'static str {
+        Self::NAME
+    }
+
+    ghost valid = { Prim.search rules };
 }

@@ -26,7 +26,7 @@ pub struct Sha2L1<N: ArraySize, M: ArraySize> {
     digest: PhantomData<M>,
 }
 
-#[tactic(auto, unfolding(crate::specs::Sha2::message_digest))]
+#[tactic(auto, unfolding(crate::specs::Sha2::message_digest_256))]
 impl<N: ArraySize, M: ArraySize> HashSuite for Sha2L1<N, M> {
     type N = N;
 

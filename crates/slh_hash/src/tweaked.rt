@@ -1,25 +1,27 @@
 //! The hashes of an address and an input.
 ghost use Rattle.std.specs.Prelude.{◌≡◌, ◌≤◌, ◌++◌, length, take, replicate};
-ghost use Rattle.slh_hash.specs.Sha2.{tweaked_hash};
+ghost use Rattle.slh_hash.specs.Sha2.{tweaked_hash_256, tweaked_hash_512};
 
 use crate::join::put_two;
-use crate::keyed::Sha2Keyed;
+use crate::keyed::{Sha2Keyed, Sha2Keyed35};
 use hmac_sha256::Hash;
 use hybrid_array::ArraySize;
+use sha2::{Digest, Sha512};
 use slh_core::address::Address;
 use slh_core::nbytes::NBytes;
-use slh_core::params::MAX_ENDS_LEN;
 
-const BLOCK_LEN: usize = 64;
+const SHA256_BLOCK_LEN: usize = 64;
 
-const ZEROS: [u8; BLOCK_LEN] = [0; BLOCK_LEN];
+const SHA512_BLOCK_LEN: usize = 128;
+
+const ZEROS: [u8; SHA512_BLOCK_LEN] = [0; SHA512_BLOCK_LEN];
 
 // A compressed address and two values of 32 bytes.
 const SHORT_LEN: usize = 86;
 
 // So many zeros.
 fn zeros(count: usize) -> &'static [u8]
-    requires { count ≤ 64 }
+    requires { count ≤ 128 }
     ensures { result.now ≡ replicate count 0 }
 {
     &ZEROS[..count]
@@ -32,14 +34,25 @@ pub(crate) fn start<N: ArraySize>(pk_seed: &NBytes<N>) -> Sha2Keyed<N>
     let seed = pk_seed.as_slice();
     let mut started = Hash::new();
     started.update(seed);
-    started.update(zeros(BLOCK_LEN - seed.len()));
+    started.update(zeros(SHA256_BLOCK_LEN - seed.len()));
     Sha2Keyed {
         pk_seed: pk_seed.copy(),
         started,
     }
 }
 
-/// The hash of an address and an input of at most 64 bytes.
+/// The state for a public seed in the categories 3 and 5.
+pub(crate) fn start_35<N: ArraySize>(pk_seed: &NBytes<N>) -> Sha2Keyed35<N>
+    ensures { result.keyed.pk_seed ≡ pk_seed.now }
+{
+    let keyed = start(pk_seed);
+    let seed = pk_seed.as_slice();
+    let mut started = Sha512::new_with_prefix(seed);
+    started.update(zeros(SHA512_BLOCK_LEN - seed.len()));
+    Sha2Keyed35 { keyed, started }
+}
+
+/// The SHA-256 hash of an address and an input of at most 64 bytes.
 #[inline]
 pub(crate) fn short_hash<N: ArraySize, A: Address>(
     keyed: &Sha2Keyed<N>,
@@ -47,24 +60,39 @@ pub(crate) fn short_hash<N: ArraySize, A: Address>(
     input: &[u8],
 ) -> NBytes<N>
     requires { length input.now ≤ 64 }
-    ensures { result ≡ tweaked_hash N.USIZE keyed.now.pk_seed (A.bytes adrs.now) input.now }
+    ensures { result ≡ tweaked_hash_256 N.USIZE keyed.now.pk_seed (A.bytes adrs.now) input.now }
 {
     let mut tail = [0u8; SHORT_LEN];
     let end = put_two(&adrs.compressed(), input, &mut tail);
     NBytes::first_of(keyed.started.finalize_with(&tail[..end]))
 }
 
-/// The hash of an address and an input of at most `MAX_ENDS_LEN` bytes.
+/// The SHA-256 hash of an address and an input of any length up to 2144 bytes.
 pub(crate) fn long_hash<N: ArraySize, A: Address>(
     keyed: &Sha2Keyed<N>,
     adrs: &A,
     input: &[u8],
 ) -> NBytes<N>
-    requires { length input.now ≤ MAX_ENDS_LEN }
-    ensures { result ≡ tweaked_hash N.USIZE keyed.now.pk_seed (A.bytes adrs.now) input.now }
+    requires { length input.now ≤ 2144 }
+    ensures { result ≡ tweaked_hash_256 N.USIZE keyed.now.pk_seed (A.bytes adrs.now) input.now }
 {
     let mut hash = keyed.started.copy();
     hash.update(&adrs.compressed());
     hash.update(input);
     NBytes::first_of(hash.finalize())
+}
+
+/// The SHA-512 hash of an address and an input.
+pub(crate) fn wide_hash<N: ArraySize, A: Address>(
+    keyed: &Sha2Keyed35<N>,
+    adrs: &A,
+    input: &[u8],
+) -> NBytes<N>
+    ensures { let seed = keyed.now.keyed.pk_seed in
+        result ≡ tweaked_hash_512 N.USIZE seed (A.bytes adrs.now) input.now }
+{
+    let mut hash = keyed.started.clone().unwrap();
+    hash.update(adrs.compressed());
+    hash.update(input);
+    NBytes::exact(&hash.finalize()[..N::USIZE])
 }

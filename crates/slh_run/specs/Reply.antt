@@ -1,5 +1,6 @@
 -- The reply to a line (README, "Lines").
-use Rattle.std.specs.Prelude.{◌==◌, ℕ, ◌/◌, List, [], ◌++◌, length, drop, Result, Ok, Err, codes, if◌then◌else◌}
+use Rattle.std.specs.Prelude.{◌==◌, ℕ, ◌/◌, List, [], ◌++◌, length, drop, Result, Ok, Err, codes}
+use Rattle.std.specs.Prelude.{if◌then◌else◌}
 use Rattle.hex.specs.Hex.{encode_lower}
 use Rattle.line_serve.specs.Fields.{fields}
 use Rattle.slh_run.specs.Judgement.{judgement}
@@ -16,7 +17,8 @@ use Rattle.slh_run.specs.declared.request.Request.{Request}
 -- the verifying key is the last half of a signing key
 abbrev pub key_text : List ℕ → List ℕ
 key_text key =
-    codes "key " ++ encode_lower key ++ codes " " ++ encode_lower (drop (length key / 2) key) ++ codes "\n"
+    codes "key " ++ encode_lower key ++ codes " " ++ encode_lower (drop (length key / 2) key)
+    ++ codes "\n"
 
 abbrev pub signature_text : List ℕ → List ℕ
 signature_text signature = codes "sig " ++ encode_lower signature ++ codes "\n"
@@ -48,5 +50,8 @@ request_text (Err found) = fault_text found
 request_text (Ok request) = answer_text (judgement (scheme_for request.set) request.job)
 
 -- a line without fields has no reply
+abbrev pub reply_of_fields : List (List ℕ) → List ℕ
+reply_of_fields fields = if length fields == 0 then [] else request_text (request_of fields)
+
 abbrev pub reply_of_line : List ℕ → List ℕ
-reply_of_line line = if length (fields line) == 0 then [] else request_text (request_of (fields line))
+reply_of_line line = reply_of_fields (fields line)

@@ -1,5 +1,6 @@
 -- What a job line asks for, by its fields (README, "Lines").
-use Rattle.std.specs.Prelude.{◌==◌, ℕ, List, [], length, slice_get, unwrap_or, Option, None, Some, Result, Ok, Err, codes, if◌then◌else◌}
+use Rattle.std.specs.Prelude.{◌==◌, ℕ, List, [], length, slice_get, unwrap_or, Option, None, Some}
+use Rattle.std.specs.Prelude.{Result, Ok, Err, codes, if◌then◌else◌}
 use Rattle.std.specs.Str.{bytes_eq}
 use Rattle.line_serve.specs.Fields.{hex_value}
 use Rattle.slh_run.specs.Sets.{set_named}

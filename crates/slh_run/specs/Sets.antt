@@ -1,23 +1,34 @@
--- The parameter sets by their names (FIPS 205, section 11, table 2).
-use Rattle.std.specs.Prelude.{ℕ, List, Option, None, Some, codes, if◌then◌else◌}
+-- The parameter sets that the program answers for.
+use Rattle.std.specs.Prelude.{ℕ, List, [], ◌∷◌, Option}
+use Rattle.std.specs.List.{find}
 use Rattle.std.specs.Str.{bytes_eq}
-use Rattle.slh_core.specs.Parameters.{Scheme, scheme_of}
-use Rattle.slh_hash.specs.Sha2.{sha2_category_1}
+use Rattle.slh_core.specs.Parameters.{Scheme}
+use Rattle.slh_hash.specs.Sets.{ParameterSet, sha2_128s, sha2_128f, sha2_192s, sha2_192f}
+use Rattle.slh_hash.specs.Sets.{sha2_256s, sha2_256f}
 use Rattle.slh_run.specs.declared.set.Set.{Set}
 use Rattle.slh_run.specs.declared.set.Set.TheVariants.{Sha2_128s, Sha2_128f}
+use Rattle.slh_run.specs.declared.set.Set.TheVariants.{Sha2_192s, Sha2_192f}
+use Rattle.slh_run.specs.declared.set.Set.TheVariants.{Sha2_256s, Sha2_256f}
+
+abbrev pub parameters_of : Set → ParameterSet
+parameters_of Sha2_128s = sha2_128s
+parameters_of Sha2_128f = sha2_128f
+parameters_of Sha2_192s = sha2_192s
+parameters_of Sha2_192f = sha2_192f
+parameters_of Sha2_256s = sha2_256s
+parameters_of Sha2_256f = sha2_256f
+
+abbrev pub all_sets : List Set
+all_sets =
+    Sha2_128s ∷ Sha2_128f ∷ Sha2_192s ∷ Sha2_192f ∷ Sha2_256s ∷ Sha2_256f ∷ []
 
 abbrev pub name_of : Set → List ℕ
-name_of Sha2_128s = codes "SLH-DSA-SHA2-128s"
-name_of Sha2_128f = codes "SLH-DSA-SHA2-128f"
+name_of set = (parameters_of set).name
 
 -- the set with a name, if there is one
 abbrev pub set_named : List ℕ → Option Set
-set_named name =
-    if bytes_eq name (name_of Sha2_128s) then Some Sha2_128s
-    else if bytes_eq name (name_of Sha2_128f) then Some Sha2_128f
-    else None
+set_named name = find (λ set. bytes_eq name (name_of set)) all_sets
 
--- the suite and the sizes n, h', d, a and k of a set
+-- the suite and the sizes of a set
 abbrev pub scheme_for : Set → Scheme
-scheme_for Sha2_128s = scheme_of (sha2_category_1 16 30) 16 9 7 12 14
-scheme_for Sha2_128f = scheme_of (sha2_category_1 16 34) 16 3 22 6 33
+scheme_for set = (parameters_of set).scheme

@@ -21,7 +21,8 @@ pub enum Job {
         context: ByteString,
         /// The message, at most 2^60 bytes.
         message: ByteString,
-        /// The randomizer, n bytes. Without one the public seed stands in its place.
+        /// The bytes that the randomizer is made from, n of them. Without any the public seed
+        /// stands in their place.
         randomizer: Option<ByteString>,
     },
     /// Whether a signature is one of a message with a context.
@@ -55,7 +56,7 @@ pub enum Error {
     Length,
     /// The context has more than 255 bytes.
     ContextTooLong,
-    /// A randomizer was given that doesn't have n bytes.
+    /// A `randomizer` was given that doesn't have n bytes.
     RandomizerLength,
     /// The message has more than 2^60 bytes.
     MessageTooLong,

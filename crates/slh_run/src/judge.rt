@@ -14,7 +14,7 @@ use line_serve::ByteString;
 use slh_core::params::chain_sizes;
 use slh_core::steps::Steps;
 use slh_dsa::{ParameterSet, SigningKey, VerifyingKey};
-use slh_hash::{Sha2_128f, Sha2_128s};
+use slh_hash::{Sha2_128f, Sha2_128s, Sha2_192f, Sha2_192s, Sha2_256f, Sha2_256s};
 use std::alloc::{AllocError, Global};
 use std::marker::Brand;
 use std::sync::ledger::{Blank, Ledger};
@@ -76,7 +76,7 @@ fn sign<P: ParameterSet, L: Ledger>(
     let key = SigningKey::<P>::try_from(key)?;
     SigningKey::<P>::check_sign(msg, ctx, randomizer)?;
     let mut bytes = ByteString::zeroed(alloc, P::SigLen::USIZE)?;
-    key.slh_sign_counted(msg, ctx, randomizer, bytes.as_mut_slice(), steps)?;
+    key.slh_sign_checked(msg, ctx, randomizer, bytes.as_mut_slice(), steps);
     Ok(Answer::Signature(bytes))
 }
 
@@ -168,5 +168,9 @@ pub fn run(alloc: Global, set: Set, job: &Job) -> Result<Answer, Error>
     match set {
         Set::Sha2_128s => run_set::<Sha2_128s>(alloc, job),
         Set::Sha2_128f => run_set::<Sha2_128f>(alloc, job),
+        Set::Sha2_192s => run_set::<Sha2_192s>(alloc, job),
+        Set::Sha2_192f => run_set::<Sha2_192f>(alloc, job),
+        Set::Sha2_256s => run_set::<Sha2_256s>(alloc, job),
+        Set::Sha2_256f => run_set::<Sha2_256f>(alloc, job),
     }
 }

@@ -11,13 +11,15 @@ mod reply;
 mod request;
 mod set;
 #[cfg(test)]
+mod set_tests;
+#[cfg(test)]
 mod tests;
 
 pub use job::{Answer, Error, Job};
 pub use judge::run;
 pub use line_serve::{
     ByteString, Failed, MemSink, MemSource, NullSink, QuietSource, Replier, Sink, Source, Words,
-    count_fields, field, hex_field, serve_lines, write_all,
+    count_fields, cut_fields, field, hex_field, serve_lines, write_all,
 };
 pub use program::serve;
 pub use set::Set;

@@ -1,11 +1,13 @@
 //! The replies to job lines.
 ghost use Rattle.std.specs.Prelude.{◌≡◌, ◌+◌, ◌-◌, ◌*◌, ◌/◌, ◌++◌, length, Ok, OnOk, OnErr};
-ghost use Rattle.slh_run.specs.Reply.{error_text, fault_text, key_text, reply_of_line, request_text, signature_text};
+ghost use Rattle.line_serve.specs.Fields.{contents};
+ghost use Rattle.slh_run.specs.Reply.{error_text, fault_text, key_text, reply_of_fields};
+ghost use Rattle.slh_run.specs.Reply.{reply_of_line, request_text, signature_text};
 
 use crate::job::{Answer, Error};
 use crate::judge::run;
-use crate::request::{Fault, Request, read_request};
-use line_serve::{ByteString, Replier, count_fields};
+use crate::request::{Fault, KEPT_FIELDS, Request, read_request};
+use line_serve::{ByteString, Replier, cut_fields};
 use std::alloc::{AllocError, Global};
 
 /// Answers job lines.
@@ -13,7 +15,8 @@ pub(crate) struct Jobs;
 
 // Writes the text of a key.
 fn write_key(key: &[u8], text: &mut [u8])
-    requires { length text.old ≡ 2 * length key.now + 2 * (length key.now - length key.now / 2) + 6 }
+    requires { length text.old
+        ≡ 2 * length key.now + 2 * (length key.now - length key.now / 2) + 6 }
     ensures { text.new ≡ key_text key.now }
 {
     let (word, rest) = text.split_at_mut(4);
@@ -40,32 +43,30 @@ fn write_signature(signature: &[u8], text: &mut [u8])
     end.copy_from_slice(b"\n");
 }
 
-// Puts the text of a key at the end, in one growth.
-fn push_key(out: &mut ByteString, key: &[u8]) -> Result<(), AllocError>
+// Puts the text of a key at the end.
+fn push_key(alloc: Global, out: &mut ByteString, key: &[u8]) -> Result<(), AllocError>
     ensures ok { OnOk result (out.new ≡ out.old ++ key_text key.now) }
     ensures err { OnErr result (out.new ≡ out.old) }
 {
-    let start = out.len();
     let public = key.len() - key.len() / 2;
     let len = key
         .len()
         .saturating_mul(2)
         .saturating_add(public.saturating_mul(2));
-    out.resize(start.saturating_add(len.saturating_add(6)), 0)?;
-    write_key(key, &mut out.as_mut_slice()[start..]);
-    Ok(())
+    let mut text = ByteString::zeroed(alloc, len.saturating_add(6))?;
+    write_key(key, text.as_mut_slice());
+    out.push_slice(text.as_slice())
 }
 
-// Puts the text of a signature at the end, in one growth.
-fn push_signature(out: &mut ByteString, signature: &[u8]) -> Result<(), AllocError>
+// Puts the text of a signature at the end.
+fn push_signature(alloc: Global, out: &mut ByteString, signature: &[u8]) -> Result<(), AllocError>
     ensures ok { OnOk result (out.new ≡ out.old ++ signature_text signature.now) }
     ensures err { OnErr result (out.new ≡ out.old) }
 {
-    let start = out.len();
     let len = signature.len().saturating_mul(2);
-    out.resize(start.saturating_add(len.saturating_add(5)), 0)?;
-    write_signature(signature, &mut out.as_mut_slice()[start..]);
-    Ok(())
+    let mut text = ByteString::zeroed(alloc, len.saturating_add(5))?;
+    write_signature(signature, text.as_mut_slice());
+    out.push_slice(text.as_slice())
 }
 
 impl Error {
@@ -105,11 +106,26 @@ fn push_answer(alloc: Global, request: &Request, out: &mut ByteString) -> Result
     ensures err { OnErr result (out.new ≡ out.old) }
 {
     match run(alloc, request.set, &request.job) {
-        Ok(Answer::Key(key)) => push_key(out, key.as_slice()),
-        Ok(Answer::Signature(signature)) => push_signature(out, signature.as_slice()),
+        Ok(Answer::Key(key)) => push_key(alloc, out, key.as_slice()),
+        Ok(Answer::Signature(signature)) => push_signature(alloc, out, signature.as_slice()),
         Ok(Answer::Accepted) => out.push_slice(b"accepted\n"),
         Err(Error::Memory) => Err(AllocError),
         Err(refusal) => out.push_slice(refusal.text()),
+    }
+}
+
+// Puts the reply to a line of these fields at the end.
+fn push_reply(alloc: Global, fields: &[&[u8]], out: &mut ByteString) -> Result<(), AllocError>
+    ensures ok { OnOk result (out.new ≡ out.old ++ reply_of_fields (contents fields.now)) }
+    ensures err { OnErr result (out.new ≡ out.old) }
+{
+    if fields.is_empty() {
+        return Ok(());
+    }
+    match read_request(alloc, fields) {
+        Ok(request) => push_answer(alloc, &request, out),
+        Err(Fault::Memory) => Err(AllocError),
+        Err(found) => out.push_slice(found.text()),
     }
 }
 
@@ -117,13 +133,8 @@ impl Replier for Jobs {
     ghost reply_of = { λ _. reply_of_line };
 
     fn reply(&self, alloc: Global, line: &[u8], out: &mut ByteString) -> Result<(), AllocError> {
-        if count_fields(line) == 0 {
-            return Ok(());
-        }
-        match read_request(alloc, line) {
-            Ok(request) => push_answer(alloc, &request, out),
-            Err(Fault::Memory) => Err(AllocError),
-            Err(found) => out.push_slice(found.text()),
-        }
+        let mut kept = [b"".as_slice(); KEPT_FIELDS];
+        let count = cut_fields(line, &mut kept);
+        push_reply(alloc, &kept[..count], out)
     }
 }

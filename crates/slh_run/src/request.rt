@@ -1,14 +1,19 @@
 //! What a job line asks for.
 ghost use Rattle.std.specs.Prelude.{◌≡◌, ◌⊎◌, Err, length};
-ghost use Rattle.line_serve.specs.Fields.{fields};
-ghost use Rattle.slh_run.specs.Requests.{bytes_at, command_named, field_at, job_for, job_of, randomizer_at, request_of};
+ghost use Rattle.line_serve.specs.Fields.{contents};
+ghost use Rattle.slh_run.specs.Requests.{bytes_at, command_named, field_at, job_for, job_of};
+ghost use Rattle.slh_run.specs.Requests.{randomizer_at, request_of};
 ghost use Rattle.slh_run.specs.declared.request.Command.TheVariants.{Keygen, Sign, Verify};
 ghost use Rattle.slh_run.specs.declared.request.Fault.TheVariants.{Memory};
 
 use crate::job::Job;
 use crate::set::Set;
-use line_serve::{ByteString, count_fields, field, hex_field};
+use line_serve::{ByteString, hex_field};
 use std::alloc::{AllocError, Global};
+
+/// How many fields of a line are kept: one more than a line of any command has, so that a line of
+/// more is still one of too many.
+pub(crate) const KEPT_FIELDS: usize = 7;
 
 /// A job for a parameter set.
 #[derive(Drop)]
@@ -17,8 +22,8 @@ pub(crate) struct Request {
     pub(crate) job: Job,
 }
 
-/// Why a line is no job, in the order in which the causes are looked for; or that there was no memory
-/// to read it.
+/// Why a line is no job, in the order in which the causes are looked for; or that there was no
+/// memory to read it.
 #[derive(Clone, Copy, Debug, PartialEq, Eq)]
 pub(crate) enum Fault {
     Set,
@@ -60,21 +65,21 @@ impl Command {
 }
 
 // The field at an index, with no bytes where there are not so many.
-fn field_at(line: &[u8], i: usize) -> &[u8]
-    ensures { result.now ≡ field_at (fields line.now) i }
+fn field_at<'a>(fields: &[&'a [u8]], i: usize) -> &'a [u8]
+    ensures { result.now ≡ field_at (contents fields.now) i }
 {
-    match field(line, i) {
-        Some(found) => found,
+    match fields.get(i) {
+        Some(&found) => found,
         None => &[],
     }
 }
 
 // The bytes that the field at an index stands for.
-fn bytes_at(alloc: Global, line: &[u8], i: usize) -> Result<ByteString, Fault>
-    ensures { (result ≡ bytes_at (fields line.now) i) ⊎ (result ≡ Err Memory) }
+fn bytes_at(alloc: Global, fields: &[&[u8]], i: usize) -> Result<ByteString, Fault>
+    ensures { (result ≡ bytes_at (contents fields.now) i) ⊎ (result ≡ Err Memory) }
 {
     let mut bytes = ByteString::new(alloc);
-    if hex_field(alloc, field_at(line, i), &mut bytes)? {
+    if hex_field(alloc, field_at(fields, i), &mut bytes)? {
         Ok(bytes)
     } else {
         Err(Fault::Hex)
@@ -82,21 +87,21 @@ fn bytes_at(alloc: Global, line: &[u8], i: usize) -> Result<ByteString, Fault>
 }
 
 // The randomizer that the field at an index stands for, which may be none.
-fn randomizer_at(alloc: Global, line: &[u8], i: usize) -> Result<Option<ByteString>, Fault>
-    ensures { (result ≡ randomizer_at (fields line.now) i) ⊎ (result ≡ Err Memory) }
+fn randomizer_at(alloc: Global, fields: &[&[u8]], i: usize) -> Result<Option<ByteString>, Fault>
+    ensures { (result ≡ randomizer_at (contents fields.now) i) ⊎ (result ≡ Err Memory) }
 {
-    if field_at(line, i) == b"none".as_slice() {
+    if field_at(fields, i) == b"none".as_slice() {
         return Ok(None);
     }
-    Ok(Some(bytes_at(alloc, line, i)?))
+    Ok(Some(bytes_at(alloc, fields, i)?))
 }
 
-fn read_keygen(alloc: Global, line: &[u8]) -> Result<Job, Fault>
-    ensures { (result ≡ job_of Keygen (fields line.now)) ⊎ (result ≡ Err Memory) }
+fn read_keygen(alloc: Global, fields: &[&[u8]]) -> Result<Job, Fault>
+    ensures { (result ≡ job_of Keygen (contents fields.now)) ⊎ (result ≡ Err Memory) }
 {
-    let sk_seed = bytes_at(alloc, line, 2)?;
-    let sk_prf = bytes_at(alloc, line, 3)?;
-    let pk_seed = bytes_at(alloc, line, 4)?;
+    let sk_seed = bytes_at(alloc, fields, 2)?;
+    let sk_prf = bytes_at(alloc, fields, 3)?;
+    let pk_seed = bytes_at(alloc, fields, 4)?;
     Ok(Job::Keygen {
         sk_seed,
         sk_prf,
@@ -104,13 +109,13 @@ fn read_keygen(alloc: Global, line: &[u8]) -> Result<Job, Fault>
     })
 }
 
-fn read_sign(alloc: Global, line: &[u8]) -> Result<Job, Fault>
-    ensures { (result ≡ job_of Sign (fields line.now)) ⊎ (result ≡ Err Memory) }
+fn read_sign(alloc: Global, fields: &[&[u8]]) -> Result<Job, Fault>
+    ensures { (result ≡ job_of Sign (contents fields.now)) ⊎ (result ≡ Err Memory) }
 {
-    let key = bytes_at(alloc, line, 2)?;
-    let context = bytes_at(alloc, line, 3)?;
-    let message = bytes_at(alloc, line, 4)?;
-    let randomizer = randomizer_at(alloc, line, 5)?;
+    let key = bytes_at(alloc, fields, 2)?;
+    let context = bytes_at(alloc, fields, 3)?;
+    let message = bytes_at(alloc, fields, 4)?;
+    let randomizer = randomizer_at(alloc, fields, 5)?;
     Ok(Job::Sign {
         key,
         context,
@@ -119,13 +124,13 @@ fn read_sign(alloc: Global, line: &[u8]) -> Result<Job, Fault>
     })
 }
 
-fn read_verify(alloc: Global, line: &[u8]) -> Result<Job, Fault>
-    ensures { (result ≡ job_of Verify (fields line.now)) ⊎ (result ≡ Err Memory) }
+fn read_verify(alloc: Global, fields: &[&[u8]]) -> Result<Job, Fault>
+    ensures { (result ≡ job_of Verify (contents fields.now)) ⊎ (result ≡ Err Memory) }
 {
-    let key = bytes_at(alloc, line, 2)?;
-    let context = bytes_at(alloc, line, 3)?;
-    let message = bytes_at(alloc, line, 4)?;
-    let signature = bytes_at(alloc, line, 5)?;
+    let key = bytes_at(alloc, fields, 2)?;
+    let context = bytes_at(alloc, fields, 3)?;
+    let message = bytes_at(alloc, fields, 4)?;
+    let signature = bytes_at(alloc, fields, 5)?;
     Ok(Job::Verify {
         key,
         context,
@@ -134,30 +139,29 @@ fn read_verify(alloc: Global, line: &[u8]) -> Result<Job, Fault>
     })
 }
 
-// The job of a line, by its command.
-fn read_job(alloc: Global, line: &[u8]) -> Result<Job, Fault>
-    ensures { let all = fields line.now in
+// The job of a line of these fields, by its command.
+fn read_job(alloc: Global, fields: &[&[u8]]) -> Result<Job, Fault>
+    ensures { let all = contents fields.now in
         (result ≡ job_for (command_named (field_at all 1)) all) ⊎ (result ≡ Err Memory) }
 {
-    let Some(command) = Command::from_name(field_at(line, 1)) else {
+    let Some(command) = Command::from_name(field_at(fields, 1)) else {
         return Err(Fault::Command);
     };
-    let count = count_fields(line);
     match command {
-        Command::Keygen if count == 5 => read_keygen(alloc, line),
-        Command::Sign if count == 6 => read_sign(alloc, line),
-        Command::Verify if count == 6 => read_verify(alloc, line),
+        Command::Keygen if fields.len() == 5 => read_keygen(alloc, fields),
+        Command::Sign if fields.len() == 6 => read_sign(alloc, fields),
+        Command::Verify if fields.len() == 6 => read_verify(alloc, fields),
         _ => Err(Fault::Fields),
     }
 }
 
-/// What a line asks for, or the first thing that is wrong with it.
-pub(crate) fn read_request(alloc: Global, line: &[u8]) -> Result<Request, Fault>
-    ensures { (result ≡ request_of (fields line.now)) ⊎ (result ≡ Err Memory) }
+/// What a line of these fields asks for, or the first thing that is wrong with it.
+pub(crate) fn read_request(alloc: Global, fields: &[&[u8]]) -> Result<Request, Fault>
+    ensures { (result ≡ request_of (contents fields.now)) ⊎ (result ≡ Err Memory) }
 {
-    let Some(set) = Set::from_name(field_at(line, 0)) else {
+    let Some(set) = Set::from_name(field_at(fields, 0)) else {
         return Err(Fault::Set);
     };
-    let job = read_job(alloc, line)?;
+    let job = read_job(alloc, fields)?;
     Ok(Request { set, job })
 }

@@ -1,6 +1,11 @@
 //! The parameter sets that the program answers for.
 ghost use Rattle.std.specs.Prelude.{◌≡◌};
+ghost use Rattle.std.specs.List.{find};
+ghost use Rattle.std.specs.Str.{bytes_eq};
 ghost use Rattle.slh_run.specs.Sets.{name_of, set_named};
+
+use slh_dsa::ParameterSet;
+use slh_hash::{Sha2_128f, Sha2_128s, Sha2_192f, Sha2_192s, Sha2_256f, Sha2_256s};
 
 /// A parameter set of SLH-DSA over SHA-2 (FIPS 205, section 11, table 2).
 #[derive(Clone, Copy, Debug, PartialEq, Eq)]
@@ -9,16 +14,38 @@ pub enum Set {
     Sha2_128s,
     /// SLH-DSA-SHA2-128f: signatures of 17088 bytes, made faster.
     Sha2_128f,
+    /// SLH-DSA-SHA2-192s: signatures of 16224 bytes.
+    Sha2_192s,
+    /// SLH-DSA-SHA2-192f: signatures of 35664 bytes, made faster.
+    Sha2_192f,
+    /// SLH-DSA-SHA2-256s: signatures of 29792 bytes.
+    Sha2_256s,
+    /// SLH-DSA-SHA2-256f: signatures of 49856 bytes, made faster.
+    Sha2_256f,
 }
 
 impl Set {
+    /// All sets, in the order of the table.
+    pub const ALL: [Set; 6] = [
+        Set::Sha2_128s,
+        Set::Sha2_128f,
+        Set::Sha2_192s,
+        Set::Sha2_192f,
+        Set::Sha2_256s,
+        Set::Sha2_256f,
+    ];
+
     /// The name of the set.
     pub fn name(self) -> &'static str
         ensures { result.now ≡ name_of self }
     {
         match self {
-            Set::Sha2_128s => "SLH-DSA-SHA2-128s",
-            Set::Sha2_128f => "SLH-DSA-SHA2-128f",
+            Set::Sha2_128s => Sha2_128s::set_name(),
+            Set::Sha2_128f => Sha2_128f::set_name(),
+            Set::Sha2_192s => Sha2_192s::set_name(),
+            Set::Sha2_192f => Sha2_192f::set_name(),
+            Set::Sha2_256s => Sha2_256s::set_name(),
+            Set::Sha2_256f => Sha2_256f::set_name(),
         }
     }
 
@@ -26,12 +53,14 @@ impl Set {
     pub fn from_name(name: &[u8]) -> Option<Set>
         ensures { result ≡ set_named name.now }
     {
-        if name == b"SLH-DSA-SHA2-128s".as_slice() {
-            Some(Set::Sha2_128s)
-        } else if name == b"SLH-DSA-SHA2-128f".as_slice() {
-            Some(Set::Sha2_128f)
-        } else {
-            None
-        }
+        first_named(&Set::ALL, name)
     }
+}
+
+fn first_named(sets: &[Set], name: &[u8]) -> Option<Set>
+    ensures { result ≡ find (λ set. bytes_eq name.now (name_of set)) sets.now }
+{
+    sets.iter()
+        .copied()
+        .find(|set| name == set.name().as_bytes())
 }

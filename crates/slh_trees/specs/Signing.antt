@@ -25,9 +25,9 @@ signature_with Z key rand message =
     let digest = Z.suite.h_msg rand s (part Z.n key 3) message in
     digest_signature Z s (part Z.n key 0) rand digest
 
--- the signature of a message: the randomizer is made from the message and from n further bytes, for
--- which the public seed stands where none are given
+-- the signature of a message: the randomizer is made from the message and from n further bytes,
+-- opt_rand, for which the public seed stands where none are given
 abbrev pub signature_of : Scheme → List ℕ → Option (List ℕ) → List ℕ → List ℕ
-signature_of Z key opt message =
-    let fresh = unwrap_or opt (part Z.n key 2) in
-    signature_with Z key (Z.suite.prf_msg (part Z.n key 1) fresh message) message
+signature_of Z key opt_rand message =
+    let bytes = unwrap_or opt_rand (part Z.n key 2) in
+    signature_with Z key (Z.suite.prf_msg (part Z.n key 1) bytes message) message

@@ -1,13 +1,12 @@
 //! A suite of one byte, whose values can be computed by hand. It hides nothing.
-ghost use Rattle.std.specs.Prelude.{◌≡◌, ◌%◌, ◌<◌, ◌++◌, [], ◌∷◌, sum, slice_index, refl};
-ghost use Rattle.slh_core.specs.Parameters.{scheme_of};
+ghost use Rattle.std.specs.Prelude.{◌≡◌, ◌%◌, ◌<◌, ◌++◌, [], ◌∷◌, sum, slice_index, codes, refl};
 ghost use Rattle.slh_core.specs.Suite.{seeded};
 ghost use Rattle.slh_trees.specs.ToySuite.{toy, toy_lengths, toy_digest_length};
 
-use hybrid_array::sizes::{U1, U2, U3, U4, U5};
+use hybrid_array::sizes::{U1, U2, U3, U4, U5, U21};
 use slh_core::address::Address;
 use slh_core::nbytes::NBytes;
-use slh_core::params::{ForsParams, HypertreeParams, WotsParams, XmssParams};
+use slh_core::set_row::SetRow;
 use slh_core::steps::Steps;
 use slh_core::suite::HashSuite;
 use std::sync::ledger::Ledger;
@@ -145,36 +144,20 @@ impl HashSuite for Toy {
     ghost digest_length = { λ _. toy_digest_length };
 }
 
-impl WotsParams for Toy {
+impl SetRow for Toy {
     ghost use Rattle.std.proofs.Common.{rules};
+
+    const NAME: &'static str = "TOY";
 
     type WotsMsgLen = U2;
 
     type WotsSigLen = U5;
 
-    ghost valid_wots = { Prim.search rules };
-}
-
-impl XmssParams for Toy {
-    ghost use Rattle.std.proofs.Common.{rules};
-
     type HPrime = U2;
-
-    ghost valid_xmss = { Prim.search rules };
-}
-
-impl HypertreeParams for Toy {
-    ghost use Rattle.std.proofs.Common.{rules};
 
     type D = U2;
 
     type H = U4;
-
-    ghost valid_hypertree = { Prim.search rules };
-}
-
-impl ForsParams for Toy {
-    ghost use Rattle.std.proofs.Common.{rules};
 
     type K = U2;
 
@@ -182,9 +165,17 @@ impl ForsParams for Toy {
 
     type MD = U1;
 
-    ghost scheme = { scheme_of toy 1 2 2 2 2 };
+    type SkLen = U4;
 
-    ghost scheme_is = { refl };
+    type VkLen = U2;
 
-    ghost valid_fors = { Prim.search rules };
+    type SigLen = U21;
+
+    ghost set_name = { codes "TOY" };
+
+    fn set_name() -> &'static str {
+        Self::NAME
+    }
+
+    ghost valid = { Prim.search rules };
 }

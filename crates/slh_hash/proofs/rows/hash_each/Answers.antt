@@ -6,7 +6,7 @@ use Rattle.hmac_sha256.specs.Sha256.{sha256}
 use Rattle.slh_core.specs.Address.{compressed_address}
 use Rattle.slh_core.specs.Bytes.{joined, part}
 use Rattle.slh_core.proofs.Joins.{drop_later}
-use Rattle.slh_hash.specs.Sha2.{seed_block, tweaked_hash}
+use Rattle.slh_hash.specs.Sha2.{seed_block, tweaked_hash_256}
 use Rattle.slh_hash.proofs.Grouped.{group_hashed, group_more, length-group}
 use Rattle.slh_hash.proofs.rows.hash_each.Goals as goal
 
@@ -35,7 +35,7 @@ loop-done-preserved g c =
     let cur = c.loop-done.values in
     let made = c.put_hashes.new.out in
     let at = g.A.RowAddress.numbered c.args.adrs.now in
-    let hash : ℕ → List ℕ = λ i. tweaked_hash n s (at (slice_index numbers i)) (part n old i) in
+    let hash : ℕ → List ℕ = λ i. tweaked_hash_256 n s (at (slice_index numbers i)) (part n old i) in
     let i = c.loop-done.invariant in
     let d = c.loop-done.done in
     let r : ℕ = c.min-end.result - d in
@@ -55,7 +55,7 @@ loop-done-preserved g c =
     let size : length made ≡ r * n = raw ∙ sized ∙ ap (λ k. k * n) group in
     let digest_is : (k : ℕ) → k < r
     → slice_index_or c.digests_of-digests.result k []
-    ≡ sha256 (seed_block n s ++ (compressed_address (at (slice_index (slice_range numbers d (d + r)) k)) ++ part n (slice_range cur (d * n) ((d + r) * n)) k))
+    ≡ sha256 (seed_block 64 n s ++ (compressed_address (at (slice_index (slice_range numbers d (d + r)) k)) ++ part n (slice_range cur (d * n) ((d + r) * n)) k))
     = λ k below.
     let at_k = c.digests_of-digests.ensures k (omega (arith, group)) in
     rw (end, same) at at_k in

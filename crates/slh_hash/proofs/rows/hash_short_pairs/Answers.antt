@@ -4,7 +4,7 @@ use Rattle.std.proofs.lemmas.Nat.{mul-le}
 use Rattle.hmac_sha256.specs.Sha256.{sha256}
 use Rattle.slh_core.specs.Address.{compressed_address}
 use Rattle.slh_core.specs.Bytes.{joined, part}
-use Rattle.slh_hash.specs.Sha2.{seed_block, tweaked_hash}
+use Rattle.slh_hash.specs.Sha2.{seed_block, tweaked_hash_256}
 use Rattle.slh_hash.proofs.Grouped.{group_hashed, group_more, length-group}
 use Rattle.slh_hash.proofs.rows.hash_short_pairs.Goals as goal
 
@@ -32,7 +32,7 @@ loop-done-preserved g c =
     let cur = c.loop-done.out in
     let made = c.put_hashes.new.out in
     let at = g.A.RowAddress.numbered c.args.adrs.now in
-    let hash : ℕ → List ℕ = λ i. tweaked_hash n s (at (slice_index numbers i)) (part (2 * n) pairs i) in
+    let hash : ℕ → List ℕ = λ i. tweaked_hash_256 n s (at (slice_index numbers i)) (part (2 * n) pairs i) in
     let i = c.loop-done.invariant in
     let d = c.loop-done.done in
     let r : ℕ = c.min-end.result - d in
@@ -51,7 +51,7 @@ loop-done-preserved g c =
     let size : length made ≡ r * n = raw ∙ sized ∙ ap (λ k. k * n) group in
     let digest_is : (k : ℕ) → k < r
     → slice_index_or c.digests_of-digests.result k []
-    ≡ sha256 (seed_block n s ++ (compressed_address (at (slice_index (slice_range numbers d (d + r)) k))
+    ≡ sha256 (seed_block 64 n s ++ (compressed_address (at (slice_index (slice_range numbers d (d + r)) k))
     ++ part (2 * n) (slice_range pairs (d * (2 * n)) ((d + r) * (2 * n))) k))
     = λ k below.
     let at_k = c.digests_of-digests.ensures k (omega (arith, group)) in

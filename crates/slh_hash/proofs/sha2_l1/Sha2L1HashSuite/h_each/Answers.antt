@@ -1,5 +1,5 @@
 use Rattle.std.proofs.Common.{List, ℕ, length, slice_index}
-use Rattle.slh_hash.specs.Sha2.{tweaked_hash}
+use Rattle.slh_hash.specs.Sha2.{tweaked_hash_256}
 use Rattle.slh_hash.proofs.Grouped.{hashes_of_pairs}
 use Rattle.slh_hash.proofs.sha2_l1.Sha2L1HashSuite.h_each.Goals as goal
 
@@ -7,5 +7,5 @@ pub returns-clause-value : goal.returns-clause-value
 returns-clause-value g c =
     let n = g.N.ArraySize.USIZE in
     let numbers = c.args.numbers.now in
-    let hash : ℕ → List ℕ → List ℕ = λ k x. tweaked_hash n c.args.keyed.now.pk_seed (g.A.RowAddress.numbered c.args.adrs.now (slice_index numbers k)) x in
+    let hash : ℕ → List ℕ → List ℕ = λ k x. tweaked_hash_256 n c.args.keyed.now.pk_seed (g.A.RowAddress.numbered c.args.adrs.now (slice_index numbers k)) x in
     hashes_of_pairs hash n (length numbers) c.args.pairs.now c.hash_pairs.new.out c.hash_pairs.ensures.value

@@ -2,11 +2,11 @@ use Rattle.std.proofs.Common.{◌≡◌, ap}
 use Rattle.std.specs.Option.{option_copied}
 use Rattle.slh_core.specs.Parameters.{Scheme}
 use Rattle.slh_dsa.proofs.KeyParts.{signature_by_parts}
-use Rattle.slh_dsa.proofs.signing_key.SigningKey.slh_sign_counted.Goals as goal
+use Rattle.slh_dsa.proofs.signing_key.SigningKey.slh_sign_checked.Goals as goal
 
 pub returns-clause-value : goal.returns-clause-value
 returns-clause-value g c =
     let size : g.P.ForsParams.scheme.n ≡ g.P.N.ArraySize.USIZE = ap (λ (Z : Scheme). Z.n) g.met.P.ForsParams.scheme_is in
     signature_by_parts g.P.ForsParams.scheme g.P.N.ArraySize.USIZE _ _ _ _ _ (option_copied c.args.opt_rand) _ _ _ _ _ size c.self.view_is
     c.self.invariant.0 c.self.invariant.1 c.self.invariant.2 c.self.invariant.3
-    c.fresh_bytes-opt.ensures c.frame_head.ensures c.sign_message.ensures.value
+    c.opt_rand_or_seed-opt_rand.ensures c.frame_head.ensures c.sign_message.ensures.value

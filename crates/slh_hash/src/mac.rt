@@ -1,0 +1,62 @@
+//! HMAC with SHA-512 (RFC 2104).
+ghost use Rattle.std.specs.Prelude.{◌≡◌, ◌+◌, ◌-◌, ◌^◌, ◌≤◌, ◌++◌, length, replicate};
+ghost use Rattle.hmac_sha256.specs.Hmac.{masked as spec_masked};
+ghost use Rattle.slh_hash.specs.HmacSha512.{hmac_sha512 as spec_hmac_sha512};
+ghost use Rattle.slh_hash.specs.HmacSha512.{key_block as spec_key_block};
+
+use sha2::{Digest, Sha512};
+
+const BLOCK_LEN: usize = 128;
+
+const INNER_MASK: u8 = 0x36;
+
+const OUTER_MASK: u8 = 0x5c;
+
+// A block that begins with the bytes and ends with zeros.
+fn zero_padded(bytes: &[u8]) -> [u8; BLOCK_LEN]
+    requires { length bytes.now ≤ 128 }
+    ensures { result ≡ bytes.now ++ replicate (128 - length bytes.now) 0 }
+{
+    let mut block = [0u8; BLOCK_LEN];
+    block[..bytes.len()].copy_from_slice(bytes);
+    block
+}
+
+fn key_block(key: &[u8]) -> [u8; BLOCK_LEN]
+    ensures { result ≡ spec_key_block key.now }
+{
+    if key.len() > BLOCK_LEN {
+        zero_padded(&Sha512::digest(key))
+    } else {
+        zero_padded(key)
+    }
+}
+
+fn masked(block: &[u8; BLOCK_LEN], mask: u8) -> [u8; BLOCK_LEN]
+    ensures { result ≡ spec_masked mask block.now }
+{
+    let mut out = [0u8; BLOCK_LEN];
+    for i in 0..BLOCK_LEN {
+        out[i] = block[i] ^ mask;
+    }
+    out
+}
+
+/// The HMAC-SHA-512 of four byte strings, joined, under a key.
+pub fn hmac_sha512(key: &[u8], first: &[u8], head: &[u8], ctx: &[u8], msg: &[u8]) -> [u8; 64]
+    requires key { length key.now ≤ 2 ^ 60 }
+    requires message { length first.now + length head.now + length ctx.now + length msg.now
+        ≤ 2 ^ 60 + 1024 }
+    ensures { let message = first.now ++ (head.now ++ ctx.now ++ msg.now) in
+        result ≡ spec_hmac_sha512 key.now message }
+{
+    let block = key_block(key);
+    let mut inner = Sha512::new_with_prefix(masked(&block, INNER_MASK));
+    inner.update(first);
+    inner.update(head);
+    inner.update(ctx);
+    inner.update(msg);
+    let mut outer = Sha512::new_with_prefix(masked(&block, OUTER_MASK));
+    outer.update(inner.finalize());
+    outer.finalize()
+}

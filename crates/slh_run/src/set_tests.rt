@@ -1,0 +1,140 @@
+//! A key, a signature and its verification in each set. The roots and the signatures' SHA-256 are
+//! those of the Rust crate `slh-dsa` 0.1.0.
+ghost use Rattle.std.specs.Prelude.{◌≤◌};
+
+use crate::{Answer, ByteString, Job, Set, run};
+use hmac_sha256::Hash;
+use std::alloc::Global;
+use std::process::Abort;
+use std::test::Fail;
+
+const MESSAGE: &[u8] = b"Hello";
+
+// What a set gives for three seeds of n bytes 01, 02 and 03.
+#[derive(Drop)]
+struct Known {
+    set: Set,
+    n: usize,
+    root: &'static [u8],
+    signature_len: usize,
+    signature_hash: &'static [u8],
+}
+
+fn decoded(alloc: Global, digits: &[u8]) -> Result<ByteString, Fail> {
+    ByteString::from_slice(alloc, &hex::decode(alloc, digits)?).map_err(Fail::from)
+}
+
+// A key of the three seeds, its signature of the message without context and randomizer, and what
+// the verifying key answers to that.
+fn whole_round(rt: &impl Abort, alloc: Global, known: &Known) -> Result<(), Fail>
+    requires { known.now.n ≤ 32 }
+{
+    let [first, second, third] = [[1u8; 32], [2; 32], [3; 32]];
+    let keygen = Job::Keygen {
+        sk_seed: ByteString::from_slice(alloc, &first[..known.n])?,
+        sk_prf: ByteString::from_slice(alloc, &second[..known.n])?,
+        pk_seed: ByteString::from_slice(alloc, &third[..known.n])?,
+    };
+    let Ok(Answer::Key(key)) = run(alloc, known.set, &keygen) else {
+        return Err("no key")?;
+    };
+    let mut public = ByteString::from_slice(alloc, &third[..known.n])?;
+    public.push_slice(decoded(alloc, known.root)?.as_slice())?;
+    assert_eq!(rt; key.len(), 4 * known.n);
+    assert!(rt; key.as_slice().ends_with(public.as_slice()));
+    let sign = Job::Sign {
+        key,
+        context: ByteString::new(alloc),
+        message: ByteString::from_slice(alloc, MESSAGE)?,
+        randomizer: None,
+    };
+    let Ok(Answer::Signature(signature)) = run(alloc, known.set, &sign) else {
+        return Err("no signature")?;
+    };
+    assert_eq!(rt; signature.len(), known.signature_len);
+    let hash = Hash::hash(signature.as_slice());
+    assert_eq!(rt;
+        hash.as_slice(),
+        decoded(alloc, known.signature_hash)?.as_slice()
+    );
+    let verify = Job::Verify {
+        key: public,
+        context: ByteString::new(alloc),
+        message: ByteString::from_slice(alloc, MESSAGE)?,
+        signature,
+    };
+    assert!(rt; matches!(run(alloc, known.set, &verify), Ok(Answer::Accepted)));
+    Ok(())
+}
+
+#[test]
+fn round_of_128s(rt: HostRuntime) -> Result<(), Fail> {
+    let known = Known {
+        set: Set::Sha2_128s,
+        n: 16,
+        root: b"d627c8bad26269965d3ad40ca4457a26",
+        signature_len: 7856,
+        signature_hash: b"b461db2c7fb7c5c9c11f1a5c9ae5f77e84ebf066647a1857db4dafe301e18cb4",
+    };
+    whole_round(&rt, rt.alloc(), &known)
+}
+
+#[test]
+fn round_of_128f(rt: HostRuntime) -> Result<(), Fail> {
+    let known = Known {
+        set: Set::Sha2_128f,
+        n: 16,
+        root: b"4052e0733e69e78739d6e67c77f9a37d",
+        signature_len: 17088,
+        signature_hash: b"2349cc54f79b5c1b7d51f2352cf6872bb947ebeb165d1c9f808e7e5a6163df44",
+    };
+    whole_round(&rt, rt.alloc(), &known)
+}
+
+#[test]
+fn round_of_192s(rt: HostRuntime) -> Result<(), Fail> {
+    let known = Known {
+        set: Set::Sha2_192s,
+        n: 24,
+        root: b"4bfe3b3286e1fdfdc5acf56cc4079023406b6a2dc20d9a15",
+        signature_len: 16224,
+        signature_hash: b"e1d8059d7d6992cfd7b970a3fa1a4d14181388bd7949f615f588980cbab695f3",
+    };
+    whole_round(&rt, rt.alloc(), &known)
+}
+
+#[test]
+fn round_of_192f(rt: HostRuntime) -> Result<(), Fail> {
+    let known = Known {
+        set: Set::Sha2_192f,
+        n: 24,
+        root: b"ee64597b331e4fdac93a521ad7a7919e8711dbf0034965c6",
+        signature_len: 35664,
+        signature_hash: b"7d13dbdecce0835a30c2771654a8e6bf95f3e1230119e4c46d93b0f9b976ada9",
+    };
+    whole_round(&rt, rt.alloc(), &known)
+}
+
+#[test]
+fn round_of_256s(rt: HostRuntime) -> Result<(), Fail> {
+    let known = Known {
+        set: Set::Sha2_256s,
+        n: 32,
+        root: b"ec6e421cdbb9e9d0476c74e6caffe7d290b55c78f7eb7cd243e1a5d0bee622e5",
+        signature_len: 29792,
+        signature_hash: b"264781a6524380ac3014a50e389f230e86dc2e25943c92bd48d9732c90fb17e4",
+    };
+    whole_round(&rt, rt.alloc(), &known)
+}
+
+#[test]
+fn round_of_256f(rt: HostRuntime) -> Result<(), Fail> {
+    let known = Known {
+        set: Set::Sha2_256f,
+        n: 32,
+        root: b"0ff225239caf2807250835c2611203428ff98b2d0de12aea24c71bc5a9617c51",
+        signature_len: 49856,
+        signature_hash: b"18cfb9e4881f67ec091c657e218e7f487d897b5d13a7e6d2c6760e10935a894e",
+    };
+    whole_round(&rt, rt.alloc(), &known)
+}
