@@ -1,6 +1,5 @@
 //! Signing keys (FIPS 205, section 9.1).
-ghost use Rattle.std.specs.Prelude.{◌≡◌, ◌+◌, ◌*◌, ◌^◌, ◌<◌, length, drop, unwrap_or, IfOk, OnOk};
-ghost use Rattle.std.specs.Prelude.{OnErr};
+ghost use Rattle.std.specs.Prelude.{◌≡◌, ◌+◌, ◌*◌, length, drop, unwrap_or, IfOk, OnOk, OnErr};
 ghost use Rattle.std.specs.Option.{option_copied, ForSome};
 ghost use Rattle.slh_core.specs.Bytes.{part};
 ghost use Rattle.slh_core.specs.Costs.{slh_keygen_cost, slh_sign_cost};

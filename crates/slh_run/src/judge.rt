@@ -1,5 +1,5 @@
 //! Answers single jobs.
-ghost use Rattle.std.specs.Prelude.{◌≡◌, ◌<◌, ◌≤◌};
+ghost use Rattle.std.specs.Prelude.{◌≡◌};
 ghost use Rattle.std.specs.Option.{option_copied};
 ghost use Rattle.slh_core.specs.Steps.{IsFresh};
 ghost use Rattle.slh_run.specs.Errors.{error_of};

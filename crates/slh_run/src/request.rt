@@ -1,5 +1,5 @@
 //! What a job line asks for.
-ghost use Rattle.std.specs.Prelude.{◌≡◌, ◌⊎◌, Err, length};
+ghost use Rattle.std.specs.Prelude.{◌≡◌, ◌⊎◌, Err};
 ghost use Rattle.line_serve.specs.Fields.{contents};
 ghost use Rattle.slh_run.specs.Requests.{bytes_at, command_named, field_at, job_for, job_of};
 ghost use Rattle.slh_run.specs.Requests.{randomizer_at, request_of};
