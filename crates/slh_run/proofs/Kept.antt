@@ -1,16 +1,13 @@
 -- A line has the same reply by its first seven fields, since no command's line has more than six.
-use Rattle.std.proofs.Common.{◌≡◌, ℕ, ◌<◌, List, [], length, take, refl, sym, ◌∙◌, ap, arith, length-take, Option, None, Some, Result, Bool, if◌then◌else◌}
+use Rattle.std.proofs.Common.{◌≡◌, ℕ, ◌<◌, List, [], length, take, refl, sym, ◌∙◌, arith, length-take, Option, None, Some}
 use Rattle.std.specs.Bool.{◌==◌}
 use Rattle.std.proofs.lemmas.Bool.Decides.{nat_tests}
 use Rattle.std.proofs.lemmas.List.{get_or-take}
 use Rattle.std.proofs.lemmas.Option.{unwrap_or-slice_get}
 use Rattle.slh_run.specs.Reply.{reply_of_fields}
-use Rattle.slh_run.specs.Requests.{and_then, field_at, field_count, job_for, job_of, request_for, request_of}
-use Rattle.slh_run.specs.declared.job.Job.{Job}
+use Rattle.slh_run.specs.Requests.{field_at, field_count, job_for, job_of, request_for, request_of}
 use Rattle.slh_run.specs.declared.request.Command.{Command}
 use Rattle.slh_run.specs.declared.request.Command.TheVariants.{Keygen, Sign, Verify}
-use Rattle.slh_run.specs.declared.request.Fault.{Fault}
-use Rattle.slh_run.specs.declared.request.Request.{Request}
 use Rattle.slh_run.specs.declared.set.Set.{Set}
 
 kept_field : (fields : List (List ℕ)) (i : ℕ) → i < 7 → field_at (take 7 fields) i ≡ field_at fields i
