@@ -1,6 +1,6 @@
 //! A key, a signature and its verification in each set. The roots and the signatures' SHA-256 are
 //! those of the Rust crate `slh-dsa` 0.1.0.
-ghost use Rattle.std.specs.Prelude.{◌≤◌};
+ghost use Rattle.std.specs.Prelude.{◌≤◌, ◌^◌};
 
 use crate::{Answer, ByteString, Job, Set, run};
 use hmac_sha256::Hash;
@@ -24,46 +24,66 @@ fn decoded(alloc: Global, digits: &[u8]) -> Result<ByteString, Fail> {
     ByteString::from_slice(alloc, &hex::decode(alloc, digits)?).map_err(Fail::from)
 }
 
-// A key of the three seeds, its signature of the message without context and randomizer, and what
-// the verifying key answers to that.
-fn whole_round(rt: &impl Abort, alloc: Global, known: &Known) -> Result<(), Fail>
-    requires { known.now.n ≤ 32 }
+// The key of the three seeds.
+fn made_key(alloc: Global, set: Set, n: usize) -> Result<ByteString, Fail>
+    requires { n ≤ 32 }
 {
-    let [first, second, third] = [[1u8; 32], [2; 32], [3; 32]];
-    let keygen = Job::Keygen {
-        sk_seed: ByteString::from_slice(alloc, &first[..known.n])?,
-        sk_prf: ByteString::from_slice(alloc, &second[..known.n])?,
-        pk_seed: ByteString::from_slice(alloc, &third[..known.n])?,
+    let job = Job::Keygen {
+        sk_seed: ByteString::from_slice(alloc, &[1; 32][..n])?,
+        sk_prf: ByteString::from_slice(alloc, &[2; 32][..n])?,
+        pk_seed: ByteString::from_slice(alloc, &[3; 32][..n])?,
     };
-    let Ok(Answer::Key(key)) = run(alloc, known.set, &keygen) else {
-        return Err("no key")?;
-    };
-    let mut public = ByteString::from_slice(alloc, &third[..known.n])?;
-    public.push_slice(decoded(alloc, known.root)?.as_slice())?;
-    assert_eq!(rt; key.len(), 4 * known.n);
-    assert!(rt; key.as_slice().ends_with(public.as_slice()));
-    let sign = Job::Sign {
+    match run(alloc, set, &job) {
+        Ok(Answer::Key(key)) => Ok(key),
+        _ => Err(Fail::from("no key")),
+    }
+}
+
+// Its signature of the message, without context and randomizer.
+fn made_signature(alloc: Global, set: Set, key: ByteString) -> Result<ByteString, Fail> {
+    let job = Job::Sign {
         key,
         context: ByteString::new(alloc),
         message: ByteString::from_slice(alloc, MESSAGE)?,
         randomizer: None,
     };
-    let Ok(Answer::Signature(signature)) = run(alloc, known.set, &sign) else {
-        return Err("no signature")?;
-    };
-    assert_eq!(rt; signature.len(), known.signature_len);
-    let hash = Hash::hash(signature.as_slice());
-    assert_eq!(rt;
-        hash.as_slice(),
-        decoded(alloc, known.signature_hash)?.as_slice()
-    );
-    let verify = Job::Verify {
-        key: public,
+    match run(alloc, set, &job) {
+        Ok(Answer::Signature(signature)) => Ok(signature),
+        _ => Err(Fail::from("no signature")),
+    }
+}
+
+// Whether the verifying key accepts the signature.
+fn is_accepted(
+    alloc: Global,
+    set: Set,
+    key: ByteString,
+    signature: ByteString,
+) -> Result<bool, Fail> {
+    let job = Job::Verify {
+        key,
         context: ByteString::new(alloc),
         message: ByteString::from_slice(alloc, MESSAGE)?,
         signature,
     };
-    assert!(rt; matches!(run(alloc, known.set, &verify), Ok(Answer::Accepted)));
+    Ok(matches!(run(alloc, set, &job), Ok(Answer::Accepted)))
+}
+
+fn whole_round(rt: &impl Abort, alloc: Global, known: &Known) -> Result<(), Fail>
+    requires n { known.now.n ≤ 32 }
+    requires signature { known.now.signature_len ≤ 2 ^ 60 }
+{
+    let mut public = ByteString::from_slice(alloc, &[3; 32][..known.n])?;
+    public.push_slice(decoded(alloc, known.root)?.as_slice())?;
+    let key = made_key(alloc, known.set, known.n)?;
+    assert_eq!(rt; key.len(), 4 * known.n);
+    assert!(rt; key.as_slice().ends_with(public.as_slice()));
+    let signature = made_signature(alloc, known.set, key)?;
+    assert_eq!(rt; signature.len(), known.signature_len);
+    let hash = Hash::hash(signature.as_slice());
+    let wanted = decoded(alloc, known.signature_hash)?;
+    assert_eq!(rt; hash.as_slice(), wanted.as_slice());
+    assert!(rt; is_accepted(alloc, known.set, public, signature)?);
     Ok(())
 }
 

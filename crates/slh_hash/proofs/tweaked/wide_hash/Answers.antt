@@ -1,4 +1,4 @@
-use Rattle.std.proofs.Common.{rules, ◌≡◌, ℕ, List, ◌++◌, ◌∙◌, ap, take, append_assoc, refl}
+use Rattle.std.proofs.Common.{rules, ◌≡◌, ℕ, List, ◌++◌, ◌∙◌, ap, take, append_assoc}
 use Rattle.sha2.specs.Hashers.{Holds512}
 use Rattle.sha2.specs.Sha512.{sha512}
 use Rattle.slh_hash.specs.Sha2.{seed_block, tweaked_hash_512}
