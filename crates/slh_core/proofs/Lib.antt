@@ -1,3 +1,4 @@
 pub mod DigitSteps
 pub mod Joins
+pub mod Walks
 pub mod Chains
