@@ -2,3 +2,4 @@ pub mod DigitSteps
 pub mod Joins
 pub mod Walks
 pub mod Chains
+pub mod WalkSteps

@@ -1,5 +1,5 @@
 -- Chains that are taken in where their digits are reached.
-use Rattle.std.proofs.Common.{◌≡◌, ℕ, zero, suc, ◌+◌, ◌-◌, ◌*◌, ◌<◌, ◌≤◌, ◌==◌, ◌∙◌, ◌⊎◌, inl, inr, List, [], ◌∷◌, length, ◌++◌, ◌≢◌, take, sum_by, slice_index, slice_set, nat_lt, add-zero, zero-add, if◌then◌else◌, true, false, arith, ap, refl, sym}
+use Rattle.std.proofs.Common.{◌≡◌, ℕ, ◌+◌, ◌*◌, ◌<◌, ◌≤◌, ◌==◌, ◌∙◌, inl, inr, List, [], ◌∷◌, length, ◌++◌, ◌≢◌, take, sum_by, slice_index, slice_set, add-zero, zero-add, if◌then◌else◌, arith, ap, refl, sym}
 use Rattle.std.proofs.lemmas.Bool.{cases_eq, cases_order, le-ltb, lt-ltb, eq-eqb, ne_eqb}
 use Rattle.std.proofs.lemmas.List.{get_or-set_same, get_or-set_other, length-set, take_all, take_more}
 use Rattle.std.proofs.lemmas.List.Sums.{sum_by-append, sum_by-cons, sum_by_more_le}
@@ -25,7 +25,7 @@ count_more q (d ∷ ds) =
       | inr (inr high) ↦ rw (sum_by-cons, sum_by-cons, sum_by-cons, le-ltb d q (omega arith), ne_eqb d q (omega arith), le-ltb d (q + 1) (omega arith)) (omega arith)
     ]
 
-count_below-le : (q : ℕ) (ds : List ℕ) → count_below q ds ≤ length ds
+pub count_below-le : (q : ℕ) (ds : List ℕ) → count_below q ds ≤ length ds
 count_below-le q [] = omega arith
 count_below-le q (d ∷ ds) =
     let rest = count_below-le q ds in
@@ -52,16 +52,16 @@ count_at-more q c ds below =
 
 -- a chain more may be under way
 later : (ds : List ℕ) (q c k : ℕ) → IsUnderWay ds q c k → IsUnderWay ds q (c + 1) k
-later ds q c k way = elim way [ | inl low ↦ inl low | inr at ↦ inr (at.0, omega (arith, at.1)) ]
+later ds q c k way = elim way [ inl low ↦ inl low | inr at ↦ inr (at.0, omega (arith, at.1)) ]
 
 earlier : (ds : List ℕ) (q c k : ℕ) → k ≢ c → IsUnderWay ds q (c + 1) k → IsUnderWay ds q c k
-earlier ds q c k other way = elim way [ | inl low ↦ inl low | inr at ↦ inr (at.0, omega (arith, at.1, other)) ]
+earlier ds q c k other way = elim way [ inl low ↦ inl low | inr at ↦ inr (at.0, omega (arith, at.1, other)) ]
 
 -- no chain is under way before the first step
 pub walk_none : (ds : List ℕ) (walk : Walk) → length walk.numbers ≡ MAX_CHAINS → length walk.places ≡ MAX_CHAINS → walk.count ≡ 0 → IsWalk ds 0 0 walk
 walk_none ds walk numbers_len places_len none =
     let nobody : (c : ℕ) → IsUnderWay ds 0 0 c → ⊥
-    = λ c way. elim way [ | inl low ↦ absurd (omega (arith, low)) | inr at ↦ absurd (omega (arith, at.1)) ] in
+    = λ c way. elim way [ inl low ↦ absurd (omega (arith, low)) | inr at ↦ absurd (omega (arith, at.1)) ] in
     record {
       numbers_len = numbers_len;
       places_len = places_len;
@@ -79,10 +79,10 @@ walk_passed ds q c walk is below other =
     = λ k way. elim way [
       | inl low ↦ inl low
       | inr at ↦ elim (cases_order k c) [
-          | inl same ↦ absurd (other (ap (slice_index ds) (sym same) ∙ at.0))
-          | inr (inl low) ↦ inr (at.0, low)
-          | inr (inr high) ↦ absurd (omega (arith, at.1, high))
-        ]
+        | inl same ↦ absurd (other (ap (slice_index ds) (sym same) ∙ at.0))
+        | inr (inl low) ↦ inr (at.0, low)
+        | inr (inr high) ↦ absurd (omega (arith, at.1, high))
+      ]
     ] in
     record {
       numbers_len = is.numbers_len;
@@ -140,13 +140,13 @@ walk_entered ds q c walk next is below reached room space counts numbers places 
 pub walk_next : (ds : List ℕ) (q c : ℕ) (walk : Walk) → c ≡ length ds → IsWalk ds q c walk → IsWalk ds (q + 1) 0 walk
 walk_next ds q c walk all is =
     let up : (k : ℕ) → IsUnderWay ds q c k → IsUnderWay ds (q + 1) 0 k
-    = λ k way. elim way [ | inl low ↦ inl (omega (arith, low)) | inr at ↦ inl (omega (arith, at.0)) ] in
+    = λ k way. elim way [ inl low ↦ inl (omega (arith, low)) | inr at ↦ inl (omega (arith, at.0)) ] in
     let down : (k : ℕ) → k < length ds → IsUnderWay ds (q + 1) 0 k → IsUnderWay ds q c k
     = λ k inside way. elim way [
       | inl low ↦ elim (cases_eq (slice_index ds k) q) [
-          | inl same ↦ inr (same, omega (arith, inside, all))
-          | inr other ↦ inl (omega (arith, low, other))
-        ]
+        | inl same ↦ inr (same, omega (arith, inside, all))
+        | inr other ↦ inl (omega (arith, low, other))
+      ]
       | inr at ↦ absurd (omega (arith, at.1))
     ] in
     let whole : take c ds ≡ ds = take_all c ds (omega (arith, all)) in
@@ -161,17 +161,21 @@ walk_next ds q c walk all is =
     }
 
 -- the values, with one more
-pub values_entered : (value : ℕ → List ℕ) (n c : ℕ) (walk next : Walk) (x : List ℕ)
+pub values_entered : (value : ℕ → List ℕ) (n c : ℕ) (walk next : Walk) (old new x : List ℕ)
     → next.count ≡ walk.count + 1
     → walk.count < length walk.numbers
     → next.numbers ≡ slice_set walk.numbers walk.count c
-    → take ((walk.count + 1) * n) next.values ≡ take (walk.count * n) walk.values ++ x
+    → take ((walk.count + 1) * n) new ≡ take (walk.count * n) old ++ x
     → x ≡ value c
-    → take (walk.count * n) walk.values ≡ joined (λ k. value (slice_index walk.numbers k)) walk.count
-    → take (next.count * n) next.values ≡ joined (λ k. value (slice_index next.numbers k)) next.count
-values_entered value n c walk next x counts room numbers grown is held =
+    → take (walk.count * n) old ≡ joined (λ k. value (slice_index walk.numbers k)) walk.count
+    → take (next.count * n) new ≡ joined (λ k. value (slice_index next.numbers k)) next.count
+values_entered value n c walk next old new x counts room numbers grown is held =
     let here : slice_index next.numbers walk.count ≡ c
     = ap (λ xs. slice_index xs walk.count) numbers ∙ get_or-set_same walk.numbers walk.count c 0 room in
     let there : (k : ℕ) → k < walk.count → value (slice_index walk.numbers k) ≡ value (slice_index next.numbers k)
     = λ k low. ap value (sym (ap (λ xs. slice_index xs k) numbers ∙ get_or-set_other walk.numbers walk.count k c 0 (omega (arith, low)))) in
     rw (counts, joined_more, here, ← is) (grown ∙ ap (λ front. front ++ x) (held ∙ joined_same _ _ walk.count there))
+
+-- how many chains are under way before any with a digit is taken in
+pub count-walk : (ds : List ℕ) (q : ℕ) (walk : Walk) → IsWalk ds q 0 walk → walk.count ≡ count_below q ds
+count-walk ds q walk is = is.counted ∙ add-zero _

@@ -9,6 +9,6 @@ invariant-loop-c l = record {
   walk : IsWalk l.digits l.q l.c l.self;
   values : (value : ℕ → List ℕ)
       → ((c : ℕ) → slice_index l.digits c ≡ l.q → value c ≡ part l.n l.sig c)
-      → take (l.fn.self.count * l.n) l.fn.self.values ≡ joined (λ k. value (slice_index l.fn.self.numbers k)) l.fn.self.count
-      → take (l.self.count * l.n) l.self.values ≡ joined (λ k. value (slice_index l.self.numbers k)) l.self.count;
+      → take (l.fn.self.count * l.n) l.fn.values ≡ joined (λ k. value (slice_index l.fn.self.numbers k)) l.fn.self.count
+      → take (l.self.count * l.n) l.values ≡ joined (λ k. value (slice_index l.self.numbers k)) l.self.count;
 }
