@@ -20,7 +20,7 @@ chain-add K x j t l c i q (suc r) =
     rw add-suc cc
 
 -- a chain keeps its length
-length-chain : (K : Seeded) (x : List ℕ) (j t l c i q : ℕ) → HasLength K.suite K.n → length x ≡ K.n → length (chain K j t l c x i q) ≡ K.n
+pub length-chain : (K : Seeded) (x : List ℕ) (j t l c i q : ℕ) → HasLength K.suite K.n → length x ≡ K.n → length (chain K j t l c x i q) ≡ K.n
 unfolding chain
 length-chain K x j t l c i zero law h = h
 length-chain K x j t l c i (suc q) law h = law.f K.seed _ _

@@ -1,3 +1,5 @@
 pub mod DigitSteps
 pub mod Joins
+pub mod Walks
 pub mod Chains
+pub mod WalkSteps

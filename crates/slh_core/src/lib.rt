@@ -10,4 +10,5 @@ pub mod parts;
 pub mod set_row;
 pub mod steps;
 pub mod suite;
+mod walk;
 pub mod wots;

@@ -15,6 +15,7 @@ use crate::nbytes::NBytes;
 use crate::params::{MAX_CHAINS, MAX_ENDS_LEN, WotsParams, chain_sizes};
 use crate::parts::{part_of, put_part};
 use crate::steps::Steps;
+use crate::walk::Walk;
 use hybrid_array::ArraySize;
 use std::sync::ledger::Ledger;
 
@@ -307,8 +308,9 @@ pub fn wots_pk_from_sig<P: WotsParams, L: Ledger>(
     P::t(keyed, &adrs.pk_adrs(), &ends[..size], steps)
 }
 
-/// Takes the chain values that belong to digits to their ends.
-#[tactic(auto, unfolding(crate::specs::Wots::checked_ends, crate::specs::Bytes::joined))]
+/// Takes the chain values that belong to digits to their ends. The chains that are under way at a
+/// step are a row.
+#[tactic(auto, unfolding(crate::specs::Wots::checked_ends))]
 fn finish_chains<P: WotsParams, L: Ledger>(
     digits: &[u16],
     sig: &[u8],
@@ -328,11 +330,15 @@ fn finish_chains<P: WotsParams, L: Ledger>(
     ensures cost { steps.new + sum digits.now ≡ steps.old + 15 * length digits.now }
 {
     let n = P::N::USIZE;
-    for (c, digit) in digits.iter().enumerate() {
-        let value = part_of::<P::N>(sig, c);
-        let from = u32::from(*digit);
-        let at = adrs.at_step(c as u32, 0);
-        let end = wots_chain::<P, L>(&value, from, 15 - from, keyed, &at, steps);
-        put_part(out, n, c, end.as_slice());
+    let mut walk = Walk::new();
+    let mut values = [0u8; MAX_ENDS_LEN];
+    for q in 0..15u16 {
+        walk.enter(digits, q, sig, n, &mut values);
+        let count = walk.count;
+        let at = adrs.at_step(0, u32::from(q));
+        let row = &mut values[..count * n];
+        P::f_each(keyed, &at, &walk.numbers[..count], row, steps);
     }
+    walk.enter(digits, 15, sig, n, &mut values);
+    walk.write_to(&values, n, out);
 }

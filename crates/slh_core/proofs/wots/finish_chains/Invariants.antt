@@ -1,16 +1,20 @@
-use Rattle.std.proofs.Common.{◌≡◌, ◌+◌, ◌*◌, take}
-use Rattle.std.specs.Prelude.{sum}
+use Rattle.std.proofs.Common.{◌≡◌, ◌+◌, ◌-◌, ◌*◌, length, sum_by, take}
+use Rattle.std.specs.Prelude.{slice_index}
 use Rattle.slh_core.specs.Bytes.{joined}
+use Rattle.slh_core.specs.Walk.{IsWalk}
 use Rattle.slh_core.specs.Wots.{checked_chain}
+use Rattle.slh_core.specs.declared.params.TheConstants.{MAX_ENDS_LEN}
 use Rattle.slh_core.proofs.wots.finish_chains.Given as goal
 
--- the ends so far, and their steps
-abbrev pub invariant-loop-c : goal.invariant-loop-c
-invariant-loop-c g l =
+-- the chains under way, their values after q steps, and the steps so far
+abbrev pub invariant-loop-q : goal.invariant-loop-q
+invariant-loop-q g l =
     let K = g.P.HashSuite.keyed_suite l.keyed in
     let a = l.adrs in
     record {
-      ends : take (l.c * l.n) l.out
-          ≡ joined (λ k. checked_chain K a.layer_adrs a.tree_adrs_low a.key_pair_adrs l.sig l.digits k 15) l.c;
-      cost : l.steps + sum (take l.c l.digits) ≡ l.initial.steps + 15 * l.c;
+      walk : IsWalk l.digits l.q 0 l.walk;
+      room : length l.values ≡ MAX_ENDS_LEN;
+      values : take (l.walk.count * l.n) l.values
+          ≡ joined (λ k. checked_chain K a.layer_adrs a.tree_adrs_low a.key_pair_adrs l.sig l.digits (slice_index l.walk.numbers k) l.q) l.walk.count;
+      cost : l.steps ≡ l.initial.steps + sum_by (λ d. l.q - d) l.digits;
     }
