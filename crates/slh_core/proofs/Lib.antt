@@ -1,3 +1,4 @@
 pub mod DigitSteps
 pub mod Joins
 pub mod Chains
+pub mod Incomparable
