@@ -18,7 +18,7 @@ byte_in x i bits h small =
     rw (number_more 256 x i h, mod-pow-add (number_of (take i x) * 256 + get_or x i 0) bits 8, div-mul-add (number_of (take i x)) 256 (get_or x i 0) small, mod-mul-add (number_of (take i x)) 256 (get_or x i 0) small) refl
 
 -- the front of a byte string is the high part of its number
-number_front : (x : List ℕ) (i d : ℕ) → ((k : ℕ) → get_or x k 0 < 256) → i + d ≤ length x → number_of (take (i + d) x) / 2 ^ (8 * d) ≡ number_of (take i x)
+pub number_front : (x : List ℕ) (i d : ℕ) → ((k : ℕ) → get_or x k 0 < 256) → i + d ≤ length x → number_of (take (i + d) x) / 2 ^ (8 * d) ≡ number_of (take i x)
 number_front x i zero bytes h = rw add-zero (omega arith)
 number_front x i (suc d) bytes h =
     let split : 8 * suc d ≡ 8 + 8 * d = omega arith in
@@ -54,12 +54,12 @@ pub byte_left : (b o c at bits n : ℕ) → 8 * at ≡ b * o + bits → bits < b
 byte_left b o c at bits n place lacks below enough =
     let whole : b * (o + 1) ≤ b * c = mul-le-mul_left b (omega arith) in omega arith
 
-length-listed : (f : ℕ → ℕ) (k : ℕ) → length (listed f k) ≡ k
+pub length-listed : (f : ℕ → ℕ) (k : ℕ) → length (listed f k) ≡ k
 unfolding listed
 length-listed f zero = refl
 length-listed f (suc k) = rw (length-append (listed f k) (f k ∷ []), length-listed f k) (omega arith)
 
-listed_at : (f : ℕ → ℕ) (k i : ℕ) → i < k → get_or (listed f k) i 0 ≡ f i
+pub listed_at : (f : ℕ → ℕ) (k i : ℕ) → i < k → get_or (listed f k) i 0 ≡ f i
 unfolding listed
 listed_at f zero i h = absurd (omega arith)
 listed_at f (suc k) i h =
@@ -96,7 +96,7 @@ sum_below (x ∷ xs) small =
     let rest = sum_below xs (λ i. small (suc i)) in
     rw (sum_by-cons (λ d. d) x xs) (omega arith)
 
-length-wots_digits : (n : ℕ) (m : List ℕ) → length (wots_digits n m) ≡ chain_count n
+pub length-wots_digits : (n : ℕ) (m : List ℕ) → length (wots_digits n m) ≡ chain_count n
 unfolding wots_digits
 length-wots_digits n m =
     rw (length-append (digits m 4 (2 * n)) _, length-listed (digit m 4 (2 * n)) (2 * n)) refl

@@ -3,3 +3,4 @@ pub mod Joins
 pub mod Walks
 pub mod Chains
 pub mod WalkSteps
+pub mod Incomparable

@@ -1,8 +1,8 @@
 -- Digits cut from the bits of a byte string (FIPS 205, algorithm 4), and those of a message.
-use Rattle.std.specs.Prelude.{ℕ, zero, suc, ◌+◌, ◌-◌, ◌*◌, ◌/◌, ◌%◌, ◌^◌}
-use Rattle.std.specs.Prelude.{List, [], ◌∷◌, ◌++◌, take, sum_by}
+use Rattle.std.specs.Prelude.{ℕ, zero, suc, ◌+◌, ◌-◌, ◌*◌, ◌/◌, ◌%◌, ◌^◌, ◌<◌}
+use Rattle.std.specs.Prelude.{List, [], ◌∷◌, ◌++◌, take, sum_by, slice_index}
 use Rattle.slh_core.specs.Bytes.{number_of}
-use Rattle.slh_core.specs.Parameters.{bytes_for}
+use Rattle.slh_core.specs.Parameters.{bytes_for, chain_count}
 
 -- digit i of c digits of b bits: the front bytes are one number, from which it is cut
 unfoldable pub digit : List ℕ → ℕ → ℕ → ℕ → ℕ
@@ -29,3 +29,9 @@ wots_digits n m =
     let ds = digits m 4 (2 * n) in
     let sum = checksum ds in
     ds ++ sum / 256 % 16 ∷ sum / 16 % 16 ∷ sum % 16 ∷ []
+
+-- some digit of the first message is below the second's
+abbrev pub IsBelowSomewhere : ℕ → List ℕ → List ℕ → Type 0
+IsBelowSomewhere n x y =
+    (c : ℕ) × (c < chain_count n)
+    × (slice_index (wots_digits n x) c < slice_index (wots_digits n y) c)

@@ -1,5 +1,5 @@
 -- The hash functions of a parameter set (FIPS 205, section 4.1).
-use Rattle.std.specs.Prelude.{◌≡◌, ℕ, List, length}
+use Rattle.std.specs.Prelude.{◌≡◌, ℕ, ◌<◌, List, length, slice_index}
 
 -- F, H, T and PRF are of the public seed, the 32 bytes of an address, and the input; H's input is a
 -- left and a right one, PRF's the secret seed
@@ -20,6 +20,11 @@ pub record HasLength (S : Suite) (n : ℕ) : Type 0 where
   pub t : (s a x : List ℕ) → length (S.t s a x) ≡ n
   pub prf : (s a sk : List ℕ) → length (S.prf s a sk) ≡ n
   pub prf_msg : (key opt message : List ℕ) → length (S.prf_msg key opt message) ≡ n
+
+-- what H and T give, which the layer above signs, is bytes
+pub record HasBytes (S : Suite) : Type 0 where
+  pub h : (s a l r : List ℕ) (k : ℕ) → slice_index (S.h s a l r) k < 256
+  pub t : (s a x : List ℕ) (k : ℕ) → slice_index (S.t s a x) k < 256
 
 -- the digest of a message has m bytes
 pub record HasDigestLength (S : Suite) (m : ℕ) : Type 0 where

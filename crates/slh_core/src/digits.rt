@@ -35,7 +35,7 @@ pub fn base_2b(x: &[u8], b: u32, out: &mut [u16])
 
 /// The digits of a message and of its checksum, in the front of a place for each chain.
 #[tactic(auto, unfolding(crate::specs::Digits::wots_digits))]
-pub(crate) fn message_digits<N: ArraySize>(m: &NBytes<N>) -> [u16; MAX_CHAINS]
+pub fn message_digits<N: ArraySize>(m: &NBytes<N>) -> [u16; MAX_CHAINS]
     ensures { take (chain_count N.USIZE) result ≡ wots_digits N.USIZE m.now }
 {
     let bytes = m.as_slice();

@@ -1,10 +1,24 @@
-//! Laws of chains, each the contract of a function that does nothing.
-ghost use Rattle.std.specs.Prelude.{◌≡◌, ℕ, ◌+◌, List};
+//! Laws of digits and chains, each the contract of a function that does nothing.
+ghost use Rattle.std.specs.Prelude.{◌≡◌, ◌≢◌, ℕ, ◌+◌, ◌<◌, ◌≤◌, List, length, slice_index};
+ghost use Rattle.slh_core.specs.Digits.{IsBelowSomewhere};
 ghost use Rattle.slh_core.specs.Wots.{chain, wots_pk, wots_sig, wots_pk_from_sig};
 ghost use Rattle.slh_core.specs.Suite.{Seeded, seeded};
 
 use crate::params::WotsParams;
 use hybrid_array::ArraySize;
+
+/// The digits of two different messages of n bytes are incomparable: some digit of each is below the
+/// other's. So no signature of the one gives all chain values for the other.
+pub fn digits_are_incomparable()
+    ensures { (n : ℕ) (x y : List ℕ)
+        → n ≤ 32
+        → length x ≡ n
+        → length y ≡ n
+        → ((k : ℕ) → slice_index x k < 256)
+        → ((k : ℕ) → slice_index y k < 256)
+        → x ≢ y
+        → IsBelowSomewhere n x y × IsBelowSomewhere n y x }
+{}
 
 /// A chain of `q` steps and then of `r` more is the chain of `q + r` steps.
 pub fn chain_continues()

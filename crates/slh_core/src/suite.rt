@@ -1,7 +1,7 @@
 //! What a hash suite is.
 ghost use Rattle.std.specs.Prelude.{◌≡◌, ℕ, ◌+◌, ◌*◌, ◌≤◌, List, ◌++◌, length, slice_index};
 ghost use Rattle.slh_core.specs.Bytes.{joined, part};
-ghost use Rattle.slh_core.specs.Suite.{Suite, HasLength, HasDigestLength, Seeded, seeded};
+ghost use Rattle.slh_core.specs.Suite.{Suite, HasLength, HasBytes, HasDigestLength, Seeded, seeded};
 
 use crate::address::{Address, RowAddress};
 use crate::nbytes::NBytes;
@@ -206,4 +206,7 @@ pub trait HashSuite {
 
     /// So does the digest of a message.
     ghost digest_length: { Self.M.USIZE ≤ MAX_DIGEST_LEN → HasDigestLength suite Self.M.USIZE };
+
+    /// What H and T give is bytes.
+    ghost value_bytes: { HasBytes suite };
 }

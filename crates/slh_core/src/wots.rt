@@ -45,7 +45,7 @@ pub fn wots_chain<P: WotsParams, L: Ledger>(
 }
 
 /// The key's own chain `c` after `q` steps.
-fn own_chain<P: WotsParams, L: Ledger>(
+pub fn own_chain<P: WotsParams, L: Ledger>(
     sk_seed: &NBytes<P::N>,
     keyed: &P::Keyed,
     adrs: &WotsHash,
@@ -311,7 +311,7 @@ pub fn wots_pk_from_sig<P: WotsParams, L: Ledger>(
 /// Takes the chain values that belong to digits to their ends. The chains that are under way at a
 /// step are a row.
 #[tactic(auto, unfolding(crate::specs::Wots::checked_ends))]
-fn finish_chains<P: WotsParams, L: Ledger>(
+pub fn finish_chains<P: WotsParams, L: Ledger>(
     digits: &[u16],
     sig: &[u8],
     keyed: &P::Keyed,

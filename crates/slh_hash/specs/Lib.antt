@@ -3,3 +3,4 @@ pub mod Sha2
 pub mod Lengths
 pub mod Keyed
 pub mod Sets
+pub mod ValueBytes

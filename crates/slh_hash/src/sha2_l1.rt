@@ -4,6 +4,7 @@ ghost use Rattle.hmac_sha256.specs.Sha256.{sha256};
 ghost use Rattle.slh_core.specs.Suite.{seeded};
 ghost use Rattle.slh_hash.specs.Sha2.{sha2_category_1};
 ghost use Rattle.slh_hash.specs.Lengths.{sha2_category_1_lengths, sha2_category_1_digest_length};
+ghost use Rattle.slh_hash.specs.ValueBytes.{sha2_category_1_bytes};
 
 use crate::join::{put_three, put_two};
 use crate::keyed::Sha2Keyed;
@@ -159,6 +160,8 @@ impl<N: ArraySize, M: ArraySize> HashSuite for Sha2L1<N, M> {
     ghost lengths = { sha2_category_1_lengths N.USIZE M.USIZE };
 
     ghost digest_length = { λ _. sha2_category_1_digest_length N.USIZE M.USIZE };
+
+    ghost value_bytes = { sha2_category_1_bytes N.USIZE M.USIZE };
 }
 
 // The hash of a signature's randomizer, the public seed, the root and the message.

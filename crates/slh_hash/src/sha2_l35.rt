@@ -5,6 +5,7 @@ ghost use Rattle.slh_core.specs.Suite.{seeded};
 ghost use Rattle.slh_hash.specs.Sha2.{sha2_category_3_5};
 ghost use Rattle.slh_hash.specs.Lengths.{sha2_category_3_5_lengths};
 ghost use Rattle.slh_hash.specs.Lengths.{sha2_category_3_5_digest_length};
+ghost use Rattle.slh_hash.specs.ValueBytes.{sha2_category_3_5_bytes};
 
 use crate::join::{put_three, put_two};
 use crate::keyed::Sha2Keyed35;
@@ -145,6 +146,8 @@ impl<N: ArraySize, M: ArraySize> HashSuite for Sha2L35<N, M> {
     ghost lengths = { sha2_category_3_5_lengths N.USIZE M.USIZE };
 
     ghost digest_length = { λ _. sha2_category_3_5_digest_length N.USIZE M.USIZE };
+
+    ghost value_bytes = { sha2_category_3_5_bytes N.USIZE M.USIZE };
 }
 
 // The hash of a signature's randomizer, the public seed, the root and the message.

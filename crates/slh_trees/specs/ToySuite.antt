@@ -1,6 +1,8 @@
 -- A suite of one byte, whose values can be computed by hand. All sums are modulo 256.
-use Rattle.std.specs.Prelude.{[], ◌∷◌, ◌+◌, ◌*◌, ◌/◌, ◌%◌, sum, slice_index, refl}
-use Rattle.slh_core.specs.Suite.{Suite, HasLength, HasDigestLength}
+use Rattle.std.proofs.Common.{lit<}
+use Rattle.std.proofs.lemmas.Nat.{mod_below}
+use Rattle.std.specs.Prelude.{ℕ, zero, suc, ◌<◌, [], ◌∷◌, ◌+◌, ◌*◌, ◌/◌, ◌%◌, sum, slice_index, refl}
+use Rattle.slh_core.specs.Suite.{Suite, HasLength, HasBytes, HasDigestLength}
 
 abbrev pub toy : Suite
 toy = record {
@@ -25,6 +27,16 @@ toy_lengths = record {
   t = λ s a x. refl;
   prf = λ s a sk. refl;
   prf_msg = λ key opt message. refl;
+}
+
+one_byte : (x k : ℕ) → slice_index (x % 256 ∷ []) k < 256
+one_byte x zero = mod_below x 256 (lit< tt)
+one_byte x (suc k) = lit< tt
+
+pub toy_bytes : HasBytes toy
+toy_bytes = record {
+  h = λ s a l r k. one_byte _ k;
+  t = λ s a x k. one_byte _ k;
 }
 
 pub toy_digest_length : HasDigestLength toy 3

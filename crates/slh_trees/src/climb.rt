@@ -12,7 +12,7 @@ use std::sync::ledger::Ledger;
 
 /// The node some heights above `leaf`, whose index is `idx`, by the siblings of a path.
 #[tactic(auto, unfolding(crate::specs::Merkle::climb))]
-pub(crate) fn climb_path<P: WotsParams, A: NodeAddress + Drop, L: Ledger>(
+pub fn climb_path<P: WotsParams, A: NodeAddress + Drop, L: Ledger>(
     leaf: &NBytes<P::N>,
     idx: u32,
     heights: usize,
@@ -22,7 +22,7 @@ pub(crate) fn climb_path<P: WotsParams, A: NodeAddress + Drop, L: Ledger>(
     steps: &mut Steps<L>,
 ) -> NBytes<P::N>
     requires few { heights ≤ 31 }
-    requires whole { length path.now ≡ heights * P.N.USIZE }
+    requires enough { heights * P.N.USIZE ≤ length path.now }
     ensures value { let K = P.keyed_suite keyed.now in
         result ≡ spec_climb K (A.place adrs.now) leaf.now idx path.now heights }
     ensures cost { steps.new ≡ steps.old + heights }

@@ -5,7 +5,7 @@ ghost use Rattle.std.specs.Prelude.{refl};
 ghost use Rattle.slh_core.specs.Parameters.{scheme_of};
 ghost use Rattle.slh_core.specs.Suite.{seeded};
 ghost use Rattle.slh_core.specs.Steps.{IsFresh};
-ghost use Rattle.slh_trees.specs.ToySuite.{toy, toy_lengths, toy_digest_length};
+ghost use Rattle.slh_trees.specs.ToySuite.{toy, toy_lengths, toy_bytes, toy_digest_length};
 
 use crate::fors::{fors_node, fors_pk_from_sig, fors_sign, fors_sign_root, fors_sk_gen};
 use crate::hypertree::{ht_sign, ht_verify};
@@ -123,6 +123,8 @@ impl HashSuite for Counting {
     ghost lengths = { λ _. toy_lengths };
 
     ghost digest_length = { λ _. toy_digest_length };
+
+    ghost value_bytes = { toy_bytes };
 }
 
 impl WotsParams for Counting {

@@ -123,7 +123,7 @@ fn open_secret<P: ForsParams, L: Ledger>(
 }
 
 /// How many bytes are opened in one tree.
-fn opened_len<P: ForsParams>() -> usize
+pub fn opened_len<P: ForsParams>() -> usize
     ensures value { result ≡ (1 + P.A.USIZE) * P.N.USIZE }
     ensures small { result ≤ MAX_OPENED_LEN }
 {
@@ -184,7 +184,7 @@ fn open_all<P: ForsParams, L: Ledger>(
 }
 
 /// The index of the leaf that a digit names in tree `i`.
-fn index_of<P: ForsParams>(i: usize, digit: u16) -> u32
+pub fn index_of<P: ForsParams>(i: usize, digit: u16) -> u32
     requires tree { i < P.K.USIZE }
     requires digit { digit < 2 ^ P.A.USIZE }
     ensures value { result ≡ i * 2 ^ P.A.USIZE + digit }
@@ -224,7 +224,7 @@ pub fn fors_pk_from_sig<P: ForsParams, L: Ledger>(
 
 /// Climbs from each opened secret to the root of its tree.
 #[tactic(auto, unfolding(slh_core::specs::Bytes::joined))]
-fn climb_all<P: ForsParams, L: Ledger>(
+pub fn climb_all<P: ForsParams, L: Ledger>(
     digits: &[u16],
     sig: &[u8],
     keyed: &P::Keyed,

@@ -14,7 +14,7 @@ use slh_core::steps::Steps;
 use std::sync::ledger::Ledger;
 
 /// How many bytes a layer's signature has.
-pub(crate) fn layer_len<P: XmssParams>() -> usize
+pub fn layer_len<P: XmssParams>() -> usize
     ensures value { result ≡ layer_size P.N.USIZE P.HPrime.USIZE }
     ensures small { result ≤ 4096 }
 {
@@ -23,7 +23,7 @@ pub(crate) fn layer_len<P: XmssParams>() -> usize
 }
 
 /// The tree and the leaf of the next layer.
-fn next_place(tree: u64, height: usize) -> (u64, u32)
+pub fn next_place(tree: u64, height: usize) -> (u64, u32)
     requires { height ≤ 31 }
     ensures tree { result.0 ≡ tree / 2 ^ height }
     ensures leaf { result.1 ≡ tree % 2 ^ height }
@@ -34,7 +34,7 @@ fn next_place(tree: u64, height: usize) -> (u64, u32)
 
 /// The address of a tree of a layer.
 #[inline]
-fn tree_adrs_of(layer: u32, tree: u64) -> WotsHash
+pub fn tree_adrs_of(layer: u32, tree: u64) -> WotsHash
     ensures { result ≡ record {
       layer_adrs = layer;
       tree_adrs_low = tree;

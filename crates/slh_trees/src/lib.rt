@@ -5,7 +5,7 @@
 #![tactic(auto)]
 
 pub mod check;
-mod climb;
+pub mod climb;
 #[cfg(test)]
 mod counting;
 pub mod digest;
@@ -13,7 +13,7 @@ pub mod fors;
 pub mod hypertree;
 pub mod laws;
 mod leaves;
-mod node;
+pub mod node;
 #[cfg(test)]
 mod tests;
 pub mod toy;

@@ -11,7 +11,7 @@ use slh_core::steps::Steps;
 use std::sync::ledger::Ledger;
 
 /// The address of a node of a tree.
-pub(crate) trait NodeAddress: Address {
+pub trait NodeAddress: Address {
     ghost place: { Self → Place };
 
     /// The address of another node of the same tree.
@@ -49,7 +49,7 @@ impl NodeAddress for HashTree {
 
 /// The index of the other child of the same node.
 #[inline]
-pub(crate) fn sibling(index: u32) -> u32
+pub fn sibling(index: u32) -> u32
     requires { index + 1 < 2 ^ 32 }
     ensures { result ≡ sibling_of index }
 {

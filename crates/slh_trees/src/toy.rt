@@ -1,7 +1,7 @@
 //! A suite of one byte, whose values can be computed by hand. It hides nothing.
 ghost use Rattle.std.specs.Prelude.{◌≡◌, ◌%◌, ◌<◌, ◌++◌, [], ◌∷◌, sum, slice_index, codes, refl};
 ghost use Rattle.slh_core.specs.Suite.{seeded};
-ghost use Rattle.slh_trees.specs.ToySuite.{toy, toy_lengths, toy_digest_length};
+ghost use Rattle.slh_trees.specs.ToySuite.{toy, toy_lengths, toy_bytes, toy_digest_length};
 
 use hybrid_array::sizes::{U1, U2, U3, U4, U5, U21};
 use slh_core::address::Address;
@@ -142,6 +142,8 @@ impl HashSuite for Toy {
     ghost lengths = { λ _. toy_lengths };
 
     ghost digest_length = { λ _. toy_digest_length };
+
+    ghost value_bytes = { toy_bytes };
 }
 
 impl SetRow for Toy {

@@ -20,7 +20,7 @@ use std::sync::ledger::Ledger;
 
 /// The address of another key pair of the same tree.
 #[inline]
-fn at_leaf(adrs: &WotsHash, key_pair: u32) -> WotsHash
+pub fn at_leaf(adrs: &WotsHash, key_pair: u32) -> WotsHash
     ensures { result ≡ record adrs.now { key_pair_adrs = key_pair; chain_adrs = 0; hash_adrs = 0 } }
 {
     WotsHash {
