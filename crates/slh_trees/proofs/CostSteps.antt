@@ -1,5 +1,6 @@
 -- The costs of nodes and of the siblings on a way up, height by height.
 use Rattle.std.proofs.Common.{◌≡◌, ℕ, zero, suc, ◌+◌, ◌*◌, ◌^◌, ◌≤◌, arith}
+use Rattle.std.proofs.lemmas.Nat.{pow-add}
 use Rattle.std.proofs.Math.Nat.{pow-suc}
 use Rattle.slh_core.specs.Costs.{node_cost, auth_path_cost, fors_leaf_cost, fors_node_cost, fors_sign_cost, fors_pk_from_sig_cost, fors_pk_cost}
 use Rattle.slh_trees.proofs.Powers.{twice_more}
@@ -16,6 +17,11 @@ auth_path_cost-more leaf z = omega (arith, path_room leaf z, twice_more z (leaf 
 -- a node over all of its leaves, with a step for each node above a first leaf
 pub node_cost-whole : (leaf z : ℕ) → node_cost leaf z + 1 ≡ 2 ^ z * (leaf + 1)
 node_cost-whole leaf z = omega (arith, path_room leaf z)
+
+-- a node over nodes that stand at the same height
+pub node_cost-above : (leaf low above : ℕ) → 2 ^ above * (node_cost leaf low + 1) ≡ node_cost leaf (low + above) + 1
+node_cost-above leaf low above =
+    rw (node_cost-whole leaf low, node_cost-whole leaf (low + above), pow-add 2 low above) (omega arith)
 
 -- a leaf, the siblings on its way up and the way up itself: each node below the root once
 node_cost-path : (leaf h : ℕ) → leaf + auth_path_cost leaf h + h ≡ node_cost leaf h

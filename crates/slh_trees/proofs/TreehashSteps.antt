@@ -1,4 +1,4 @@
--- One leaf more, in a tree that is built in one pass.
+-- One of the lowest nodes more, in a tree that is built in one pass.
 use Rattle.std.proofs.Common.{◌≡◌, ◌≢◌, ℕ, suc, ◌+◌, ◌-◌, ◌*◌, ◌/◌, ◌%◌, ◌^◌, ◌<◌, ◌≤◌, List, arith, refl, ap, sym, ◌∙◌, add-one, inl, inr}
 use Rattle.std.specs.Prelude.{count_ones}
 use lib.Count.{ones}

@@ -5,8 +5,8 @@ use Rattle.std.specs.Prelude.{◌≡◌, ℕ, ◌+◌, ◌-◌, ◌*◌, ◌/◌
 unfoldable pub stored_node : ℕ → List ℕ → ℕ → List ℕ
 stored_node n store h = slice_range store (32 * h) (32 * h + n)
 
--- after q leaves below the node with index i at height z, each bit of q stands for a finished node:
--- the last one of its height
+-- after q of the lowest nodes below the node with index i at height z, each bit of q stands for a
+-- finished node: the last one of its height
 unfoldable pub HoldsNodes : ℕ → (ℕ → ℕ → List ℕ) → ℕ → ℕ → ℕ → List ℕ → Type 0
 HoldsNodes n nodes z i q store =
     (h : ℕ)

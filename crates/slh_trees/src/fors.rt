@@ -12,7 +12,7 @@ ghost use Rattle.slh_trees.specs.Merkle.{node_bytes, climb as spec_climb};
 
 use crate::climb::climb_path;
 use crate::laws::forest_leads_to_key;
-use crate::leaves::Leaves;
+use crate::leaves::{Leaves, MAX_ROW, number_from};
 use crate::node::NodeAddress;
 use crate::treehash::{treehash, write_auth_path};
 use hybrid_array::ArraySize;
@@ -59,17 +59,21 @@ impl<P: ForsParams> Leaves<P> for ForsTree {
 
     ghost leaf_cost = { fors_leaf_cost };
 
-    #[inline]
-    #[tactic(auto, unfolding(crate::specs::Fors::fors_leaf))]
-    fn leaf<L: Ledger>(
+    fn leaves<L: Ledger>(
         &self,
         sk_seed: &NBytes<P::N>,
-        index: u32,
+        first: u32,
+        count: usize,
         keyed: &P::Keyed,
+        out: &mut [u8],
         steps: &mut Steps<L>,
-    ) -> NBytes<P::N> {
-        let secret = fors_sk_gen::<P, L>(sk_seed, keyed, self, index, steps);
-        P::f(keyed, &self.at_node(0, index), &secret, steps)
+    ) {
+        forest_sizes::<P>();
+        let mut row = [0u32; MAX_ROW];
+        let numbers = &mut row[..count];
+        number_from(first, numbers);
+        P::prf_each(keyed, sk_seed, &self.prf_adrs(), numbers, out, steps);
+        P::f_each(keyed, &self.at_node(0, 0), numbers, out, steps);
     }
 
     ghost height_high = { Prim.search rules };

@@ -14,6 +14,7 @@ pub mod hypertree;
 pub mod laws;
 mod leaves;
 pub mod node;
+mod subtree;
 #[cfg(test)]
 mod tests;
 pub mod toy;

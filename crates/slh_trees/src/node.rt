@@ -1,22 +1,23 @@
 //! The nodes of trees: their addresses, and the hash of two children.
-ghost use Rattle.std.specs.Prelude.{◌≡◌, ◌+◌, ◌^◌, ◌<◌};
+ghost use Rattle.std.specs.Prelude.{◌≡◌, ℕ, ◌+◌, ◌^◌, ◌<◌};
 ghost use Rattle.slh_trees.specs.Fors.{fors_place};
 ghost use Rattle.slh_trees.specs.Merkle.{Place, node_bytes, sibling_of};
 ghost use Rattle.slh_trees.specs.Xmss.{tree_place};
 
-use slh_core::address::{Address, ForsTree, HashTree};
+use slh_core::address::{ForsTree, HashTree, RowAddress};
 use slh_core::nbytes::NBytes;
 use slh_core::params::WotsParams;
 use slh_core::steps::Steps;
 use std::sync::ledger::Ledger;
 
 /// The address of a node of a tree.
-pub trait NodeAddress: Address {
+pub trait NodeAddress: RowAddress {
     ghost place: { Self → Place };
 
-    /// The address of another node of the same tree.
+    /// The address of another node of the same tree. The nodes of its height are a row.
     fn at_node(&self, height: u32, index: u32) -> Self
-        ensures { Self.bytes result ≡ node_bytes (place self.now) height index };
+        ensures bytes { Self.bytes result ≡ node_bytes (place self.now) height index }
+        ensures row { (i : ℕ) → Self.numbered result i ≡ node_bytes (place self.now) height i };
 }
 
 impl NodeAddress for ForsTree {
@@ -56,8 +57,7 @@ pub fn sibling(index: u32) -> u32
     if index % 2 == 0 { index + 1 } else { index - 1 }
 }
 
-/// The node with an index at a height, from its left and its right child. Making (FIPS 205,
-/// algorithms 9 and 15) and checking (11 and 17) hash them here alone.
+/// The node with an index at a height, from its left and its right child.
 #[inline]
 pub(crate) fn parent<P: WotsParams, A: NodeAddress + Drop, L: Ledger>(
     left: &NBytes<P::N>,

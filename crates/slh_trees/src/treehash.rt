@@ -1,12 +1,13 @@
-//! Trees in one pass over their leaves, with one finished node kept for each height.
+//! Trees in one pass over their lowest subtrees, with one finished node kept for each height above.
 ghost use Rattle.std.specs.Prelude.{◌≡◌, ◌≢◌, ℕ, ◌+◌, ◌-◌, ◌*◌, ◌^◌, ◌≤◌, ◌<◌};
 ghost use Rattle.std.specs.Prelude.{List, length, count_ones};
 ghost use Rattle.slh_core.specs.Costs.{node_cost, auth_path_cost};
 ghost use Rattle.slh_trees.specs.Merkle.{merkle, merkle_auth_path};
 ghost use Rattle.slh_trees.specs.Treehash.{stored_node, HoldsNodes};
 
-use crate::leaves::{Leaves, leaf_numbers};
+use crate::leaves::{Leaves, ROW_HEIGHT, leaf_numbers};
 use crate::node::{NodeAddress, parent, sibling};
+use crate::subtree::{index_below, subtree};
 use hybrid_array::ArraySize;
 use slh_core::nbytes::NBytes;
 use slh_core::params::{WotsParams, chain_sizes};
@@ -40,10 +41,11 @@ fn node_of<N: ArraySize>(store: &[u8], h: usize) -> NBytes<N>
     NBytes::exact(&store[32 * h..32 * h + N::USIZE])
 }
 
-/// Takes the leaf with an index, before which `q` leaves were taken: pairs that it finishes are
-/// hashed, and the node that is left is put in its place.
-fn push_leaf<P: WotsParams, A: NodeAddress + Drop, L: Ledger>(
-    leaf: &NBytes<P::N>,
+/// Takes the node with an index at the height `base`, before which `q` such nodes were taken: pairs
+/// that it finishes are hashed, and the node that is left is put in its place.
+fn push_node<P: WotsParams, A: NodeAddress + Drop, L: Ledger>(
+    node: &NBytes<P::N>,
+    base: u32,
     index: u32,
     q: u32,
     keyed: &P::Keyed,
@@ -51,19 +53,20 @@ fn push_leaf<P: WotsParams, A: NodeAddress + Drop, L: Ledger>(
     store: &mut [u8],
     steps: &mut Steps<L>,
 )
+    requires base { base ≤ ROW_HEIGHT }
     requires few { q < 2 ^ 31 }
     requires room { length store.old ≡ TREEHASH_LEN }
-    ensures holds { let K = P.keyed_suite keyed.now in
+    ensures holds { let node_at = merkle (P.keyed_suite keyed.now) (A.place adrs.now) in
         (leaves : ℕ → List ℕ) (i z : ℕ)
         → index ≡ i * 2 ^ z + q
         → q < 2 ^ z
-        → leaf.now ≡ leaves index
-        → HoldsNodes P.N.USIZE (merkle K (A.place adrs.now) leaves) z i q store.old
-        → HoldsNodes P.N.USIZE (merkle K (A.place adrs.now) leaves) z i (q + 1) store.new }
+        → node.now ≡ node_at leaves base index
+        → HoldsNodes P.N.USIZE (λ h. node_at leaves (base + h)) z i q store.old
+        → HoldsNodes P.N.USIZE (λ h. node_at leaves (base + h)) z i (q + 1) store.new }
     ensures cost { steps.new + count_ones (q + 1) ≡ steps.old + count_ones q + 1 }
 {
     chain_sizes::<P>();
-    let mut current = leaf.copy();
+    let mut current = node.copy();
     let mut index = index;
     let mut bits = q;
     let mut h = 0;
@@ -72,23 +75,14 @@ fn push_leaf<P: WotsParams, A: NodeAddress + Drop, L: Ledger>(
         bits /= 2;
         index /= 2;
         h += 1;
-        current = parent::<P, A, L>(&left, &current, h as u32, index, keyed, adrs, steps);
+        let height = base + h as u32;
+        current = parent::<P, A, L>(&left, &current, height, index, keyed, adrs, steps);
     }
     store_node(store, h, &current);
 }
 
-/// The index of the leaf after `q` others below the node with index `i` at height `z`.
-#[inline]
-fn leaf_below(i: u32, z: u32, q: u32) -> u32
-    requires height { z ≤ 31 }
-    requires fits { i * 2 ^ z + q < 2 ^ 32 }
-    ensures { result ≡ i * 2 ^ z + q }
-{
-    (i << z) + q
-}
-
 /// The node with index `i` at height `z` of the trees of an address (FIPS 205, algorithms 9 and
-/// 15). Its leaves are taken from left to right.
+/// 15). The subtrees below it are taken from left to right.
 pub(crate) fn treehash<P: WotsParams, A: Leaves<P> + Drop, L: Ledger>(
     sk_seed: &NBytes<P::N>,
     i: u32,
@@ -106,13 +100,15 @@ pub(crate) fn treehash<P: WotsParams, A: Leaves<P> + Drop, L: Ledger>(
 {
     chain_sizes::<P>();
     leaf_numbers::<P, A>();
+    let base = z.min(ROW_HEIGHT);
+    let above = z - base;
     let mut store = [0u8; TREEHASH_LEN];
-    for q in 0..1u32 << z {
-        let index = leaf_below(i, z, q);
-        let leaf = adrs.leaf(sk_seed, index, keyed, steps);
-        push_leaf::<P, A, L>(&leaf, index, q, keyed, adrs, &mut store, steps);
+    for q in 0..1u32 << above {
+        let index = index_below(i, above, q);
+        let node = subtree::<P, A, L>(sk_seed, index, base, keyed, adrs, steps);
+        push_node::<P, A, L>(&node, base, index, q, keyed, adrs, &mut store, steps);
     }
-    node_of::<P::N>(&store, z as usize)
+    node_of::<P::N>(&store, above as usize)
 }
 
 /// Writes the siblings on the way up from leaf `y` to the root of its tree.

@@ -14,6 +14,7 @@ use hybrid_array::ArraySize;
 use slh_core::address::{HashTree, WotsHash};
 use slh_core::nbytes::NBytes;
 use slh_core::params::{XmssParams, tree_sizes};
+use slh_core::parts::put_part;
 use slh_core::steps::Steps;
 use slh_core::wots::{wots_pk_from_sig, wots_pk_gen, wots_sign, wots_sign_leaf};
 use std::sync::ledger::Ledger;
@@ -44,20 +45,28 @@ impl<P: XmssParams> Leaves<P> for HashTree {
 
     ghost leaf_cost = { wots_pk_cost P.WotsSigLen.USIZE };
 
-    fn leaf<L: Ledger>(
+    #[tactic(auto, unfolding(slh_core::specs::Bytes::joined))]
+    fn leaves<L: Ledger>(
         &self,
         sk_seed: &NBytes<P::N>,
-        index: u32,
+        first: u32,
+        count: usize,
         keyed: &P::Keyed,
+        out: &mut [u8],
         steps: &mut Steps<L>,
-    ) -> NBytes<P::N> {
-        let adrs = WotsHash {
-            layer_adrs: self.layer_adrs,
-            tree_adrs_low: self.tree_adrs_low,
-            key_pair_adrs: index,
-            ..WotsHash::default()
-        };
-        wots_pk_gen::<P, L>(sk_seed, keyed, &adrs, steps)
+    ) {
+        tree_sizes::<P>();
+        let n = P::N::USIZE;
+        for k in 0..count {
+            let adrs = WotsHash {
+                layer_adrs: self.layer_adrs,
+                tree_adrs_low: self.tree_adrs_low,
+                key_pair_adrs: first + k as u32,
+                ..WotsHash::default()
+            };
+            let leaf = wots_pk_gen::<P, L>(sk_seed, keyed, &adrs, steps);
+            put_part(out, n, k, leaf.as_slice());
+        }
     }
 
     ghost height_high = { Prim.search rules };

@@ -1,9 +1,10 @@
-use Rattle.std.proofs.Common.{rules, arith, ◌≡◌, ◌+◌, ◌*◌, ◌^◌, ◌<◌, ◌∙◌, ap}
+use Rattle.std.proofs.Common.{rules, arith, ◌≡◌, ◌+◌, ◌-◌, ◌*◌, ◌^◌, ◌<◌, ◌≤◌, ◌∙◌, ap}
 use Rattle.std.specs.Prelude.{count_ones}
-use Rattle.std.proofs.lemmas.Nat.{one_shl}
+use Rattle.std.proofs.lemmas.Nat.{one_shl, mul-le}
+use Rattle.std.proofs.Math.Pow.{pow_mono}
 use Rattle.slh_core.specs.Costs.{node_cost}
 use Rattle.slh_trees.specs.Merkle.{merkle}
-use Rattle.slh_trees.proofs.CostSteps.{node_cost-whole}
+use Rattle.slh_trees.proofs.CostSteps.{node_cost-above}
 use Rattle.slh_trees.proofs.TreehashSteps.{HoldsNodes-none, HoldsNodes-all, leaf_below_of, ones-zero, ones-pow}
 use Rattle.slh_trees.proofs.treehash.treehash.Goals as goal
 
@@ -14,37 +15,47 @@ loop-q-init g c = record {
   cost = omega (arith, ones-zero);
 }
 
-pub leaf_below-index-requires-clause-fits : goal.leaf_below-index-requires-clause-fits
-leaf_below-index-requires-clause-fits g c =
-    omega (arith, leaf_below_of c.args.i c.args.z g.A.Leaves.height g.A.Leaves.trees c.loop-q.q c.requires.height c.requires.node (omega (arith, one_shl c.args.z 32 (omega arith))))
+pub index_below-index-requires-clause-fits : goal.index_below-index-requires-clause-fits
+index_below-index-requires-clause-fits g c =
+    let base = c.min-base.result in
+    let top = g.A.Leaves.height - base in
+    let above = c.args.z - base in
+    let within : above ≤ top = omega arith in
+    let rest : top - above ≡ g.A.Leaves.height - c.args.z = omega arith in
+    let below : c.loop-q.q < 2 ^ above = omega (arith, one_shl above 32 (omega arith)) in
+    let inside = leaf_below_of c.args.i above top g.A.Leaves.trees c.loop-q.q within (rw rest c.requires.node) below in
+    let fewer : 2 ^ top ≤ 2 ^ g.A.Leaves.height = pow_mono (let low : top ≤ g.A.Leaves.height = omega arith in low) in
+    let most : g.A.Leaves.trees * 2 ^ top ≤ g.A.Leaves.trees * 2 ^ g.A.Leaves.height = mul-le g.A.Leaves.trees (2 ^ top) g.A.Leaves.trees (2 ^ g.A.Leaves.height) (omega arith) fewer in
+    omega (arith, inside, most, c.leaf_numbers.ensures.few)
 
-pub leaf-leaf-requires : goal.leaf-leaf-requires
-leaf-leaf-requires g c =
-    rw c.leaf_below-index.ensures
-    (leaf_below_of c.args.i c.args.z g.A.Leaves.height g.A.Leaves.trees c.loop-q.q c.requires.height c.requires.node (omega (arith, one_shl c.args.z 32 (omega arith))))
-
-pub loop-q-preserved : goal.loop-q-preserved
-loop-q-preserved g c =
-    let K = g.P.HashSuite.keyed_suite c.args.keyed.now in
-    let leaves = g.A.Leaves.leaf K c.args.sk_seed.now c.args.adrs.now in
-    let below : c.loop-q.q < 2 ^ c.args.z = omega (arith, one_shl c.args.z 32 (omega arith)) in
-    record {
-      room = search rules;
-      holds = c.push_leaf.ensures.holds leaves c.args.i c.args.z c.leaf_below-index.ensures below c.leaf-leaf.ensures.value c.loop-q.invariant.holds;
-      cost = omega (arith, c.push_leaf.ensures.cost, c.leaf-leaf.ensures.cost, c.loop-q.invariant.cost);
-    }
+pub subtree-node-requires-clause-node : goal.subtree-node-requires-clause-node
+subtree-node-requires-clause-node g c =
+    let base = c.min-base.result in
+    let top = g.A.Leaves.height - base in
+    let above = c.args.z - base in
+    let within : above ≤ top = omega arith in
+    let rest : top - above ≡ g.A.Leaves.height - c.args.z = omega arith in
+    let below : c.loop-q.q < 2 ^ above = omega (arith, one_shl above 32 (omega arith)) in
+    rw c.index_below-index.ensures (leaf_below_of c.args.i above top g.A.Leaves.trees c.loop-q.q within (rw rest c.requires.node) below)
 
 pub returns-clause-value : goal.returns-clause-value
 returns-clause-value g c =
     let K = g.P.HashSuite.keyed_suite c.args.keyed.now in
     let nodes = merkle K (g.A.NodeAddress.place c.args.adrs.now) (g.A.Leaves.leaf K c.args.sk_seed.now c.args.adrs.now) in
-    let all : c.loop-q.q ≡ 2 ^ c.args.z = omega (arith, one_shl c.args.z 32 (omega arith)) in
-    rw c.node_of.ensures (HoldsNodes-all g.P.N.ArraySize.USIZE nodes c.args.z c.args.i c.loop-q.q c.loop-q.store all c.loop-q.invariant.holds)
+    let base = c.min-base.result in
+    let above = c.args.z - base in
+    let all : c.loop-q.q ≡ 2 ^ above = omega (arith, one_shl above 32 (omega arith)) in
+    let whole : base + above ≡ c.args.z = omega arith in
+    rw c.node_of.ensures (HoldsNodes-all g.P.N.ArraySize.USIZE (λ h. nodes (base + h)) above c.args.i c.loop-q.q c.loop-q.store all c.loop-q.invariant.holds
+    ∙ ap (λ z. nodes z c.args.i) whole)
 
 pub returns-clause-cost : goal.returns-clause-cost
 returns-clause-cost g c =
-    let all : c.loop-q.q ≡ 2 ^ c.args.z = omega (arith, one_shl c.args.z 32 (omega arith)) in
-    let last : count_ones c.loop-q.q ≡ 1 = ap (λ b. count_ones b) all ∙ ones-pow c.args.z in
+    let base = c.min-base.result in
+    let above = c.args.z - base in
+    let all : c.loop-q.q ≡ 2 ^ above = omega (arith, one_shl above 32 (omega arith)) in
+    let last : count_ones c.loop-q.q ≡ 1 = ap (λ b. count_ones b) all ∙ ones-pow above in
     let leaf = g.A.Leaves.leaf_cost in
-    let whole : node_cost leaf c.args.z + 1 ≡ c.loop-q.q * (leaf + 1) = rw all (node_cost-whole leaf c.args.z) in
+    let whole : base + above ≡ c.args.z = omega arith in
+    let total : c.loop-q.q * (node_cost leaf base + 1) ≡ node_cost leaf c.args.z + 1 = rw all (node_cost-above leaf base above ∙ ap (λ z. node_cost leaf z + 1) whole) in
     omega (arith, c.loop-q.invariant.cost)

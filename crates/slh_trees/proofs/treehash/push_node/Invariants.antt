@@ -2,7 +2,7 @@ use Rattle.std.proofs.Common.{◌≡◌, ℕ, ◌+◌, ◌*◌, ◌/◌, ◌^◌
 use Rattle.std.specs.Prelude.{count_ones}
 use Rattle.slh_trees.specs.Merkle.{merkle}
 use Rattle.slh_trees.specs.Treehash.{HoldsNodes}
-use Rattle.slh_trees.proofs.treehash.push_leaf.Given as goal
+use Rattle.slh_trees.proofs.treehash.push_node.Given as goal
 
 -- the node that is carried up, at the height of the low bits that were ones
 abbrev pub invariant-loop-bits : goal.invariant-loop-bits
@@ -17,9 +17,9 @@ invariant-loop-bits g l =
       value : (leaves : ℕ → List ℕ) (i z : ℕ)
           → l.fn.index ≡ i * 2 ^ z + l.q
           → l.q < 2 ^ z
-          → l.leaf ≡ leaves l.fn.index
-          → HoldsNodes n (merkle K B leaves) z i l.q l.store
-          → l.current ≡ merkle K B leaves l.h l.index;
+          → l.node ≡ merkle K B leaves l.base l.fn.index
+          → HoldsNodes n (λ h. merkle K B leaves (l.base + h)) z i l.q l.store
+          → l.current ≡ merkle K B leaves (l.base + l.h) l.index;
       cost : l.steps + count_ones l.bits ≡ l.fn.steps + count_ones l.q;
     }
 

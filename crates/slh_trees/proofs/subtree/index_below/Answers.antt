@@ -1,6 +1,6 @@
 use Rattle.std.proofs.Common.{rules, arith, ◌+◌, ◌*◌, ◌^◌, ◌<◌, refl}
 use Rattle.slh_trees.proofs.TreehashSteps.{shifted_whole}
-use Rattle.slh_trees.proofs.treehash.leaf_below.Goals as goal
+use Rattle.slh_trees.proofs.subtree.index_below.Goals as goal
 
 pub overflow_add-result : goal.overflow_add-result
 overflow_add-result c =

@@ -4,15 +4,15 @@ use Rattle.slh_trees.specs.Merkle.{merkle}
 use Rattle.slh_trees.specs.Treehash.{HoldsNodes}
 use Rattle.slh_trees.proofs.Powers.{half}
 use Rattle.slh_trees.proofs.TreehashSteps.{height_small, height_below, ones_odd, ones_even, ones_shifted, bit_below, pair_up, index_at, odd_index, carried_up, HoldsNodes-more}
-use Rattle.slh_trees.proofs.treehash.push_leaf.Goals as goal
+use Rattle.slh_trees.proofs.treehash.push_node.Goals as goal
 
 pub loop-bits-init : goal.loop-bits-init
-unfolding merkle
 loop-bits-init g c = record {
   bits = omega arith;
   index = omega arith;
   carried = omega arith;
-  value = λ leaves i z e below is holds. c.copy-current.ensures ∙ is;
+  value = λ leaves i z e below is holds.
+      let bottom : c.args.base + 0 ≡ c.args.base = omega arith in rw bottom (c.copy-current.ensures ∙ is);
   cost = omega arith;
 }
 
@@ -25,10 +25,15 @@ overflow_add-h g c =
     let high = height_small c.args.q c.loop-bits.h c.loop-bits.bits c.requires.few c.loop-bits.invariant.carried in
     let small : c.loop-bits.h + 1 < 18446744073709551616 = omega arith in search rules
 
-pub overflow_cast-h : goal.overflow_cast-h
-overflow_cast-h g c =
+pub overflow_cast-height : goal.overflow_cast-height
+overflow_cast-height g c =
     let high = height_small c.args.q c.loop-bits.h c.loop-bits.bits c.requires.few c.loop-bits.invariant.carried in
     let small : c.loop-bits.h + 1 < 4294967296 = omega arith in search rules
+
+pub overflow_add-height : goal.overflow_add-height
+overflow_add-height g c =
+    let high = height_small c.args.q c.loop-bits.h c.loop-bits.bits c.requires.few c.loop-bits.invariant.carried in
+    let small : c.args.base + (c.loop-bits.h + 1) < 4294967296 = omega arith in search rules
 
 pub store_node-requires : goal.store_node-requires
 store_node-requires g c = record {
@@ -53,9 +58,10 @@ loop-bits-preserved g c =
           let inside : h < z = bit_below c.args.q z h below bit in
           let odd : c.loop-bits.index % 2 ≡ 1 = rw i.index (odd_index at z c.args.q h c.args.index e inside bit) in
           let place : at * 2 ^ (z - h) + c.args.q / 2 ^ h ≡ c.loop-bits.index = rw (i.index, e, index_at at z c.args.q h (omega arith)) refl in
-          let left : c.node_of-left.result ≡ merkle K B leaves h (c.loop-bits.index - 1) = rw (c.node_of-left.ensures, holds h bit, place) refl in
-          rw c.parent-current.ensures.value
-          (pair_up K B leaves h c.loop-bits.index c.node_of-left.result c.loop-bits.current odd left (i.value leaves at z e below is holds));
+          let left : c.node_of-left.result ≡ merkle K B leaves (c.args.base + h) (c.loop-bits.index - 1) = rw (c.node_of-left.ensures, holds h bit, place) refl in
+          let above : c.args.base + (h + 1) ≡ c.args.base + h + 1 = omega arith in
+          rw (c.parent-current.ensures.value, above)
+          (pair_up K B leaves (c.args.base + h) c.loop-bits.index c.node_of-left.result c.loop-bits.current odd left (i.value leaves at z e below is holds));
       cost = omega (arith, c.parent-current.ensures.cost, i.cost);
     }
 
@@ -67,9 +73,9 @@ returns-clause-holds g c = λ leaves at z e below is holds.
     let h = c.loop-bits.h in
     let inside : h ≤ z = height_below c.args.q z h c.loop-bits.bits below i.carried in
     let place : c.loop-bits.index ≡ at * 2 ^ (z - h) + c.loop-bits.bits = rw (i.index, i.bits, e, index_at at z c.args.q h inside) refl in
-    HoldsNodes-more g.P.N.ArraySize.USIZE (merkle K B leaves) z at c.args.q h c.loop-bits.bits c.args.store.now c.store_node.new.store
+    HoldsNodes-more g.P.N.ArraySize.USIZE (λ k. merkle K B leaves (c.args.base + k)) z at c.args.q h c.loop-bits.bits c.args.store.now c.store_node.new.store
     i.bits c.loop-bits-test.false i.carried holds
-    (rw (c.store_node.ensures.there, i.value leaves at z e below is holds, place) (refl {a = merkle K B leaves h (at * 2 ^ (z - h) + c.loop-bits.bits)}))
+    (rw (c.store_node.ensures.there, i.value leaves at z e below is holds, place) (refl {a = merkle K B leaves (c.args.base + h) (at * 2 ^ (z - h) + c.loop-bits.bits)}))
     c.store_node.ensures.others
 
 pub returns-clause-cost : goal.returns-clause-cost
