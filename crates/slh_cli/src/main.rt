@@ -10,7 +10,8 @@ use std::env::{Env, FillError};
 use std::io;
 use std::process::ExitCode;
 
-// No word of the program is longer, so a longer one is put as a word of no bytes, which is no word of it either.
+// No word of the program is longer. A longer one is put as a word of no bytes, which is no word of
+// the program either.
 const MAX_WORD: usize = 256;
 
 // The words after the program's name.

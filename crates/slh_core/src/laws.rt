@@ -7,8 +7,8 @@ ghost use Rattle.slh_core.specs.Suite.{Seeded, seeded};
 use crate::params::WotsParams;
 use hybrid_array::ArraySize;
 
-/// The digits of two different messages of n bytes are incomparable: some digit of each is below the
-/// other's. So no signature of the one gives all chain values for the other.
+/// The digits of two different messages of n bytes are incomparable: some digit of each is below
+/// the other's. So no signature of the one gives all chain values for the other.
 pub fn digits_are_incomparable()
     ensures { (n : ℕ) (x y : List ℕ)
         → n ≤ 32

@@ -1,5 +1,6 @@
 //! Chains that are taken to their ends together.
-ghost use Rattle.std.specs.Prelude.{◌≡◌, ℕ, ◌+◌, ◌*◌, ◌≤◌, ◌<◌, List, ◌++◌, length, take, slice_index};
+ghost use Rattle.std.specs.Prelude.{◌≡◌, ℕ, ◌+◌, ◌*◌, ◌≤◌, ◌<◌, List, ◌++◌, length, take};
+ghost use Rattle.std.specs.Prelude.{slice_index};
 ghost use Rattle.std.specs.Prelude.{slice_set};
 ghost use Rattle.slh_core.specs.Bytes.{joined, part};
 ghost use Rattle.slh_core.specs.Walk.{IsWalk, count_below};
@@ -7,8 +8,8 @@ ghost use Rattle.slh_core.specs.Walk.{IsWalk, count_below};
 use crate::params::{MAX_CHAINS, MAX_ENDS_LEN};
 use crate::parts::put_part;
 
-/// The chains of a signature that are under way, in the order of their digits. Their values stand in
-/// that order too, so that each step goes over a row without gaps.
+/// The chains of a signature that are under way, in the order of their digits. Their values stand
+/// in that order too, so that each step goes over a row without gaps.
 #[derive(Drop)]
 pub(crate) struct Walk {
     pub(crate) numbers: [u32; MAX_CHAINS],

@@ -9,4 +9,5 @@ use Rattle.sha2.specs.declared.Sha512.{Sha512}
 pub Holds512-prop : (hasher : Sha512) (m : List ℕ) → IsProp (Holds512 hasher m)
 unfolding Holds
 Holds512-prop hasher m =
-    ×_prop (Coded-set coded_ℕ _ _) (×_prop (Coded-set (coded_list coded_ℕ) _ _) (Coded-set (coded_list coded_ℕ) _ _))
+    ×_prop (Coded-set coded_ℕ _ _)
+    (×_prop (Coded-set (coded_list coded_ℕ) _ _) (Coded-set (coded_list coded_ℕ) _ _))

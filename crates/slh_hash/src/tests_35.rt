@@ -1,5 +1,5 @@
-// The wanted values of SHA-512 were computed with Python's `hashlib` and `hmac` from the formulas of
-// FIPS 205, section 11.2.2, or stand where the test says.
+// The wanted values of SHA-512 were computed with Python's `hashlib` and `hmac` from the formulas
+// of FIPS 205, section 11.2.2, or stand where the test says.
 ghost use Rattle.std.specs.Prelude.{◌≤◌};
 ghost use Rattle.slh_core.specs.Steps.{IsFresh};
 

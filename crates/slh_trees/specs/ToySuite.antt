@@ -1,7 +1,8 @@
 -- A suite of one byte, whose values can be computed by hand. All sums are modulo 256.
 use Rattle.std.proofs.Common.{lit<}
 use Rattle.std.proofs.lemmas.Nat.{mod_below}
-use Rattle.std.specs.Prelude.{ℕ, zero, suc, ◌<◌, [], ◌∷◌, ◌+◌, ◌*◌, ◌/◌, ◌%◌, sum, slice_index, refl}
+use Rattle.std.specs.Prelude.{ℕ, zero, suc, ◌<◌, [], ◌∷◌, ◌+◌, ◌*◌, ◌/◌, ◌%◌, sum, slice_index}
+use Rattle.std.specs.Prelude.{refl}
 use Rattle.slh_core.specs.Suite.{Suite, HasLength, HasBytes, HasDigestLength}
 
 abbrev pub toy : Suite
