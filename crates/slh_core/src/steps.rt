@@ -5,8 +5,9 @@ ghost use Rattle.slh_core.specs.Steps.{IsFresh};
 use std::marker::Model;
 use std::sync::ledger::{Blank, Book, Ledger, Share};
 
-/// How many steps were taken: a step is one call of `f`, `h`, `t` or `prf_sk` of a hash suite. Only
-/// `tick` changes it, and it has no bytes and no code when the program runs.
+/// How many steps were taken: a step is one value of F, H, T or PRF that is asked for. Lanes that
+/// only fill up a group of values hashed side by side count none. Only `tick` changes the count, and
+/// it has no bytes and no code when the program runs.
 ///
 /// A caller that counts nothing passes `Blank::new(1)` to a function that makes the count, and
 /// `Brand` for its ledger.

@@ -8,6 +8,8 @@ mod keyed;
 mod mac;
 mod mgf1;
 mod rows;
+#[cfg(test)]
+mod rows_tests;
 mod sets;
 mod sha2_l1;
 mod sha2_l35;

@@ -1,5 +1,5 @@
 //! HMAC with SHA-512 (RFC 2104).
-ghost use Rattle.std.specs.Prelude.{◌≡◌, ◌+◌, ◌-◌, ◌^◌, ◌≤◌, ◌++◌, length, replicate};
+ghost use Rattle.std.specs.Prelude.{◌≡◌, ◌-◌, ◌≤◌, ◌++◌, length, replicate};
 ghost use Rattle.hmac_sha256.specs.Hmac.{masked as spec_masked};
 ghost use Rattle.slh_hash.specs.HmacSha512.{hmac_sha512 as spec_hmac_sha512};
 ghost use Rattle.slh_hash.specs.HmacSha512.{key_block as spec_key_block};
@@ -44,9 +44,6 @@ fn masked(block: &[u8; BLOCK_LEN], mask: u8) -> [u8; BLOCK_LEN]
 
 /// The HMAC-SHA-512 of four byte strings, joined, under a key.
 pub fn hmac_sha512(key: &[u8], first: &[u8], head: &[u8], ctx: &[u8], msg: &[u8]) -> [u8; 64]
-    requires key { length key.now ≤ 2 ^ 60 }
-    requires message { length first.now + length head.now + length ctx.now + length msg.now
-        ≤ 2 ^ 60 + 1024 }
     ensures { let message = first.now ++ (head.now ++ ctx.now ++ msg.now) in
         result ≡ spec_hmac_sha512 key.now message }
 {

@@ -9,6 +9,7 @@ use hybrid_array::ArraySize;
 use sha2::{Digest, Sha512};
 use slh_core::address::Address;
 use slh_core::nbytes::NBytes;
+use slh_core::params::MAX_ENDS_LEN;
 
 const SHA256_BLOCK_LEN: usize = 64;
 
@@ -67,13 +68,13 @@ pub(crate) fn short_hash<N: ArraySize, A: Address>(
     NBytes::first_of(keyed.started.finalize_with(&tail[..end]))
 }
 
-/// The SHA-256 hash of an address and an input of any length up to 2144 bytes.
+/// The SHA-256 hash of an address and an input of any length up to that of a key pair's ends.
 pub(crate) fn long_hash<N: ArraySize, A: Address>(
     keyed: &Sha2Keyed<N>,
     adrs: &A,
     input: &[u8],
 ) -> NBytes<N>
-    requires { length input.now ≤ 2144 }
+    requires { length input.now ≤ MAX_ENDS_LEN }
     ensures { result ≡ tweaked_hash_256 N.USIZE keyed.now.pk_seed (A.bytes adrs.now) input.now }
 {
     let mut hash = keyed.started.copy();
