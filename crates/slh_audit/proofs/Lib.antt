@@ -11,3 +11,4 @@ pub mod Told
 pub mod Shown
 pub mod Finding
 pub mod Judging
+pub mod Order

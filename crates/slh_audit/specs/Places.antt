@@ -2,8 +2,8 @@
 -- nodes from the root down, the leaf, and the chains, each with its steps from the last one down and
 -- then its opening; then the roots of the forest, and its trees, each from its root down.
 use Rattle.std.specs.Prelude.{ℕ, zero, suc, ◌+◌, ◌-◌, List, [], ◌∷◌, ◌++◌}
-use Rattle.std.specs.Prelude.{Option}
-use Rattle.std.specs.List.{find}
+use Rattle.std.specs.Prelude.{◌≡◌, Option, true, false}
+use Rattle.std.specs.List.{find, Contains}
 use Rattle.slh_audit.specs.declared.evidence.Evidence.{Evidence}
 use Rattle.slh_audit.specs.declared.evidence.Evidence.TheVariants.{ForsNode, ForsRoots}
 use Rattle.slh_audit.specs.declared.evidence.Evidence.TheVariants.{ChainStep, Leaf, TreeNode, Early}
@@ -48,3 +48,11 @@ places D = all_layers_places D ++ forest_places D.a D.k
 -- the first evidence that shows
 abbrev pub first_evidence : Dispute → Option Evidence
 first_evidence D = find (shows D) (places D)
+
+-- evidence shows, and nothing that stands before it in the order does
+pub record IsFirst (D : Dispute) (e : Evidence) : Type 0 where
+  pub shown : shows D e ≡ true
+  pub before : List Evidence
+  pub after : List Evidence
+  pub place : places D ≡ before ++ e ∷ after
+  pub none_before : (f : Evidence) → Contains before f → shows D f ≡ false

@@ -6,11 +6,14 @@ mod calls;
 mod dispute;
 pub mod evidence;
 mod forest;
+pub mod laws;
 mod layer;
 mod made;
 mod places;
 mod search;
 mod sizes;
+#[cfg(test)]
+mod tests;
 
 pub use calls::{audit, check_evidence};
 pub use evidence::{AuditError, Evidence, Verdict};
