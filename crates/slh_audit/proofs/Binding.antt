@@ -68,20 +68,20 @@ descent D sized e =
     let top : own_at D D.d ≡ xmss_node K D.sk (D.d - 1) 0 D.hp 0
     = ap (λ j. layer_message K D.hp D.sk D.t D.l own j) last ∙ ap (λ t. xmss_node K D.sk (D.d - 1) t D.hp 0) zero_tree in
     elim (layers_down K D.sk D.hp D.d D.t D.l D.layers key own sized.lengths sized.bytes sized.height_low (key_value D sized) (own_value D sized) (Found D)
-        (λ j below. record {
-          tree = λ z low high shows. (TreeNode j z, (low, high, (below, shows)));
-          leaf = λ shows. (Leaf j, (below, shows));
-          step = λ c q count shows. (ChainStep j c q, (count, (below, shows)));
-          early = λ c count shows. (Early j c, (count, (below, shows)));
-        }) sized.n_high sized.leaf sized.layers_len D.d (omega arith) (e ∙ sym top)) [
+    (λ j below. record {
+      tree = λ z low high shows. (TreeNode j z, (low, high, (below, shows)));
+      leaf = λ shows. (Leaf j, (below, shows));
+      step = λ c q count shows. (ChainStep j c q, (count, (below, shows)));
+      early = λ c count shows. (Early j c, (count, (below, shows)));
+    }) sized.n_high sized.leaf sized.layers_len D.d (omega arith) (e ∙ sym top)) [
       | inl found ↦ inl found
       | inr upper ↦
           elim (forest_down K D.sk D.t D.l D.a D.k D.forest D.md (Found D) sized.lengths
-              (record {
-                roots = λ shows. (ForsRoots, shows);
-                secret = λ i below shows. (ForsNode i zero, (below, shows));
-                node = λ i z below low high shows. fors_node_found D i z below low high shows;
-              }) sized.forest_len upper.0) [
+          (record {
+            roots = λ shows. (ForsRoots, shows);
+            secret = λ i below shows. (ForsNode i zero, (below, shows));
+            node = λ i z below low high shows. fors_node_found D i z below low high shows;
+          }) sized.forest_len upper.0) [
             | inl found ↦ inl found
             | inr forest ↦ inr (forest, sym (joined_parts (layer_size K.n D.hp) D.d D.layers sized.layers_len) ∙ joined_same _ _ D.d upper.1)
           ]
@@ -169,9 +169,10 @@ own_from_made Z s sk digest sig law size e =
     let upper = Z.n + forest_size Z.n Z.k Z.a in
     let whole = whole_signature Z.n upper sig (omega arith) in
     let forest_len : length forest ≡ forest_size Z.n Z.k Z.a = length-fors_sig K sk parts.tree parts.leaf Z.k Z.a parts.md law in
-    let front_len : length (take Z.n sig ++ forest) ≡ upper = rw (length-append (take Z.n sig) forest, size, forest_len) refl in
-    (ap (λ x. slice_range x Z.n upper) e ∙ range_left (take Z.n sig ++ forest) layers Z.n upper (omega arith) (omega arith) ∙ range_right (take Z.n sig) forest Z.n upper size (rw forest_len refl),
-    ap (drop upper) e ∙ drop_front upper (take Z.n sig ++ forest) layers front_len)
+    let front_len : length (take Z.n sig ++ forest) ≡ upper = rw (length-append (take Z.n sig) forest, size, forest_len) refl in (
+      ap (λ x. slice_range x Z.n upper) e ∙ range_left (take Z.n sig ++ forest) layers Z.n upper (omega arith) (omega arith) ∙ range_right (take Z.n sig) forest Z.n upper size (rw forest_len refl),
+      ap (drop upper) e ∙ drop_front upper (take Z.n sig ++ forest) layers front_len,
+    )
 
 pub binding_digest : (Z : Scheme) (s sk digest sig : List ℕ) → IsSized (dispute Z s sk digest sig) → digest_root Z s digest sig ≡ top_root Z s sk
     → ((e : Evidence) × IsShown (dispute Z s sk digest sig) e) ⊎ (sig ≡ digest_signature Z s sk (take Z.n sig) digest)

@@ -51,13 +51,16 @@ climb_down K B leaves x path y top (suc z) law lens lx lp h e =
       | inl same ↦
           (let fits : (z + 1) * K.n ≤ length path = part_fits z top K.n (length path) h lp in
           let both = children (λ k. merkle K B leaves z k) (climb K B x y path z) (part K.n path z) K.n i (i % 2 == 0)
-              (length-climb K B x path y z law lx) (length-part K.n z path fits) (λ k. length-merkle K B leaves z k law lens) refl (rw (half y z) at same) in
+          (length-climb K B x path y z law lx) (length-part K.n z path fits) (λ k. length-merkle K B leaves z k law lens) refl (rw (half y z) at same) in
           elim (climb_down K B leaves x path y top z law lens lx lp (omega arith) both.0) [
             | inl found ↦ inl (found.0, omega (arith, found.1), found.2)
-            | inr rest ↦ inr (rest.0, λ c below. elim (cases_lt c z) [
+            | inr rest ↦ inr (
+              rest.0,
+              λ c below. elim (cases_lt c z) [
                 | inl inside ↦ rest.1 c inside
                 | inr last ↦ (let equal : c ≡ z = omega arith in rw equal both.1)
-              ])
+              ],
+            )
           ])
     ]
 

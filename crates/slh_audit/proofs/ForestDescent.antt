@@ -30,7 +30,6 @@ pub record FindsBelow (K : Seeded) (sk : List ℕ) (t l a k : ℕ) (sig md : Lis
 
 module _ (K : Seeded) (sk : List ℕ) (t l a k : ℕ) (sig md : List ℕ) (E : Type 0)
     (law : HasLength K.suite K.n) (finds : FindsBelow K sk t l a k sig md E) (size : length sig ≡ forest_size K.n k a) where
-
   length-root : (i : ℕ) → length (checked_fors_node K t l a sig (digits md a k) i a) ≡ K.n
   unfolding checked_fors_node
   length-root i =

@@ -28,9 +28,10 @@ pub made_is : (Z : Scheme) (s sk digest sig : List ℕ) (b : Bool) → HasLength
     → IsTrue b ↔ IsOwn (dispute Z s sk digest sig)
     → b ≡ bytes_eq sig (digest_signature Z s sk (take Z.n sig) digest)
 made_is Z s sk digest sig b law size tells =
-    one_answer b _
-    ((λ t. made_from_own Z s sk digest sig (tells.0 t)),
-    (λ same. tells.1 (own_from_made Z s sk digest sig law (omega (arith, length-take Z.n sig)) same)))
+    one_answer b _ (
+      (λ t. made_from_own Z s sk digest sig (tells.0 t)),
+      (λ same. tells.1 (own_from_made Z s sk digest sig law (omega (arith, length-take Z.n sig)) same)),
+    )
     (bytes_eq-Decides _ _)
 
 -- accepted bytes are those that the key makes, or the search finds evidence

@@ -38,7 +38,6 @@ pub record Finds (K : Seeded) (sk : List ℕ) (hp j t y : ℕ) (sig m own : List
 
 module _ (K : Seeded) (sk : List ℕ) (hp j t y : ℕ) (sig m own : List ℕ) (E : Type 0)
     (law : HasLength K.suite K.n) (finds : Finds K sk hp j t y sig m own E) (size : length sig ≡ layer_size K.n hp) where
-
   chains : List ℕ
   chains = take (chain_count K.n * K.n) sig
 

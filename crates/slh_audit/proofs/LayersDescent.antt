@@ -38,7 +38,6 @@ leaf_at-below hp t l (suc j) h = mod_below (tree_at hp t j) (2 ^ hp) (pow_pos hp
 
 module _ (K : Seeded) (sk : List ℕ) (hp d t l : ℕ) (layers m own : List ℕ) (law : HasLength K.suite K.n) (bytes : HasBytes K.suite)
     (low : 1 ≤ hp) (value : IsValue K.n m) (own_value : IsValue K.n own) where
-
   pub checked_value : (j : ℕ) → IsValue K.n (checked_message K hp t l layers m j)
   unfolding checked_message checked_node
   checked_value zero = value
@@ -58,14 +57,17 @@ module _ (K : Seeded) (sk : List ℕ) (hp d t l : ℕ) (layers m own : List ℕ)
   layers_down E finds small below size (suc j) h e =
       let len = length-part (layer_size K.n hp) j layers (part_fits j d (layer_size K.n hp) (length layers) h size) in
       elim (layer_down K sk hp j (tree_at hp t j) (leaf_at hp t l j) (part (layer_size K.n hp) layers j) (checked_message K hp t l layers m j) (layer_message K hp sk t l own j) E
-          law (finds j h) len small (checked_value j) (message_value j) (leaf_at-below hp t l j below) e) [
+      law (finds j h) len small (checked_value j) (message_value j) (leaf_at-below hp t l j below) e) [
         | inl found ↦ inl found
         | inr here ↦
             elim (layers_down E finds small below size j (omega arith) here.0) [
               | inl found ↦ inl found
-              | inr rest ↦ inr (rest.0, λ i inside. elim (cases_lt i j) [
+              | inr rest ↦ inr (
+                rest.0,
+                λ i inside. elim (cases_lt i j) [
                   | inl before ↦ rest.1 i before
                   | inr last ↦ (let same : i ≡ j = omega arith in rw same here.1)
-                ])
+                ],
+              )
             ]
       ]

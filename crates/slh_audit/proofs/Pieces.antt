@@ -27,17 +27,18 @@ found_or_all E P (suc k) each =
           elim (each k (omega arith)) [
             | inl found ↦ inl found
             | inr here ↦ inr (λ c below. elim (cases_lt c k) [
-                | inl inside ↦ all c inside
-                | inr last ↦ (let same : c ≡ k = omega arith in rw same here)
-              ])
+              | inl inside ↦ all c inside
+              | inr last ↦ (let same : c ≡ k = omega arith in rw same here)
+            ])
           ]
     ]
 
 -- two pieces
 pub same_pieces : (n : ℕ) (a b c d : List ℕ) → length a ≡ n → length c ≡ n → a ++ b ≡ c ++ d → (a ≡ c) × (b ≡ d)
-same_pieces n a b c d la lc e =
-    (sym (take_front n a b la) ∙ ap (take n) e ∙ take_front n c d lc,
-    sym (drop_front n a b la) ∙ ap (drop n) e ∙ drop_front n c d lc)
+same_pieces n a b c d la lc e = (
+  sym (take_front n a b la) ∙ ap (take n) e ∙ take_front n c d lc,
+  sym (drop_front n a b la) ∙ ap (drop n) e ∙ drop_front n c d lc,
+)
 
 length-joined_below : (f : ℕ → List ℕ) (n k : ℕ) → ((c : ℕ) → c < k → length (f c) ≡ n) → length (joined f k) ≡ k * n
 unfolding joined

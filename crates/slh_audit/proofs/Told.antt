@@ -16,7 +16,6 @@ use Rattle.slh_audit.proofs.Nearby.{half, length-merkle}
 
 module _ (K : Seeded) (B : Place) (leaves : ℕ → List ℕ) (x path : List ℕ) (y z : ℕ)
     (law : HasLength K.suite K.n) (lens : (i : ℕ) → length (leaves i) ≡ K.n) (lx : length x ≡ K.n) (fits : (z + 1) * K.n ≤ length path) where
-
   same_children : climb_input K B x y path z ≡ merkle_input K B leaves z (y / 2 ^ suc z)
       → (climb K B x y path z ≡ merkle K B leaves z (y / 2 ^ z)) × (part K.n path z ≡ merkle K B leaves z (sibling_of (y / 2 ^ z)))
   unfolding climb_input merkle_input
@@ -35,13 +34,14 @@ module _ (K : Seeded) (B : Place) (leaves : ℕ → List ℕ) (x path : List ℕ
   -- nodes below and beside that aren't both the tree's own, under a node that is
   pub node_told : (b : Bool) (h : ℕ) → h ≡ suc z
       → IsTrue b ↔ ((¬ ((climb K B x y path z ≡ merkle K B leaves z (y / 2 ^ z)) × (part K.n path z ≡ merkle K B leaves z (sibling_of (y / 2 ^ z)))))
-          × (climb K B x y path h ≡ merkle K B leaves h (y / 2 ^ h)))
+      × (climb K B x y path h ≡ merkle K B leaves h (y / 2 ^ h)))
       → IsTrue b ↔ Collide (climb_input K B x y path (h - 1)) (merkle_input K B leaves (h - 1) (y / 2 ^ h)) (climb K B x y path h) (merkle K B leaves h (y / 2 ^ h))
   node_told b h up tells =
       let last : suc z - 1 ≡ z = omega arith in
-      rw (up, last)
-      ((λ t. let told = rw up at (tells.0 t) in ((λ same. told.0 (same_children same)), told.1)),
-      (λ collide. tells.1 (rw up ((λ both. collide.0 (same_input both.0 both.1)), collide.1))))
+      rw (up, last) (
+        (λ t. let told = rw up at (tells.0 t) in ((λ same. told.0 (same_children same)), told.1)),
+        (λ collide. tells.1 (rw up ((λ both. collide.0 (same_input both.0 both.1)), collide.1))),
+      )
 
 -- a path of hp values has the first z
 pub rows_fit : (z hp n len : ℕ) → z ≤ hp → len ≡ hp * n → z * n ≤ len

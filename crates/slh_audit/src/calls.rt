@@ -17,13 +17,11 @@ use crate::sizes::{check_sizes, frame_head};
 use hybrid_array::ArraySize;
 use slh_core::address::WotsHash;
 use slh_core::nbytes::NBytes;
-use slh_core::params::{
-    ForsParams, MAX_DIGEST_LEN, MAX_MESSAGE_LEN, forest_sizes, layer_sizes,
-};
+use slh_core::params::{ForsParams, MAX_DIGEST_LEN, MAX_MESSAGE_LEN, forest_sizes, layer_sizes};
 use slh_core::parts::part_of;
 use slh_core::steps::Steps;
-use slh_trees::{check_root, split_digest};
 use slh_trees::xmss::xmss_node;
+use slh_trees::{check_root, split_digest};
 use std::marker::Brand;
 use std::sync::ledger::{Blank, Ledger};
 

@@ -137,8 +137,14 @@ impl<'a, P: ForsParams> Dispute<'a, P> {
         let height = P::A::USIZE;
         for i in 0..P::K::USIZE {
             let index = i as u32;
-            let root =
-                fors_node::<P, L>(&self.sk_seed, index, height as u32, &self.keyed, &adrs, steps);
+            let root = fors_node::<P, L>(
+                &self.sk_seed,
+                index,
+                height as u32,
+                &self.keyed,
+                &adrs,
+                steps,
+            );
             put_part(out, n, i, root.as_slice());
         }
     }
@@ -159,11 +165,7 @@ impl<'a, P: ForsParams> Dispute<'a, P> {
     }
 
     /// The message that the key signs on a layer.
-    pub(crate) fn own_message<L: Ledger>(
-        &self,
-        layer: usize,
-        steps: &mut Steps<L>,
-    ) -> NBytes<P::N>
+    pub(crate) fn own_message<L: Ledger>(&self, layer: usize, steps: &mut Steps<L>) -> NBytes<P::N>
         requires { layer ≤ P.D.USIZE }
         ensures { let Z = scheme_of P.suite P.N.USIZE P.HPrime.USIZE P.D.USIZE P.A.USIZE P.K.USIZE in
             result ≡ own_at (dispute_on Z self.now) layer }

@@ -15,8 +15,8 @@ use slh_core::params::{ForsParams, MAX_FORS_TREES, MAX_ROOTS_LEN, forest_sizes};
 use slh_core::parts::part_of;
 use slh_core::steps::Steps;
 use slh_trees::climb::climb_path;
-use slh_trees::node::{NodeAddress, sibling};
 use slh_trees::fors::{climb_all, fors_node, fors_sk_gen, index_of, opened_len};
+use slh_trees::node::{NodeAddress, sibling};
 use std::sync::ledger::Ledger;
 
 /// The index of the leaf that the digest names in a tree.
@@ -91,7 +91,12 @@ pub(crate) fn fors_secret_shows<P: ForsParams, L: Ledger>(
     let leaf = P::f(keyed, &adrs.at_node(0, y), &secret, steps);
     let own = fors_sk_gen::<P, L>(sk_seed, keyed, adrs, y, steps);
     let own_leaf = own_leaf::<P, L>(sk_seed, keyed, adrs, y, steps);
-    collide(secret.as_slice(), own.as_slice(), leaf.as_slice(), own_leaf.as_slice())
+    collide(
+        secret.as_slice(),
+        own.as_slice(),
+        leaf.as_slice(),
+        own_leaf.as_slice(),
+    )
 }
 
 /// Whether the node at a height on the way up in a tree shows.

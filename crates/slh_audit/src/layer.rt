@@ -150,7 +150,12 @@ pub(crate) fn leaf_shows<P: XmssParams, L: Ledger>(
     own_ends::<P, L>(sk_seed, keyed, adrs, &mut own[..size], steps);
     let leaf = P::t(keyed, &adrs.pk_adrs(), &ends[..size], steps);
     let own_leaf = P::t(keyed, &adrs.pk_adrs(), &own[..size], steps);
-    collide(&ends[..size], &own[..size], leaf.as_slice(), own_leaf.as_slice())
+    collide(
+        &ends[..size],
+        &own[..size],
+        leaf.as_slice(),
+        own_leaf.as_slice(),
+    )
 }
 
 /// The digit of a message that belongs to a chain.
@@ -210,7 +215,12 @@ pub(crate) fn chain_step_shows<P: XmssParams, L: Ledger>(
     let after = wots_chain::<P, L>(&value, digit, step + 1 - digit, keyed, &at, steps);
     let own_before = own_chain::<P, L>(sk_seed, keyed, adrs, chain, step, steps);
     let own_after = own_chain::<P, L>(sk_seed, keyed, adrs, chain, step + 1, steps);
-    collide(before.as_slice(), own_before.as_slice(), after.as_slice(), own_after.as_slice())
+    collide(
+        before.as_slice(),
+        own_before.as_slice(),
+        after.as_slice(),
+        own_after.as_slice(),
+    )
 }
 
 /// Whether a chain is opened earlier than the key opens it for its own message.

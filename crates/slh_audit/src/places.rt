@@ -6,8 +6,7 @@ ghost use Rattle.slh_core.specs.Parameters.{scheme_of};
 
 use crate::dispute::Dispute;
 use crate::evidence::Evidence;
-use crate::forest;
-use crate::layer;
+use crate::{forest, layer};
 use hybrid_array::ArraySize;
 use slh_core::address::ForsTree;
 use slh_core::nbytes::NBytes;
@@ -34,7 +33,15 @@ impl<'a, P: ForsParams> Dispute<'a, P> {
     {
         let adrs = self.adrs_at(layer);
         let sig = self.layer_sig(layer as usize);
-        layer::tree_node_shows::<P, L>(&self.sk_seed, &self.keyed, &adrs, sig, message, height, steps)
+        layer::tree_node_shows::<P, L>(
+            &self.sk_seed,
+            &self.keyed,
+            &adrs,
+            sig,
+            message,
+            height,
+            steps,
+        )
     }
 
     /// Whether a layer's leaf shows.
@@ -220,7 +227,12 @@ impl<'a, P: ForsParams> Dispute<'a, P> {
     }
 
     /// Whether a secret or a node of a tree of the forest shows, for any numbers.
-    pub(crate) fn any_fors_node_shows<L: Ledger>(&self, tree: u32, height: u32, steps: &mut Steps<L>) -> bool
+    pub(crate) fn any_fors_node_shows<L: Ledger>(
+        &self,
+        tree: u32,
+        height: u32,
+        steps: &mut Steps<L>,
+    ) -> bool
         ensures { let Z = scheme_of P.suite P.N.USIZE P.HPrime.USIZE P.D.USIZE P.A.USIZE P.K.USIZE in
             result ≡ spec_shows (dispute_on Z self.now) (ForsNode tree height) }
     {

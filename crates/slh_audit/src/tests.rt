@@ -1,6 +1,8 @@
-// The toy key with secret seed 5, PRF key 7 and public seed 3, and its signature of the message 48
+// The toy key with secret seed 5, PRF key 7 and public seed 3, and its signature of the message 0x48
 // under an empty context, with bytes changed so that it is still accepted. All values are worked by
 // hand.
+ghost use Rattle.slh_core.specs.Steps.{IsFresh};
+
 use crate::{AuditError, Evidence, Verdict, audit, check_evidence};
 use hybrid_array::sizes::U1;
 use slh_core::nbytes::NBytes;
@@ -11,7 +13,7 @@ use std::marker::Brand;
 use std::sync::ledger::{Blank, Ledger};
 use std::test::Fail;
 
-ghost use Rattle.slh_core.specs.Steps.{IsFresh};
+const MESSAGE: [u8; 1] = [0x48];
 
 const KEY: [u8; 4] = [5, 7, 3, 225];
 
@@ -26,11 +28,11 @@ fn root_of<L: Ledger>(sig: &[u8; 21], blank: Blank) -> u8
 {
     let mut steps = Steps::<L>::new(blank);
     let (seed, root) = (NBytes::<U1>::exact(&[3]), NBytes::<U1>::exact(&[225]));
-    check_root::<Toy, L>(&seed, &root, &[0, 0], &[], &[48], sig, &mut steps).as_slice()[0]
+    check_root::<Toy, L>(&seed, &root, &[0, 0], &[], &MESSAGE, sig, &mut steps).as_slice()[0]
 }
 
-fn accepted(sig: &[u8; 21]) -> bool {
-    root_of::<Brand>(sig, Blank::new(1)) == 225
+fn root(sig: &[u8; 21]) -> u8 {
+    root_of::<Brand>(sig, Blank::new(1))
 }
 
 // The signature with some of its bytes changed.
@@ -45,11 +47,11 @@ fn changed(changes: &[(usize, u8); 3]) -> [u8; 21] {
 }
 
 fn audited(sig: &[u8]) -> Result<Verdict, AuditError> {
-    audit::<Toy>(&KEY, &[], &[48], sig)
+    audit::<Toy>(&KEY, &[], &MESSAGE, sig)
 }
 
 fn shown(sig: &[u8], evidence: Evidence) -> bool {
-    check_evidence::<Toy>(&KEY, &[], &[48], sig, &evidence) == Ok(true)
+    check_evidence::<Toy>(&KEY, &[], &MESSAGE, sig, &evidence) == Ok(true)
 }
 
 fn fors_node(tree: u32, height: u32) -> Evidence {
@@ -78,23 +80,51 @@ fn accepted_bytes_that_are_foreign(rt: HostRuntime) {
     let none = (21, 0);
     let rows = [
         // Secrets 83 and 82 both give 46.
-        ([(1, 0x53), none, none], fors_node(0, 0), [fors_node(0, 1), fors_node(1, 0)]),
+        (
+            [(1, 0x53), none, none],
+            fors_node(0, 0),
+            [fors_node(0, 1), fors_node(1, 0)],
+        ),
         // The children (47, 52) and (46, 52) both give 184.
-        ([(1, 0x54), none, none], fors_node(0, 1), [fors_node(0, 0), fors_node(0, 2)]),
+        (
+            [(1, 0x54), none, none],
+            fors_node(0, 1),
+            [fors_node(0, 0), fors_node(0, 2)],
+        ),
         // The roots (116, 181) and (113, 184) both give 44.
-        ([(3, 0x8f), (6, 0x14), none], Evidence::ForsRoots, [fors_node(0, 2), fors_node(1, 2)]),
+        (
+            [(3, 0x8f), (6, 0x14), none],
+            Evidence::ForsRoots,
+            [fors_node(0, 2), fors_node(1, 2)],
+        ),
         // 72 and 73 both give 39.
-        ([(9, 0x48), none, none], chain_step(0, 2, 0), [chain_step(0, 2, 1), early(0, 2)]),
+        (
+            [(9, 0x48), none, none],
+            chain_step(0, 2, 0),
+            [chain_step(0, 2, 1), early(0, 2)],
+        ),
         // The ends 31, 32, 32, 32, 33 and five times 32 both give 163.
-        ([(14, 0x1c), (18, 0x21), none], leaf(1), [leaf(0), chain_step(1, 0, 14)]),
+        (
+            [(14, 0x1c), (18, 0x21), none],
+            leaf(1),
+            [leaf(0), chain_step(1, 0, 14)],
+        ),
         // The children (63, 63) and (62, 63) both give 225.
-        ([(20, 0x3f), none, none], tree_node(1, 2), [tree_node(1, 1), tree_node(1, 3)]),
+        (
+            [(20, 0x3f), none, none],
+            tree_node(1, 2),
+            [tree_node(1, 1), tree_node(1, 3)],
+        ),
         // The forest's key is 41, with digits 2, 9, 0, 1, 3: 9 is below 12.
-        ([(6, 0x14), (8, 0x14), (11, 0x12)], early(0, 1), [early(0, 0), early(0, 4)]),
+        (
+            [(6, 0x14), (8, 0x14), (11, 0x12)],
+            early(0, 1),
+            [early(0, 0), early(0, 4)],
+        ),
     ];
     for (changes, evidence, others) in rows {
         let sig = changed(&changes);
-        assert!(rt; accepted(&sig));
+        assert!(rt; root(&sig) == 225);
         assert!(rt; audited(&sig) == Ok(Verdict::Foreign(evidence)));
         assert!(rt; shown(&sig, evidence));
         assert!(rt; !shown(&sig, others[0]) && !shown(&sig, others[1]));
@@ -105,17 +135,23 @@ fn accepted_bytes_that_are_foreign(rt: HostRuntime) {
 fn made_bytes_and_refusals(rt: HostRuntime) {
     let refused = |e: AuditError| -> Result<Verdict, AuditError> { Err(e) };
     assert!(rt; audited(&SIGNATURE) == Ok(Verdict::Genuine));
-    for evidence in [fors_node(0, 0), fors_node(1, 2), Evidence::ForsRoots, leaf(1), early(0, 1)] {
+    for evidence in [
+        fors_node(0, 0),
+        fors_node(1, 2),
+        Evidence::ForsRoots,
+        leaf(1),
+        early(0, 1),
+    ] {
         assert!(rt; !shown(&SIGNATURE, evidence));
     }
     let invalid = changed(&[(18, 0x21), (21, 0), (21, 0)]);
-    assert!(rt; root_of::<Brand>(&invalid, Blank::new(1)) == 228);
+    assert!(rt; root(&invalid) == 228);
     assert!(rt; audited(&invalid) == refused(AuditError::Invalid));
     let mut foreign_root = KEY;
     foreign_root[3] = 224;
-    let mismatch = audit::<Toy>(&foreign_root, &[], &[48], &SIGNATURE);
+    let mismatch = audit::<Toy>(&foreign_root, &[], &MESSAGE, &SIGNATURE);
     assert!(rt; mismatch == refused(AuditError::KeyMismatch));
     assert!(rt; audited(&SIGNATURE[..20]) == refused(AuditError::Length));
-    let long_context = audit::<Toy>(&KEY, &[0; 256], &[48], &SIGNATURE);
+    let long_context = audit::<Toy>(&KEY, &[0; 256], &MESSAGE, &SIGNATURE);
     assert!(rt; long_context == refused(AuditError::ContextTooLong));
 }

@@ -6,13 +6,14 @@ use Rattle.slh_audit.proofs.dispute.Dispute.is_made.Goals as goal
 
 pub returns-then-not-same : goal.returns-then-not-same
 unfolding IsOwn
-returns-then-not-same g c =
-    ((λ fails. absurd (false≢true fails)),
-    (λ own.
-    let mine = rw (← c.self.view_is) at own.0 in
-    let same : c.self.inside.forest.now ≡ c.fors_sign_root-key.new.out
-    = rw (c.fors_sign_root-key.ensures.value, c.new-adrs.ensures, c.self.invariant.5) mine in
-    absurd (both_ways c.same.result c.if-not-same.true (c.same.ensures ∙ (bytes_eq-Decides _ _).1 same))))
+returns-then-not-same g c = (
+  (λ fails. absurd (false≢true fails)),
+  (λ own.
+      let mine = rw (← c.self.view_is) at own.0 in
+      let same : c.self.inside.forest.now ≡ c.fors_sign_root-key.new.out
+      = rw (c.fors_sign_root-key.ensures.value, c.new-adrs.ensures, c.self.invariant.5) mine in
+      absurd (both_ways c.same.result c.if-not-same.true (c.same.ensures ∙ (bytes_eq-Decides _ _).1 same))),
+)
 
 pub returns : goal.returns
 unfolding IsOwn

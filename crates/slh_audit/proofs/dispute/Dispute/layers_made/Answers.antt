@@ -32,14 +32,15 @@ returns-then-not-same g c =
     let sk = c.args.self.now.sk in
     let t = c.args.self.now.t in
     let l = c.args.self.now.l in
-    let key = c.args.key.now in
-    ((λ fails. absurd (false≢true fails)),
-    (λ made.
-    let found = ap (λ xs. part (layer_size K.n hp) xs c.loop-j.j) made
-    ∙ part-joined (layer_signature K hp sk t l key) (layer_size K.n hp) g.P.D.ArraySize.USIZE c.loop-j.j (λ i. length-layer_signature K hp sk t l key i law) (omega (arith, c.loop-j-test.true, c.USIZE-j-end.ensures)) in
-    let same : c.layer_sig.result.now ≡ c.xmss_sign_root-message.new.out
-    = rw (c.layer_sig.ensures.value, c.xmss_sign_root-message.ensures.value, c.adrs_at-adrs.ensures.value, c.self.invariant.5, c.loop-j.invariant.message, ← c.self.view_is) (rw (← c.self.view_is) at found) in
-    absurd (both_ways c.same.result c.if-not-same.true (c.same.ensures ∙ (bytes_eq-Decides _ _).1 same))))
+    let key = c.args.key.now in (
+      (λ fails. absurd (false≢true fails)),
+      (λ made.
+          let found = ap (λ xs. part (layer_size K.n hp) xs c.loop-j.j) made
+          ∙ part-joined (layer_signature K hp sk t l key) (layer_size K.n hp) g.P.D.ArraySize.USIZE c.loop-j.j (λ i. length-layer_signature K hp sk t l key i law) (omega (arith, c.loop-j-test.true, c.USIZE-j-end.ensures)) in
+          let same : c.layer_sig.result.now ≡ c.xmss_sign_root-message.new.out
+          = rw (c.layer_sig.ensures.value, c.xmss_sign_root-message.ensures.value, c.adrs_at-adrs.ensures.value, c.self.invariant.5, c.loop-j.invariant.message, ← c.self.view_is) (rw (← c.self.view_is) at found) in
+          absurd (both_ways c.same.result c.if-not-same.true (c.same.ensures ∙ (bytes_eq-Decides _ _).1 same))),
+    )
 
 pub returns : goal.returns
 unfolding ht_sig
