@@ -1,5 +1,5 @@
 -- Bytes that lead to the root of a key's top tree are those that the key makes, or there is evidence.
-use Rattle.std.proofs.Common.{◌≡◌, ◌⊎◌, inl, inr, ℕ, zero, suc, ◌+◌, ◌-◌, ◌*◌, ◌/◌, ◌%◌, ◌^◌, ◌<◌, ◌≤◌, List, ◌++◌, length, take, drop, arith, refl, sym, ap, ◌∙◌, length-take, length-drop, length-append}
+use Rattle.std.proofs.Common.{◌≡◌, ◌⊎◌, inl, inr, ℕ, zero, suc, ◌+◌, ◌-◌, ◌*◌, ◌^◌, ◌<◌, ◌≤◌, List, ◌++◌, length, take, drop, arith, refl, sym, ap, ◌∙◌, length-take, length-drop, length-append}
 use Rattle.std.specs.Prelude.{slice_range}
 use Rattle.std.proofs.lemmas.List.{take-append-drop, append_assoc}
 use Rattle.std.proofs.lemmas.List.Folds.{drop_split}
@@ -17,10 +17,10 @@ use Rattle.slh_audit.proofs.OwnBytes.{no_tree_node, no_leaf, no_chain_step, no_e
 use Rattle.slh_core.proofs.Joins.{joined_same, part-joined, range_left, range_right, drop_front}
 use Rattle.slh_trees.proofs.Forests.{fors_pk_from_sig-signature, length-fors_sig}
 use Rattle.slh_trees.proofs.Layers.{checked_message-signature, length-layer_signature}
-use Rattle.slh_core.specs.Bytes.{joined, part}
-use Rattle.slh_core.specs.Parameters.{Scheme, bytes_for}
-use Rattle.slh_core.specs.Suite.{HasLength, HasBytes, Seeded, seeded}
-use Rattle.slh_trees.specs.Checking.{fors_pk_from_sig, checked_message, checked_root, digest_root, forest_size, signature_size}
+use Rattle.slh_core.specs.Bytes.{part}
+use Rattle.slh_core.specs.Parameters.{Scheme}
+use Rattle.slh_core.specs.Suite.{HasLength, HasBytes, seeded}
+use Rattle.slh_trees.specs.Checking.{fors_pk_from_sig, checked_root, digest_root, forest_size, signature_size}
 use Rattle.slh_trees.specs.Fors.{fors_pk, fors_sig}
 use Rattle.slh_trees.specs.Keys.{top_root}
 use Rattle.slh_trees.specs.Hypertree.{ht_sig, layer_message, layer_signature, layer_size, leaf_at, tree_at}

@@ -1,12 +1,12 @@
 -- The forest: where its key is the key's own, evidence is found, or the forest's part of the signature
 -- is the key's.
-use Rattle.std.proofs.Common.{◌≡◌, ◌≢◌, ◌⊎◌, inl, inr, ℕ, zero, suc, ◌+◌, ◌-◌, ◌*◌, ◌/◌, ◌%◌, ◌^◌, ◌<◌, ◌≤◌, List, ◌++◌, length, take, drop, arith, refl, sym, ap, ◌∙◌, length-append, length-take, length-drop}
+use Rattle.std.proofs.Common.{◌≡◌, ◌⊎◌, inl, inr, ℕ, suc, ◌+◌, ◌-◌, ◌*◌, ◌/◌, ◌^◌, ◌<◌, ◌≤◌, List, ◌++◌, length, take, drop, arith, sym, ap, ◌∙◌, length-drop}
 use Rattle.std.specs.Prelude.{slice_index}
 use Rattle.std.proofs.lemmas.Nat.{div-mul-add}
 use Rattle.std.proofs.lemmas.List.{take-append-drop}
 use Rattle.slh_audit.proofs.Descent.{climb_down, length-climb}
 use Rattle.slh_audit.proofs.Pieces.{same_or_not, found_or_all, same_joined, joined_parts, length-part}
-use Rattle.slh_audit.proofs.Meaning.{Collide, climb_input, merkle_input, ForsRootsShows, ForsSecretShows, ForsNodeShows}
+use Rattle.slh_audit.proofs.Meaning.{ForsRootsShows, ForsSecretShows, ForsNodeShows}
 use Rattle.slh_core.specs.Bytes.{joined, part}
 use Rattle.slh_core.specs.Digits.{digits}
 use Rattle.slh_core.specs.Suite.{HasLength, Seeded}
@@ -16,7 +16,7 @@ use Rattle.slh_audit.proofs.Nearby.{length-merkle}
 use Rattle.slh_trees.proofs.Layers.{part_fits}
 use Rattle.slh_trees.specs.Checking.{fors_pk_from_sig, checked_fors_node, forest_size}
 use Rattle.slh_trees.specs.Fors.{fors_pk, fors_leaf, fors_node, fors_opened, fors_auth_path, fors_place, fors_secret, fors_sig, leaf_index, opened_leaves}
-use Rattle.slh_trees.specs.Merkle.{climb, merkle, merkle_auth_path, node_bytes, sibling_of}
+use Rattle.slh_trees.specs.Merkle.{climb, merkle_auth_path, node_bytes}
 
 length-fors_leaf : (K : Seeded) (sk : List ℕ) (t l i : ℕ) → HasLength K.suite K.n → length (fors_leaf K sk t l i) ≡ K.n
 unfolding fors_leaf

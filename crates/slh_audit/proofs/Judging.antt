@@ -1,12 +1,12 @@
 -- What the parts of a signature say of its bytes.
-use Rattle.std.proofs.Common.{◌≡◌, ◌↔◌, ℕ, ◌+◌, ◌*◌, ◌≤◌, List, length, take, arith, Bool, IsTrue, length-take}
+use Rattle.std.proofs.Common.{◌≡◌, ◌↔◌, ℕ, ◌≤◌, List, length, take, arith, Bool, IsTrue, length-take}
 use Rattle.std.specs.Bool.{one_answer}
 use Rattle.std.specs.Str.{bytes_eq}
 use Rattle.std.proofs.lemmas.Slice.Eq.{bytes_eq-Decides}
 use Rattle.std.proofs.Common.{◌⊎◌, inl, inr, Some}
 use Rattle.std.proofs.Common.{refl}
-use Rattle.slh_audit.proofs.Binding.{IsSized, binding, made_from_own, none_shows, own_from_made, sized_dispute}
-use Rattle.slh_audit.proofs.Meaning.{IsShown, dispute_of, shows_means}
+use Rattle.slh_audit.proofs.Binding.{IsSized, binding, made_from_own, none_shows, own_from_made}
+use Rattle.slh_audit.proofs.Meaning.{dispute_of, shows_means}
 use Rattle.slh_audit.proofs.Order.{shown_found}
 use Rattle.slh_audit.specs.Evidence.{shows}
 use Rattle.slh_audit.specs.Places.{first_evidence}

@@ -1,16 +1,15 @@
 -- One layer: where its root is the tree's own, evidence is found, or the layer's part of the signature
 -- is the key's, and so is the message that it signs.
-use Rattle.std.proofs.Common.{◌≡◌, ◌≢◌, ◌⊎◌, inl, inr, ℕ, zero, suc, ◌+◌, ◌-◌, ◌*◌, ◌/◌, ◌%◌, ◌^◌, ◌<◌, ◌≤◌, List, ◌++◌, length, take, drop, get_or, arith, refl, sym, ap, ◌∙◌, length-append, length-take, length-drop}
+use Rattle.std.proofs.Common.{◌≡◌, ◌⊎◌, inl, inr, ℕ, suc, ◌+◌, ◌-◌, ◌*◌, ◌/◌, ◌^◌, ◌<◌, ◌≤◌, List, ◌++◌, length, take, drop, get_or, arith, sym, ap, ◌∙◌, length-take, length-drop}
 use Rattle.std.specs.Prelude.{slice_index}
-use Rattle.std.proofs.lemmas.Nat.{mul-le}
 use Rattle.std.proofs.lemmas.List.{take-append-drop}
 use Rattle.std.proofs.Math.Nat.{div-eq_of_lt}
 use Rattle.slh_audit.proofs.Descent.{climb_down, chain_down}
 use Rattle.slh_core.proofs.Incomparable.{some_below, same_messages}
 use Rattle.slh_audit.proofs.Pieces.{same_or_not, found_or_all, same_joined, joined_parts, length-part}
-use Rattle.slh_audit.proofs.Meaning.{Collide, climb_input, merkle_input, TreeNodeShows, LeafShows, ChainStepShows, EarlyShows}
+use Rattle.slh_audit.proofs.Meaning.{TreeNodeShows, LeafShows, ChainStepShows, EarlyShows}
 use Rattle.slh_core.specs.Bytes.{joined, part}
-use Rattle.slh_core.specs.Wots.{chain, chain_value, chain_values, wots_sig, checked_chain, checked_ends, wots_pk_from_sig, wots_pk}
+use Rattle.slh_core.specs.Wots.{chain_value, chain_values, wots_sig, checked_chain, checked_ends, wots_pk_from_sig, wots_pk}
 use Rattle.slh_core.specs.Digits.{wots_digits}
 use Rattle.slh_core.specs.Parameters.{chain_count}
 use Rattle.slh_core.specs.Suite.{HasLength, Seeded}
@@ -21,7 +20,7 @@ use Rattle.slh_core.proofs.Joins.{joined_same}
 use Rattle.slh_trees.proofs.Layers.{part_fits}
 use Rattle.slh_trees.specs.Checking.{checked_node}
 use Rattle.slh_trees.specs.Hypertree.{layer_size}
-use Rattle.slh_trees.specs.Merkle.{climb, merkle, merkle_auth_path, sibling_of}
+use Rattle.slh_trees.specs.Merkle.{merkle_auth_path}
 use Rattle.slh_trees.specs.Xmss.{tree_place, xmss_node, auth_path, xmss_sig}
 
 -- n bytes

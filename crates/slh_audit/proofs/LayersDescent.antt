@@ -1,18 +1,17 @@
 -- All layers, from the top one down.
-use Rattle.std.proofs.Common.{◌≡◌, ◌⊎◌, inl, inr, ℕ, zero, suc, ◌+◌, ◌*◌, ◌/◌, ◌%◌, ◌^◌, ◌<◌, ◌≤◌, ◌==◌, if◌then◌else◌, Bool, true, false, List, length, get_or, arith, refl, sym, ap, ◌∙◌}
+use Rattle.std.proofs.Common.{◌≡◌, ◌⊎◌, inl, inr, ℕ, zero, suc, ◌+◌, ◌*◌, ◌/◌, ◌%◌, ◌^◌, ◌<◌, ◌≤◌, ◌==◌, if◌then◌else◌, Bool, true, false, List, length, arith}
 use Rattle.std.proofs.lemmas.Bool.{cases_lt}
 use Rattle.std.proofs.lemmas.Nat.{mod_below, pow_pos}
 use Rattle.slh_audit.proofs.LayerDescent.{IsValue, Finds, layer_down}
 use Rattle.slh_audit.proofs.Pieces.{length-part}
 use Rattle.slh_core.specs.Bytes.{part}
 use Rattle.slh_core.specs.Suite.{HasLength, HasBytes, Seeded}
-use Rattle.slh_core.specs.Wots.{wots_pk_from_sig, wots_pk}
-use Rattle.slh_core.specs.Parameters.{chain_count}
+use Rattle.slh_core.specs.Wots.{wots_pk}
 use Rattle.slh_trees.proofs.Layers.{part_fits}
 use Rattle.slh_trees.specs.Checking.{checked_message, checked_node}
 use Rattle.slh_trees.specs.Hypertree.{layer_message, layer_signature, layer_size, leaf_at, tree_at}
 use Rattle.slh_trees.specs.Merkle.{Place, climb, merkle, node_bytes}
-use Rattle.slh_trees.specs.Xmss.{xmss_node, tree_place}
+use Rattle.slh_trees.specs.Xmss.{tree_place}
 
 value-h : (K : Seeded) (a l r : List ℕ) → HasLength K.suite K.n → HasBytes K.suite → IsValue K.n (K.suite.h K.seed a l r)
 value-h K a l r law bytes = record { len = law.h K.seed a l r; bytes = bytes.h K.seed a l r }

@@ -1,26 +1,23 @@
 -- What evidence says, as propositions, and that the tests decide them.
-use Rattle.std.proofs.Common.{◌≡◌, ◌≢◌, ◌↔◌, ℕ, zero, suc, ◌+◌, ◌-◌, ◌*◌, ◌/◌, ◌%◌, ◌^◌, ◌<◌, ◌≤◌, ◌==◌, Bool, true, false, not, ◌&&◌, IsTrue, refl, sym, arith}
-use Rattle.std.specs.Prelude.{List, ◌++◌, take, drop, slice_index, slice_range, nat_lt, nat_le}
-use Rattle.std.specs.Str.{bytes_eq}
+use Rattle.std.proofs.Common.{◌≡◌, ◌≢◌, ℕ, zero, suc, ◌+◌, ◌-◌, ◌*◌, ◌/◌, ◌^◌, ◌<◌, ◌≤◌, Bool, true, false, not, ◌&&◌, refl}
+use Rattle.std.specs.Prelude.{List, take, drop, slice_index, nat_lt, nat_le}
 use Rattle.std.specs.Bool.{Decides}
 use Rattle.std.proofs.lemmas.Bool.{false≢true}
 use Rattle.std.proofs.lemmas.Slice.Eq.{bytes_eq-Decides}
 use Rattle.std.proofs.lemmas.Bool.{ltb-true, lt-ltb, leb-true, le-leb}
 use Rattle.slh_audit.specs.declared.evidence.Evidence.{Evidence}
 use Rattle.slh_audit.specs.declared.evidence.Evidence.TheVariants.{ForsNode, ForsRoots, ChainStep, Leaf, TreeNode, Early}
-use Rattle.slh_audit.specs.Evidence.{collide, tree_node_shows, leaf_shows, chain_step_shows, early_shows, fors_roots_show, fors_secret_shows, fors_node_shows, shows, at_layer}
+use Rattle.slh_audit.specs.Evidence.{collide, tree_node_shows, leaf_shows, chain_step_shows, early_shows, fors_roots_show, fors_secret_shows, fors_node_shows, shows}
 unfoldable pub use Rattle.slh_audit.specs.Evidence.{climb_input, merkle_input, IsOwn}
 pub use Rattle.slh_audit.specs.Evidence.{Dispute, checked_at, own_at, dispute_on, dispute, dispute_of}
 use Rattle.slh_core.specs.Bytes.{joined, part}
 use Rattle.slh_core.specs.Wots.{chain_value, checked_chain, checked_ends, wots_pk_from_sig, wots_pk}
 use Rattle.slh_core.specs.Digits.{digits, wots_digits}
-use Rattle.slh_core.specs.Parameters.{Scheme, chain_count}
-use Rattle.slh_core.specs.Suite.{Seeded, seeded}
-use Rattle.slh_trees.specs.Checking.{fors_pk_from_sig, checked_fors_node, checked_message, checked_node, forest_size}
+use Rattle.slh_core.specs.Parameters.{chain_count}
+use Rattle.slh_core.specs.Suite.{Seeded}
+use Rattle.slh_trees.specs.Checking.{fors_pk_from_sig, checked_fors_node, checked_node}
 use Rattle.slh_trees.specs.Fors.{fors_pk, fors_leaf, fors_node, fors_place, fors_secret, leaf_index}
-use Rattle.slh_trees.specs.Hypertree.{layer_message, layer_size, leaf_at, tree_at}
-use Rattle.slh_trees.specs.Merkle.{Place, climb, merkle}
-use Rattle.slh_trees.specs.MessageDigest.{split_digest}
+use Rattle.slh_trees.specs.Hypertree.{layer_size, leaf_at, tree_at}
 use Rattle.slh_trees.specs.Xmss.{xmss_node, tree_place}
 
 -- the check's input and the key's differ, and their outputs are equal

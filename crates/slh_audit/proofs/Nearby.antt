@@ -1,8 +1,7 @@
 -- Facts of chains and trees that the descents stand on.
-use Rattle.std.proofs.Common.{◌≡◌, ℕ, zero, suc, ◌+◌, ◌-◌, ◌*◌, ◌/◌, ◌%◌, ◌^◌, ◌<◌, ◌==◌, true, false, List, length, arith, sym, add-one, ◌∙◌}
+use Rattle.std.proofs.Common.{◌≡◌, ℕ, zero, suc, ◌+◌, ◌-◌, ◌*◌, ◌/◌, ◌%◌, ◌^◌, ◌<◌, ◌==◌, true, false, List, length, arith, sym}
 use Rattle.std.proofs.Math.Nat.{pow-suc, div-div-eq-div-mul}
 use Rattle.std.proofs.lemmas.Bool.Decides.{nat_tests}
-use Rattle.std.proofs.lemmas.Nat.{shr_below}
 use Rattle.slh_core.specs.Wots.{chain, chain_secret, chain_value}
 use Rattle.slh_core.specs.Suite.{HasLength, Seeded}
 use Rattle.slh_trees.proofs.Powers.{sibling_below_of}

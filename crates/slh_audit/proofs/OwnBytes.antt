@@ -1,14 +1,14 @@
 -- Against the bytes that a key makes nothing shows: at each place both inputs are the same.
-use Rattle.std.proofs.Common.{◌≡◌, ℕ, zero, suc, ◌+◌, ◌-◌, ◌*◌, ◌/◌, ◌%◌, ◌^◌, ◌<◌, ◌≤◌, ◌==◌, if◌then◌else◌, Bool, true, false, List, ◌++◌, length, take, drop, arith, refl, sym, ap, subst, ◌∙◌, zero-add, length-append}
+use Rattle.std.proofs.Common.{◌≡◌, ℕ, zero, suc, ◌+◌, ◌-◌, ◌*◌, ◌/◌, ◌%◌, ◌^◌, ◌<◌, ◌≤◌, ◌==◌, if◌then◌else◌, Bool, true, false, List, ◌++◌, length, take, drop, arith, refl, sym, ap, ◌∙◌, zero-add, length-append}
 use Rattle.std.proofs.lemmas.Nat.{div-mul-add}
 use Rattle.std.specs.Prelude.{slice_index}
-use Rattle.slh_audit.proofs.Meaning.{Collide, climb_input, merkle_input, TreeNodeShows, LeafShows, ChainStepShows, EarlyShows, ForsRootsShows, ForsSecretShows, ForsNodeShows}
+use Rattle.slh_audit.proofs.Meaning.{climb_input, merkle_input, TreeNodeShows, LeafShows, ChainStepShows, EarlyShows, ForsRootsShows, ForsSecretShows, ForsNodeShows}
 use Rattle.slh_core.proofs.Chains.{chain-add, length-wots_pk, length-wots_sig, wots_pk_from_sig-wots_sig}
 use Rattle.slh_audit.proofs.Nearby.{length-chain_value}
 use Rattle.slh_core.proofs.DigitSteps.{wots_digits_below, digits_below}
 use Rattle.slh_core.proofs.Joins.{joined_same, part-joined, take_front, drop_front}
-use Rattle.slh_core.specs.Bytes.{joined, part}
-use Rattle.slh_core.specs.Wots.{chain, chain_secret, chain_value, chain_values, wots_sig, checked_chain, checked_ends, wots_pk_from_sig, wots_pk}
+use Rattle.slh_core.specs.Bytes.{part}
+use Rattle.slh_core.specs.Wots.{chain, chain_secret, chain_value, chain_values, wots_sig, checked_ends, wots_pk}
 use Rattle.slh_core.specs.Digits.{digits, wots_digits}
 use Rattle.slh_core.specs.Parameters.{chain_count}
 use Rattle.slh_core.specs.Suite.{HasLength, Seeded}
@@ -17,7 +17,7 @@ use Rattle.slh_audit.proofs.Nearby.{even_pair, odd_pair, half, length-merkle}
 use Rattle.slh_trees.specs.Checking.{checked_fors_node}
 use Rattle.slh_trees.specs.Fors.{fors_leaf, fors_opened, fors_auth_path, fors_place, fors_secret, fors_sig, leaf_index, opened_leaves}
 use Rattle.slh_trees.specs.Merkle.{Place, sibling_of, climb, merkle, merkle_auth_path}
-use Rattle.slh_trees.specs.Xmss.{tree_place, xmss_node, auth_path, xmss_sig}
+use Rattle.slh_trees.specs.Xmss.{tree_place, auth_path, xmss_sig}
 
 -- whichever child the way comes from, the left one stands first
 pub in_order : (at : ℕ → List ℕ) (i : ℕ) (b : Bool) → (i % 2 == 0) ≡ b → (if b then at i ++ at (sibling_of i) else at (sibling_of i) ++ at i) ≡ at (2 * (i / 2)) ++ at (2 * (i / 2) + 1)

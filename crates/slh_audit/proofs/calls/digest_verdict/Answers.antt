@@ -1,4 +1,4 @@
-use Rattle.std.proofs.Common.{◌≡◌, ◌↔◌, IsTrue, List, length, refl, sym, ◌∙◌}
+use Rattle.std.proofs.Common.{◌≡◌, ◌↔◌, IsTrue, length, refl}
 use Rattle.slh_audit.proofs.Judging.{made_is}
 use Rattle.slh_audit.specs.Evidence.{IsOwn, dispute}
 use Rattle.slh_core.specs.Parameters.{scheme_of}

@@ -1,6 +1,6 @@
 use Rattle.std.proofs.Common.{◌∙◌, refl, ◌≡◌, ◌≤◌, ◌*◌}
-use Rattle.std.proofs.Common.{arith, ◌≡◌, suc, ◌+◌, ◌-◌, ◌*◌, ◌≤◌, take, drop, length}
-use Rattle.slh_audit.proofs.Told.{length-wots_pk_from_sig, node_told_of, path_len, rows_fit, up_below}
+use Rattle.std.proofs.Common.{arith, ◌≡◌, ◌+◌, ◌-◌, ◌*◌, ◌≤◌, take, drop, length}
+use Rattle.slh_audit.proofs.Told.{length-wots_pk_from_sig, node_told_of, rows_fit, up_below}
 use Rattle.std.specs.Bool.{one_answer}
 use Rattle.slh_audit.proofs.Meaning.{TreeNodeShows, tree_node_means}
 use Rattle.slh_core.proofs.Chains.{length-wots_pk}

@@ -1,4 +1,4 @@
-use Rattle.slh_trees.specs.Checking.{fors_pk_from_sig, checked_message}
+use Rattle.slh_trees.specs.Checking.{checked_message}
 use Rattle.slh_trees.proofs.Layers.{checked_message-more}
 use Rattle.slh_audit.proofs.dispute.Dispute.checked_message.Goals as goal
 

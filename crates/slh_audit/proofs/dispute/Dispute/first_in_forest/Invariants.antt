@@ -1,9 +1,8 @@
-use Rattle.std.proofs.Common.{◌≡◌, ◌+◌, ◌-◌, [], ◌∷◌, None}
+use Rattle.std.proofs.Common.{◌≡◌, None}
 use Rattle.std.specs.List.{find}
 use Rattle.slh_audit.specs.Evidence.{dispute_on, shows}
-use Rattle.slh_audit.specs.Places.{in_turn, chain_places, layer_places, fors_tree_places}
-use Rattle.slh_audit.specs.declared.evidence.Evidence.TheVariants.{TreeNode, ChainStep, ForsNode}
-use Rattle.slh_core.specs.Parameters.{chain_count, scheme_of}
+use Rattle.slh_audit.specs.Places.{in_turn, fors_tree_places}
+use Rattle.slh_core.specs.Parameters.{scheme_of}
 use Rattle.slh_audit.proofs.dispute.Dispute.first_in_forest.Given as goal
 
 -- nothing so far shows

@@ -1,7 +1,7 @@
-use Rattle.std.proofs.Common.{◌≡◌, ◌+◌, ◌-◌, ◌<◌, arith, refl, sym, ◌∙◌}
-use Rattle.slh_audit.proofs.Finding.{after_half, after_none, after_some, head_found, head_not, not_some, one_found, one_not, turn_found, turn_next, turn_none}
+use Rattle.std.proofs.Common.{arith, sym, ◌∙◌}
+use Rattle.slh_audit.proofs.Finding.{not_some, turn_found, turn_next, turn_none}
 use Rattle.slh_audit.specs.Evidence.{dispute_on, shows}
-use Rattle.slh_core.specs.Parameters.{chain_count, scheme_of}
+use Rattle.slh_core.specs.Parameters.{scheme_of}
 use Rattle.slh_audit.proofs.dispute.Dispute.first_in_layers.Goals as goal
 
 pub loop-down-init : goal.loop-down-init
