@@ -1,7 +1,7 @@
 -- Evidence that accepted bytes are not those that a key makes. The check of a signature and the
--- key's own computation hash at the same addresses: what the check hashes comes from the bytes, what
--- the key hashes from its secret seed. Evidence names a place where the two inputs differ and the
--- two outputs are equal, or a chain that the bytes open at an earlier step than the key does.
+-- key's own computation hash at the same addresses: what the check hashes comes from the bytes,
+-- what the key hashes from its secret seed. Evidence names a place where the two inputs differ and
+-- the two outputs are equal, or a chain that the bytes open at an earlier step than the key does.
 use Rattle.std.specs.Prelude.{◌≡◌, ℕ, zero, suc, ◌+◌, ◌-◌, ◌*◌, ◌/◌, ◌%◌, ◌^◌, ◌==◌, if◌then◌else◌}
 use Rattle.std.specs.Prelude.{Bool, not, ◌&&◌, nat_lt, nat_le}
 use Rattle.std.specs.Prelude.{List, ◌++◌, take, drop, slice_index, slice_range}
@@ -39,8 +39,8 @@ climb_input K B x y path z =
 unfoldable pub merkle_input : Seeded → Place → (ℕ → List ℕ) → ℕ → ℕ → List ℕ
 merkle_input K B leaves z i = merkle K B leaves z (2 * i) ++ merkle K B leaves z (2 * i + 1)
 
--- One layer: K is the suite with its public seed, sk the secret seed, j the layer, t the tree, y the
--- leaf, sig the layer's part of a signature, and m the message that it leads on from.
+-- One layer: K is the suite with its public seed, sk the secret seed, j the layer, t the tree, y
+-- the leaf, sig the layer's part of a signature, and m the message that it leads on from.
 module _ (K : Seeded) (sk : List ℕ) (j t y : ℕ) (sig m : List ℕ) where
   -- the node at height z on the way up
   unfoldable pub tree_node_shows : ℕ → Bool
@@ -174,8 +174,8 @@ module _ (D : Dispute) where
       (D.forest ≡ fors_sig D.K D.sk D.t D.l D.k D.a D.md)
       × (D.layers ≡ ht_sig D.K D.hp D.sk D.t D.l (fors_pk D.K D.sk D.t D.l D.k D.a) D.d)
 
--- what a key, a digest and a signature bring: the public and the secret seed, the tree and the leaf of
--- layer 0, the bytes that name leaves of the forest, and the signature's two parts
+-- what a key, a digest and a signature bring: the public and the secret seed, the tree and the leaf
+-- of layer 0, the bytes that name leaves of the forest, and the signature's two parts
 pub record Parts : Type 0 where
   pub seed : List ℕ
   pub sk : List ℕ

@@ -1,6 +1,6 @@
 -- Where an audit looks for evidence, in its order: the layers from the top one down, in each the
--- nodes from the root down, the leaf, and the chains, each with its steps from the last one down and
--- then its opening; then the roots of the forest, and its trees, each from its root down.
+-- nodes from the root down, the leaf, and the chains, each with its steps from the last one down
+-- and then its opening; then the roots of the forest, and its trees, each from its root down.
 use Rattle.std.specs.Prelude.{ℕ, zero, suc, ◌+◌, ◌-◌, List, [], ◌∷◌, ◌++◌}
 use Rattle.std.specs.Prelude.{◌≡◌, Option, true, false}
 use Rattle.std.specs.List.{find, Contains}

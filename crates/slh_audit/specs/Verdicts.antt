@@ -61,7 +61,8 @@ message_audit Z key message sig =
     else Err KeyMismatch
 
 -- an answer, unless there is a refusal
-abbrev pub unless_refused : {T : Type 0} → Option AuditError → Result T AuditError → Result T AuditError
+abbrev pub unless_refused : {T : Type 0} → Option AuditError → Result T AuditError
+    → Result T AuditError
 unless_refused None answer = answer
 unless_refused (Some refusal) answer = Err refusal
 
@@ -70,7 +71,8 @@ audit_answer Z key context message sig =
     unless_refused (size_refusal Z key context message sig)
     (message_audit Z key (frame context message) sig)
 
-abbrev pub check_answer : Scheme → List ℕ → List ℕ → List ℕ → List ℕ → Evidence → Result Bool AuditError
+abbrev pub check_answer : Scheme → List ℕ → List ℕ → List ℕ → List ℕ → Evidence
+    → Result Bool AuditError
 check_answer Z key context message sig e =
     unless_refused (size_refusal Z key context message sig)
     (Ok (shows (dispute_of Z key (frame context message) sig) e))

@@ -219,8 +219,8 @@ fn check_message<P: ForsParams, L: Ledger>(
     digest_shows::<P, L>(&sk_seed, &pk_seed, digest, sig, evidence, &mut steps)
 }
 
-/// Audits the bytes of a signature of a message with a context, by the signing key of 4n bytes whose
-/// holder is said to have made it. `Length`: the key or the signature has a wrong number of bytes;
+/// Audits the bytes of a signature of a message with a context, by the signing key of 4n bytes
+/// whose holder is said to have made it. `Length`: the key or the signature has a wrong number of bytes;
 /// `ContextTooLong`, `MessageTooLong`; `KeyMismatch`: the key's root isn't that of its seeds;
 /// `Invalid`: the key doesn't accept the bytes. Bytes that the key makes cost about as much as
 /// signing and verifying, others about ten times that.
@@ -241,9 +241,9 @@ pub fn audit<P: ForsParams>(
     }
 }
 
-/// Whether evidence shows against the bytes of a signature, of any key and whether they are accepted
-/// or not. `Length`, `ContextTooLong`, `MessageTooLong` as in `audit`. Numbers of a place that isn't
-/// there give false.
+/// Whether evidence shows against the bytes of a signature, of any key and whether they are
+/// accepted or not. `Length`, `ContextTooLong`, `MessageTooLong` as in `audit`. Numbers of a place
+/// that isn't there give false.
 pub fn check_evidence<P: ForsParams>(
     key: &[u8],
     ctx: &[u8],

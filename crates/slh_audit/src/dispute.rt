@@ -73,7 +73,9 @@ impl<'a, P: ForsParams> Dispute<'a, P> {
 
     /// The forest's public key that the signature leads to.
     fn checked_key<L: Ledger>(&self, steps: &mut Steps<L>) -> NBytes<P::N>
-        ensures { let D = dispute_on (scheme_of P.suite P.N.USIZE P.HPrime.USIZE P.D.USIZE P.A.USIZE P.K.USIZE) self.now in
+        ensures { let Z = scheme_of P.suite P.N.USIZE
+            P.HPrime.USIZE P.D.USIZE P.A.USIZE P.K.USIZE in
+            let D = dispute_on Z self.now in
             result ≡ fors_pk_from_sig D.K D.t D.l D.k D.a D.forest D.md }
     {
         let adrs = ForsTree::new(self.tree, self.leaf);
@@ -109,7 +111,8 @@ impl<'a, P: ForsParams> Dispute<'a, P> {
         steps: &mut Steps<L>,
     ) -> NBytes<P::N>
         requires { layer ≤ P.D.USIZE }
-        ensures { let Z = scheme_of P.suite P.N.USIZE P.HPrime.USIZE P.D.USIZE P.A.USIZE P.K.USIZE in
+        ensures { let Z = scheme_of P.suite P.N.USIZE
+            P.HPrime.USIZE P.D.USIZE P.A.USIZE P.K.USIZE in
             result ≡ checked_at (dispute_on Z self.now) layer }
     {
         layer_sizes::<P>();
@@ -127,7 +130,8 @@ impl<'a, P: ForsParams> Dispute<'a, P> {
     #[tactic(auto, unfolding(slh_core::specs::Bytes::joined))]
     pub(crate) fn own_roots<L: Ledger>(&self, out: &mut [u8], steps: &mut Steps<L>)
         requires { length out.old ≡ P.K.USIZE * P.N.USIZE }
-        ensures { let Z = scheme_of P.suite P.N.USIZE P.HPrime.USIZE P.D.USIZE P.A.USIZE P.K.USIZE in
+        ensures { let Z = scheme_of P.suite P.N.USIZE
+            P.HPrime.USIZE P.D.USIZE P.A.USIZE P.K.USIZE in
             let D = dispute_on Z self.now in
             out.new ≡ joined (λ i. spec_fors_node D.K D.sk D.t D.l D.a i) D.k }
     {
@@ -152,7 +156,8 @@ impl<'a, P: ForsParams> Dispute<'a, P> {
     /// The public key of the key's own forest.
     #[tactic(auto, unfolding(slh_trees::specs::Fors::fors_pk))]
     pub(crate) fn own_key<L: Ledger>(&self, steps: &mut Steps<L>) -> NBytes<P::N>
-        ensures { let Z = scheme_of P.suite P.N.USIZE P.HPrime.USIZE P.D.USIZE P.A.USIZE P.K.USIZE in
+        ensures { let Z = scheme_of P.suite P.N.USIZE
+            P.HPrime.USIZE P.D.USIZE P.A.USIZE P.K.USIZE in
             let D = dispute_on Z self.now in
             result ≡ fors_pk D.K D.sk D.t D.l D.k D.a }
     {
@@ -167,7 +172,8 @@ impl<'a, P: ForsParams> Dispute<'a, P> {
     /// The message that the key signs on a layer.
     pub(crate) fn own_message<L: Ledger>(&self, layer: usize, steps: &mut Steps<L>) -> NBytes<P::N>
         requires { layer ≤ P.D.USIZE }
-        ensures { let Z = scheme_of P.suite P.N.USIZE P.HPrime.USIZE P.D.USIZE P.A.USIZE P.K.USIZE in
+        ensures { let Z = scheme_of P.suite P.N.USIZE
+            P.HPrime.USIZE P.D.USIZE P.A.USIZE P.K.USIZE in
             result ≡ own_at (dispute_on Z self.now) layer }
     {
         layer_sizes::<P>();

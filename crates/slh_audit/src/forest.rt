@@ -1,6 +1,9 @@
 //! Whether evidence of the forest shows.
-ghost use Rattle.std.specs.Prelude.{◌≡◌, ◌↔◌, ◌+◌, ◌-◌, ◌*◌, ◌/◌, ◌^◌, ◌<◌, ◌≤◌, length, take, drop, slice_index, IsTrue};
-ghost use Rattle.slh_audit.specs.Evidence.{fors_node_shows as spec_fors_node_shows, fors_roots_show as spec_fors_roots_show, fors_secret_shows as spec_fors_secret_shows};
+ghost use Rattle.std.specs.Prelude.{◌≡◌, ◌↔◌, ◌+◌, ◌-◌, ◌*◌, ◌/◌, ◌^◌, ◌<◌, ◌≤◌, length, take};
+ghost use Rattle.std.specs.Prelude.{drop, slice_index, IsTrue};
+ghost use Rattle.slh_audit.specs.Evidence.{fors_node_shows as spec_fors_node_shows};
+ghost use Rattle.slh_audit.specs.Evidence.{fors_roots_show as spec_fors_roots_show};
+ghost use Rattle.slh_audit.specs.Evidence.{fors_secret_shows as spec_fors_secret_shows};
 ghost use Rattle.slh_core.specs.Bytes.{joined, part};
 ghost use Rattle.slh_core.specs.Digits.{digits};
 ghost use Rattle.slh_trees.specs.Checking.{checked_fors_node};

@@ -1,8 +1,13 @@
 //! Whether evidence of one layer shows.
-ghost use Rattle.std.specs.Prelude.{take, drop, ◌≡◌, ◌↔◌, ℕ, ◌+◌, ◌-◌, ◌*◌, ◌/◌, ◌^◌, ◌<◌, ◌≤◌, length, slice_index, IsTrue};
+ghost use Rattle.std.specs.Prelude.{take, drop, ◌≡◌, ◌↔◌, ℕ, ◌+◌, ◌-◌, ◌*◌, ◌/◌, ◌^◌, ◌<◌, ◌≤◌};
+ghost use Rattle.std.specs.Prelude.{length, slice_index, IsTrue};
 ghost use Rattle.std.specs.Str.{bytes_eq};
 ghost use Rattle.slh_core.specs.Digits.{wots_digits};
-ghost use Rattle.slh_audit.specs.Evidence.{collide as spec_collide, tree_node_shows as spec_tree_node_shows, leaf_shows as spec_leaf_shows, chain_step_shows as spec_chain_step_shows, early_shows as spec_early_shows};
+ghost use Rattle.slh_audit.specs.Evidence.{collide as spec_collide};
+ghost use Rattle.slh_audit.specs.Evidence.{tree_node_shows as spec_tree_node_shows};
+ghost use Rattle.slh_audit.specs.Evidence.{leaf_shows as spec_leaf_shows};
+ghost use Rattle.slh_audit.specs.Evidence.{chain_step_shows as spec_chain_step_shows};
+ghost use Rattle.slh_audit.specs.Evidence.{early_shows as spec_early_shows};
 ghost use Rattle.slh_core.specs.Bytes.{joined};
 ghost use Rattle.slh_core.specs.Wots.{chain_value};
 ghost use Rattle.slh_core.specs.Parameters.{chain_count};

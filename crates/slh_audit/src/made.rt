@@ -26,7 +26,8 @@ impl<'a, P: ForsParams> Dispute<'a, P> {
     /// Whether the forest's part and the layers' parts are those that the key makes. It costs as
     /// much as signing.
     pub(crate) fn is_made<L: Ledger>(&self, steps: &mut Steps<L>) -> bool
-        ensures { let Z = scheme_of P.suite P.N.USIZE P.HPrime.USIZE P.D.USIZE P.A.USIZE P.K.USIZE in
+        ensures { let Z = scheme_of P.suite P.N.USIZE
+            P.HPrime.USIZE P.D.USIZE P.A.USIZE P.K.USIZE in
             IsTrue result ↔ IsOwn (dispute_on Z self.now) }
     {
         forest_sizes::<P>();
@@ -44,7 +45,8 @@ impl<'a, P: ForsParams> Dispute<'a, P> {
 
     /// Whether the layers' parts are those that the key makes over the forest's public key.
     fn layers_made<L: Ledger>(&self, key: &NBytes<P::N>, steps: &mut Steps<L>) -> bool
-        ensures { let Z = scheme_of P.suite P.N.USIZE P.HPrime.USIZE P.D.USIZE P.A.USIZE P.K.USIZE in
+        ensures { let Z = scheme_of P.suite P.N.USIZE
+            P.HPrime.USIZE P.D.USIZE P.A.USIZE P.K.USIZE in
             let D = dispute_on Z self.now in
             IsTrue result ↔ (D.layers ≡ ht_sig D.K D.hp D.sk D.t D.l key.now D.d) }
     {

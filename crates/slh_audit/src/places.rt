@@ -1,6 +1,8 @@
 //! Whether evidence shows in a dispute, place by place.
 ghost use Rattle.std.specs.Prelude.{◌≡◌, ◌↔◌, ◌+◌, ◌*◌, ◌<◌, ◌≤◌, zero, suc, IsTrue};
-ghost use Rattle.slh_audit.specs.declared.evidence.Evidence.TheVariants.{ForsNode, ForsRoots, ChainStep, Leaf, TreeNode, Early};
+ghost use Rattle.slh_audit.specs.declared.evidence.Evidence.TheVariants.{ForsNode, ForsRoots};
+ghost use Rattle.slh_audit.specs.declared.evidence.Evidence.TheVariants.{ChainStep, Leaf};
+ghost use Rattle.slh_audit.specs.declared.evidence.Evidence.TheVariants.{TreeNode, Early};
 ghost use Rattle.slh_audit.specs.Evidence.{shows as spec_shows, checked_at, dispute_on, own_at};
 ghost use Rattle.slh_core.specs.Parameters.{scheme_of};
 
@@ -26,9 +28,11 @@ impl<'a, P: ForsParams> Dispute<'a, P> {
         requires layer { layer < P.D.USIZE }
         requires low { 1 ≤ height }
         requires high { height ≤ P.HPrime.USIZE }
-        requires message { let Z = scheme_of P.suite P.N.USIZE P.HPrime.USIZE P.D.USIZE P.A.USIZE P.K.USIZE in
+        requires message { let Z = scheme_of P.suite P.N.USIZE
+            P.HPrime.USIZE P.D.USIZE P.A.USIZE P.K.USIZE in
             message.now ≡ checked_at (dispute_on Z self.now) layer }
-        ensures { let Z = scheme_of P.suite P.N.USIZE P.HPrime.USIZE P.D.USIZE P.A.USIZE P.K.USIZE in
+        ensures { let Z = scheme_of P.suite P.N.USIZE
+            P.HPrime.USIZE P.D.USIZE P.A.USIZE P.K.USIZE in
             result ≡ spec_shows (dispute_on Z self.now) (TreeNode layer height) }
     {
         let adrs = self.adrs_at(layer);
@@ -52,9 +56,11 @@ impl<'a, P: ForsParams> Dispute<'a, P> {
         steps: &mut Steps<L>,
     ) -> bool
         requires layer { layer < P.D.USIZE }
-        requires message { let Z = scheme_of P.suite P.N.USIZE P.HPrime.USIZE P.D.USIZE P.A.USIZE P.K.USIZE in
+        requires message { let Z = scheme_of P.suite P.N.USIZE
+            P.HPrime.USIZE P.D.USIZE P.A.USIZE P.K.USIZE in
             message.now ≡ checked_at (dispute_on Z self.now) layer }
-        ensures { let Z = scheme_of P.suite P.N.USIZE P.HPrime.USIZE P.D.USIZE P.A.USIZE P.K.USIZE in
+        ensures { let Z = scheme_of P.suite P.N.USIZE
+            P.HPrime.USIZE P.D.USIZE P.A.USIZE P.K.USIZE in
             result ≡ spec_shows (dispute_on Z self.now) (Leaf layer) }
     {
         let adrs = self.adrs_at(layer);
@@ -73,9 +79,11 @@ impl<'a, P: ForsParams> Dispute<'a, P> {
     ) -> bool
         requires layer { layer < P.D.USIZE }
         requires chain { chain < P.WotsSigLen.USIZE }
-        requires message { let Z = scheme_of P.suite P.N.USIZE P.HPrime.USIZE P.D.USIZE P.A.USIZE P.K.USIZE in
+        requires message { let Z = scheme_of P.suite P.N.USIZE
+            P.HPrime.USIZE P.D.USIZE P.A.USIZE P.K.USIZE in
             message.now ≡ checked_at (dispute_on Z self.now) layer }
-        ensures { let Z = scheme_of P.suite P.N.USIZE P.HPrime.USIZE P.D.USIZE P.A.USIZE P.K.USIZE in
+        ensures { let Z = scheme_of P.suite P.N.USIZE
+            P.HPrime.USIZE P.D.USIZE P.A.USIZE P.K.USIZE in
             result ≡ spec_shows (dispute_on Z self.now) (ChainStep layer chain step) }
     {
         layer_sizes::<P>();
@@ -96,11 +104,14 @@ impl<'a, P: ForsParams> Dispute<'a, P> {
     ) -> bool
         requires layer { layer < P.D.USIZE }
         requires chain { chain < P.WotsSigLen.USIZE }
-        requires message { let Z = scheme_of P.suite P.N.USIZE P.HPrime.USIZE P.D.USIZE P.A.USIZE P.K.USIZE in
+        requires message { let Z = scheme_of P.suite P.N.USIZE
+            P.HPrime.USIZE P.D.USIZE P.A.USIZE P.K.USIZE in
             message.now ≡ checked_at (dispute_on Z self.now) layer }
-        requires own { let Z = scheme_of P.suite P.N.USIZE P.HPrime.USIZE P.D.USIZE P.A.USIZE P.K.USIZE in
+        requires own { let Z = scheme_of P.suite P.N.USIZE
+            P.HPrime.USIZE P.D.USIZE P.A.USIZE P.K.USIZE in
             own.now ≡ own_at (dispute_on Z self.now) layer }
-        ensures { let Z = scheme_of P.suite P.N.USIZE P.HPrime.USIZE P.D.USIZE P.A.USIZE P.K.USIZE in
+        ensures { let Z = scheme_of P.suite P.N.USIZE
+            P.HPrime.USIZE P.D.USIZE P.A.USIZE P.K.USIZE in
             result ≡ spec_shows (dispute_on Z self.now) (Early layer chain) }
     {
         layer_sizes::<P>();
@@ -112,7 +123,8 @@ impl<'a, P: ForsParams> Dispute<'a, P> {
 
     /// Whether the roots of the forest show.
     pub(crate) fn fors_roots_show<L: Ledger>(&self, steps: &mut Steps<L>) -> bool
-        ensures { let Z = scheme_of P.suite P.N.USIZE P.HPrime.USIZE P.D.USIZE P.A.USIZE P.K.USIZE in
+        ensures { let Z = scheme_of P.suite P.N.USIZE
+            P.HPrime.USIZE P.D.USIZE P.A.USIZE P.K.USIZE in
             result ≡ spec_shows (dispute_on Z self.now) ForsRoots }
     {
         forest_sizes::<P>();
@@ -128,7 +140,8 @@ impl<'a, P: ForsParams> Dispute<'a, P> {
     /// Whether the secret that is opened in a tree of the forest shows.
     pub(crate) fn fors_secret_shows<L: Ledger>(&self, tree: u32, steps: &mut Steps<L>) -> bool
         requires { tree < P.K.USIZE }
-        ensures { let Z = scheme_of P.suite P.N.USIZE P.HPrime.USIZE P.D.USIZE P.A.USIZE P.K.USIZE in
+        ensures { let Z = scheme_of P.suite P.N.USIZE
+            P.HPrime.USIZE P.D.USIZE P.A.USIZE P.K.USIZE in
             result ≡ spec_shows (dispute_on Z self.now) (ForsNode tree zero) }
     {
         let adrs = ForsTree::new(self.tree, self.leaf);
@@ -146,7 +159,8 @@ impl<'a, P: ForsParams> Dispute<'a, P> {
         requires tree { tree < P.K.USIZE }
         requires low { 1 ≤ height }
         requires high { height ≤ P.A.USIZE }
-        ensures { let Z = scheme_of P.suite P.N.USIZE P.HPrime.USIZE P.D.USIZE P.A.USIZE P.K.USIZE in
+        ensures { let Z = scheme_of P.suite P.N.USIZE
+            P.HPrime.USIZE P.D.USIZE P.A.USIZE P.K.USIZE in
             result ≡ spec_shows (dispute_on Z self.now) (ForsNode tree height) }
     {
         let adrs = ForsTree::new(self.tree, self.leaf);
@@ -157,7 +171,8 @@ impl<'a, P: ForsParams> Dispute<'a, P> {
 
     /// Whether a node of a layer's tree shows, for any numbers.
     fn any_tree_node_shows<L: Ledger>(&self, layer: u32, height: u32, steps: &mut Steps<L>) -> bool
-        ensures { let Z = scheme_of P.suite P.N.USIZE P.HPrime.USIZE P.D.USIZE P.A.USIZE P.K.USIZE in
+        ensures { let Z = scheme_of P.suite P.N.USIZE
+            P.HPrime.USIZE P.D.USIZE P.A.USIZE P.K.USIZE in
             result ≡ spec_shows (dispute_on Z self.now) (TreeNode layer height) }
     {
         layer_sizes::<P>();
@@ -176,7 +191,8 @@ impl<'a, P: ForsParams> Dispute<'a, P> {
 
     /// Whether a layer's leaf shows, for any number.
     fn any_leaf_shows<L: Ledger>(&self, layer: u32, steps: &mut Steps<L>) -> bool
-        ensures { let Z = scheme_of P.suite P.N.USIZE P.HPrime.USIZE P.D.USIZE P.A.USIZE P.K.USIZE in
+        ensures { let Z = scheme_of P.suite P.N.USIZE
+            P.HPrime.USIZE P.D.USIZE P.A.USIZE P.K.USIZE in
             result ≡ spec_shows (dispute_on Z self.now) (Leaf layer) }
     {
         layer_sizes::<P>();
@@ -195,7 +211,8 @@ impl<'a, P: ForsParams> Dispute<'a, P> {
         step: u32,
         steps: &mut Steps<L>,
     ) -> bool
-        ensures { let Z = scheme_of P.suite P.N.USIZE P.HPrime.USIZE P.D.USIZE P.A.USIZE P.K.USIZE in
+        ensures { let Z = scheme_of P.suite P.N.USIZE
+            P.HPrime.USIZE P.D.USIZE P.A.USIZE P.K.USIZE in
             result ≡ spec_shows (dispute_on Z self.now) (ChainStep layer chain step) }
     {
         layer_sizes::<P>();
@@ -211,7 +228,8 @@ impl<'a, P: ForsParams> Dispute<'a, P> {
 
     /// Whether a chain is opened early, for any numbers.
     fn any_early_shows<L: Ledger>(&self, layer: u32, chain: u32, steps: &mut Steps<L>) -> bool
-        ensures { let Z = scheme_of P.suite P.N.USIZE P.HPrime.USIZE P.D.USIZE P.A.USIZE P.K.USIZE in
+        ensures { let Z = scheme_of P.suite P.N.USIZE
+            P.HPrime.USIZE P.D.USIZE P.A.USIZE P.K.USIZE in
             result ≡ spec_shows (dispute_on Z self.now) (Early layer chain) }
     {
         layer_sizes::<P>();
@@ -233,7 +251,8 @@ impl<'a, P: ForsParams> Dispute<'a, P> {
         height: u32,
         steps: &mut Steps<L>,
     ) -> bool
-        ensures { let Z = scheme_of P.suite P.N.USIZE P.HPrime.USIZE P.D.USIZE P.A.USIZE P.K.USIZE in
+        ensures { let Z = scheme_of P.suite P.N.USIZE
+            P.HPrime.USIZE P.D.USIZE P.A.USIZE P.K.USIZE in
             result ≡ spec_shows (dispute_on Z self.now) (ForsNode tree height) }
     {
         forest_sizes::<P>();
@@ -251,7 +270,8 @@ impl<'a, P: ForsParams> Dispute<'a, P> {
 
     /// Whether evidence shows.
     pub(crate) fn shows<L: Ledger>(&self, evidence: Evidence, steps: &mut Steps<L>) -> bool
-        ensures { let Z = scheme_of P.suite P.N.USIZE P.HPrime.USIZE P.D.USIZE P.A.USIZE P.K.USIZE in
+        ensures { let Z = scheme_of P.suite P.N.USIZE
+            P.HPrime.USIZE P.D.USIZE P.A.USIZE P.K.USIZE in
             result ≡ spec_shows (dispute_on Z self.now) evidence }
     {
         match evidence {

@@ -24,9 +24,11 @@ impl<'a, P: ForsParams> Dispute<'a, P> {
         steps: &mut Steps<L>,
     ) -> Option<Evidence>
         requires layer { layer < P.D.USIZE }
-        requires message { let Z = scheme_of P.suite P.N.USIZE P.HPrime.USIZE P.D.USIZE P.A.USIZE P.K.USIZE in
+        requires message { let Z = scheme_of P.suite P.N.USIZE
+            P.HPrime.USIZE P.D.USIZE P.A.USIZE P.K.USIZE in
             message.now ≡ checked_at (dispute_on Z self.now) layer }
-        ensures { let Z = scheme_of P.suite P.N.USIZE P.HPrime.USIZE P.D.USIZE P.A.USIZE P.K.USIZE in
+        ensures { let Z = scheme_of P.suite P.N.USIZE
+            P.HPrime.USIZE P.D.USIZE P.A.USIZE P.K.USIZE in
             let D = dispute_on Z self.now in
             result ≡ find (spec_shows D) (tree_node_places D.hp layer) }
     {
@@ -52,11 +54,14 @@ impl<'a, P: ForsParams> Dispute<'a, P> {
     ) -> Option<Evidence>
         requires layer { layer < P.D.USIZE }
         requires chain { chain < P.WotsSigLen.USIZE }
-        requires message { let Z = scheme_of P.suite P.N.USIZE P.HPrime.USIZE P.D.USIZE P.A.USIZE P.K.USIZE in
+        requires message { let Z = scheme_of P.suite P.N.USIZE
+            P.HPrime.USIZE P.D.USIZE P.A.USIZE P.K.USIZE in
             message.now ≡ checked_at (dispute_on Z self.now) layer }
-        requires own { let Z = scheme_of P.suite P.N.USIZE P.HPrime.USIZE P.D.USIZE P.A.USIZE P.K.USIZE in
+        requires own { let Z = scheme_of P.suite P.N.USIZE
+            P.HPrime.USIZE P.D.USIZE P.A.USIZE P.K.USIZE in
             own.now ≡ own_at (dispute_on Z self.now) layer }
-        ensures { let Z = scheme_of P.suite P.N.USIZE P.HPrime.USIZE P.D.USIZE P.A.USIZE P.K.USIZE in
+        ensures { let Z = scheme_of P.suite P.N.USIZE
+            P.HPrime.USIZE P.D.USIZE P.A.USIZE P.K.USIZE in
             let D = dispute_on Z self.now in
             result ≡ find (spec_shows D) (chain_places layer chain) }
     {
@@ -81,11 +86,14 @@ impl<'a, P: ForsParams> Dispute<'a, P> {
         steps: &mut Steps<L>,
     ) -> Option<Evidence>
         requires layer { layer < P.D.USIZE }
-        requires message { let Z = scheme_of P.suite P.N.USIZE P.HPrime.USIZE P.D.USIZE P.A.USIZE P.K.USIZE in
+        requires message { let Z = scheme_of P.suite P.N.USIZE
+            P.HPrime.USIZE P.D.USIZE P.A.USIZE P.K.USIZE in
             message.now ≡ checked_at (dispute_on Z self.now) layer }
-        requires own { let Z = scheme_of P.suite P.N.USIZE P.HPrime.USIZE P.D.USIZE P.A.USIZE P.K.USIZE in
+        requires own { let Z = scheme_of P.suite P.N.USIZE
+            P.HPrime.USIZE P.D.USIZE P.A.USIZE P.K.USIZE in
             own.now ≡ own_at (dispute_on Z self.now) layer }
-        ensures { let Z = scheme_of P.suite P.N.USIZE P.HPrime.USIZE P.D.USIZE P.A.USIZE P.K.USIZE in
+        ensures { let Z = scheme_of P.suite P.N.USIZE
+            P.HPrime.USIZE P.D.USIZE P.A.USIZE P.K.USIZE in
             let D = dispute_on Z self.now in
             result ≡ find (spec_shows D) (in_turn (chain_places layer) (chain_count D.K.n)) }
     {
@@ -103,7 +111,8 @@ impl<'a, P: ForsParams> Dispute<'a, P> {
     /// The first evidence of a layer that shows.
     fn first_in_layer<L: Ledger>(&self, layer: u32, steps: &mut Steps<L>) -> Option<Evidence>
         requires layer { layer < P.D.USIZE }
-        ensures { let Z = scheme_of P.suite P.N.USIZE P.HPrime.USIZE P.D.USIZE P.A.USIZE P.K.USIZE in
+        ensures { let Z = scheme_of P.suite P.N.USIZE
+            P.HPrime.USIZE P.D.USIZE P.A.USIZE P.K.USIZE in
             let D = dispute_on Z self.now in
             result ≡ find (spec_shows D) (layer_places D.hp (chain_count D.K.n) layer) }
     {
@@ -121,7 +130,8 @@ impl<'a, P: ForsParams> Dispute<'a, P> {
 
     /// The first evidence of all layers that shows.
     fn first_in_layers<L: Ledger>(&self, steps: &mut Steps<L>) -> Option<Evidence>
-        ensures { let Z = scheme_of P.suite P.N.USIZE P.HPrime.USIZE P.D.USIZE P.A.USIZE P.K.USIZE in
+        ensures { let Z = scheme_of P.suite P.N.USIZE
+            P.HPrime.USIZE P.D.USIZE P.A.USIZE P.K.USIZE in
             let D = dispute_on Z self.now in
             result ≡ find (spec_shows D) (all_layers_places D) }
     {
@@ -139,7 +149,8 @@ impl<'a, P: ForsParams> Dispute<'a, P> {
     /// The first evidence of a tree of the forest that shows.
     fn first_in_fors_tree<L: Ledger>(&self, tree: u32, steps: &mut Steps<L>) -> Option<Evidence>
         requires tree { tree < P.K.USIZE }
-        ensures { let Z = scheme_of P.suite P.N.USIZE P.HPrime.USIZE P.D.USIZE P.A.USIZE P.K.USIZE in
+        ensures { let Z = scheme_of P.suite P.N.USIZE
+            P.HPrime.USIZE P.D.USIZE P.A.USIZE P.K.USIZE in
             let D = dispute_on Z self.now in
             result ≡ find (spec_shows D) (fors_tree_places D.a tree) }
     {
@@ -156,7 +167,8 @@ impl<'a, P: ForsParams> Dispute<'a, P> {
 
     /// The first evidence of the forest that shows.
     fn first_in_forest<L: Ledger>(&self, steps: &mut Steps<L>) -> Option<Evidence>
-        ensures { let Z = scheme_of P.suite P.N.USIZE P.HPrime.USIZE P.D.USIZE P.A.USIZE P.K.USIZE in
+        ensures { let Z = scheme_of P.suite P.N.USIZE
+            P.HPrime.USIZE P.D.USIZE P.A.USIZE P.K.USIZE in
             let D = dispute_on Z self.now in
             result ≡ find (spec_shows D) (forest_places D.a D.k) }
     {
@@ -176,7 +188,8 @@ impl<'a, P: ForsParams> Dispute<'a, P> {
 
     /// The first evidence that shows.
     pub(crate) fn first_evidence<L: Ledger>(&self, steps: &mut Steps<L>) -> Option<Evidence>
-        ensures { let Z = scheme_of P.suite P.N.USIZE P.HPrime.USIZE P.D.USIZE P.A.USIZE P.K.USIZE in
+        ensures { let Z = scheme_of P.suite P.N.USIZE
+            P.HPrime.USIZE P.D.USIZE P.A.USIZE P.K.USIZE in
             result ≡ spec_first_evidence (dispute_on Z self.now) }
     {
         let found = self.first_in_layers::<L>(steps);
