@@ -5,6 +5,7 @@ use crate::{
 };
 use hmac_sha256::Hash;
 use std::alloc::{AllocError, Global};
+use std::process::Abort;
 use std::test::Fail;
 
 // A job line with three seeds, and the key that they give.
@@ -404,58 +405,81 @@ fn verifies_what_was_signed(rt: HostRuntime) -> Result<(), Fail> {
     Ok(())
 }
 
-// Signatures of three keys, by the SHA-256 of their bytes: of "Hello" without context or randomizer
+// Three signatures of a key, by the SHA-256 of their bytes: of "Hello" without context or randomizer
 // given; of no message with the context 00 to fe and 16 bytes 5a for the randomizer; of a message
 // of 1000 bytes with the context 00. The values come from the Rust crate.
-#[test]
-fn known_signatures(rt: HostRuntime) -> Result<(), Fail> {
-    let alloc = rt.alloc();
+#[derive(Drop)]
+struct Known {
+    key: &'static [u8],
+    hello: &'static [u8],
+    with_context: &'static [u8],
+    with_message: &'static [u8],
+}
+
+fn long_context() -> [u8; 255] {
     let mut context = [0u8; 255];
     for (i, byte) in context.iter_mut().enumerate() {
         *byte = (i % 256) as u8;
     }
+    context
+}
+
+fn long_message() -> [u8; 1000] {
     let mut message = [0u8; 1000];
     for (i, byte) in message.iter_mut().enumerate() {
         *byte = (i * 7 % 256) as u8;
     }
-    for (key, hello, with_context, with_message) in [
-        (
-            b"0101010101010101010101010101010102020202020202020202020202020202030303030303030303030303030303034052e0733e69e78739d6e67c77f9a37d".as_slice(),
-            b"2349cc54f79b5c1b7d51f2352cf6872bb947ebeb165d1c9f808e7e5a6163df44".as_slice(),
-            b"88372b0e94ab443d6330e1714b123127c756b68b4a59fa6262f346b0b90b9322".as_slice(),
-            b"9ee10ab7de0a5a1d5d5f12fdf5cd6e0f9a9cd9137cdc53b013082b7eb3bf5986".as_slice(),
-        ),
-        (
-            b"000102030405060708090a0b0c0d0e0f101112131415161718191a1b1c1d1e1f202122232425262728292a2b2c2d2e2f3b56e816847f000386aeec2e2bb9e1b5".as_slice(),
-            b"ae8a4bd2ed8f1ec5d36c86404b7637d9439db36dd5928212581350cd49a46445".as_slice(),
-            b"b83f5551c5a8b0512673b20c27a6115cf332ce891d63127a20fe13cc6d703d05".as_slice(),
-            b"c2753bab42c8e953a74072c56ffd886d53f57682aeb12a1c2f131ab7ad262dc3".as_slice(),
-        ),
-        (
-            b"973373512707b4fab279400ef556d06c96c89d55d2266ee9da0180dd4f4764f5a1d65f776ff700af7443ead43e65a8427ea4fb90daa95fb3f242e0ad8b026ee4".as_slice(),
-            b"e5baf64a674b88dac3e0a922107d092136f4c4f761780b18529e9f4d39af2307".as_slice(),
-            b"ae6435288238613dac2bf2440737f03a303980280c028b3748860f31c6e1aae3".as_slice(),
-            b"46ad158b11ad5cc54dad9dcb223a44072b48910f28f76fc6e97c419f974a7a6f".as_slice(),
-        ),
-    ] {
-        for (job, digest) in [
-            (sign_job(alloc, key, b"", b"Hello", None)?, hello),
-            (
-                sign_job(alloc, key, &context, b"", Some(&[0x5a; 16]))?,
-                with_context,
-            ),
-            (sign_job(alloc, key, &[0], &message, None)?, with_message),
-        ] {
-            let bytes = signature(alloc, Set::Sha2_128f, &job).map_err(|_| "refused")?;
-            assert_eq!(rt; bytes.len(), 17088);
-            let expected = decoded(alloc, digest)?;
-            assert_eq!(rt;
-                Hash::hash(bytes.as_slice()).as_slice(),
-                expected.as_slice()
-            );
-        }
-    }
+    message
+}
+
+fn signs_as(rt: &impl Abort, alloc: Global, job: &Job, hash: &[u8]) -> Result<(), Fail> {
+    let bytes = signature(alloc, Set::Sha2_128f, job).map_err(|_| "refused")?;
+    assert_eq!(rt; bytes.len(), 17088);
+    let wanted = decoded(alloc, hash)?;
+    assert_eq!(rt; Hash::hash(bytes.as_slice()).as_slice(), wanted.as_slice());
     Ok(())
+}
+
+fn signs_as_known(rt: &impl Abort, alloc: Global, known: &Known) -> Result<(), Fail> {
+    let job = sign_job(alloc, known.key, b"", b"Hello", None)?;
+    signs_as(rt, alloc, &job, known.hello)?;
+    let job = sign_job(alloc, known.key, &long_context(), b"", Some(&[0x5a; 16]))?;
+    signs_as(rt, alloc, &job, known.with_context)?;
+    let job = sign_job(alloc, known.key, &[0], &long_message(), None)?;
+    signs_as(rt, alloc, &job, known.with_message)
+}
+
+#[test]
+fn signatures_of_key_of_equal_bytes(rt: HostRuntime) -> Result<(), Fail> {
+    let known = Known {
+        key: b"0101010101010101010101010101010102020202020202020202020202020202030303030303030303030303030303034052e0733e69e78739d6e67c77f9a37d",
+        hello: b"2349cc54f79b5c1b7d51f2352cf6872bb947ebeb165d1c9f808e7e5a6163df44",
+        with_context: b"88372b0e94ab443d6330e1714b123127c756b68b4a59fa6262f346b0b90b9322",
+        with_message: b"9ee10ab7de0a5a1d5d5f12fdf5cd6e0f9a9cd9137cdc53b013082b7eb3bf5986",
+    };
+    signs_as_known(&rt, rt.alloc(), &known)
+}
+
+#[test]
+fn signatures_of_key_of_counted_bytes(rt: HostRuntime) -> Result<(), Fail> {
+    let known = Known {
+        key: b"000102030405060708090a0b0c0d0e0f101112131415161718191a1b1c1d1e1f202122232425262728292a2b2c2d2e2f3b56e816847f000386aeec2e2bb9e1b5",
+        hello: b"ae8a4bd2ed8f1ec5d36c86404b7637d9439db36dd5928212581350cd49a46445",
+        with_context: b"b83f5551c5a8b0512673b20c27a6115cf332ce891d63127a20fe13cc6d703d05",
+        with_message: b"c2753bab42c8e953a74072c56ffd886d53f57682aeb12a1c2f131ab7ad262dc3",
+    };
+    signs_as_known(&rt, rt.alloc(), &known)
+}
+
+#[test]
+fn signatures_of_key_of_random_bytes(rt: HostRuntime) -> Result<(), Fail> {
+    let known = Known {
+        key: b"973373512707b4fab279400ef556d06c96c89d55d2266ee9da0180dd4f4764f5a1d65f776ff700af7443ead43e65a8427ea4fb90daa95fb3f242e0ad8b026ee4",
+        hello: b"e5baf64a674b88dac3e0a922107d092136f4c4f761780b18529e9f4d39af2307",
+        with_context: b"ae6435288238613dac2bf2440737f03a303980280c028b3748860f31c6e1aae3",
+        with_message: b"46ad158b11ad5cc54dad9dcb223a44072b48910f28f76fc6e97c419f974a7a6f",
+    };
+    signs_as_known(&rt, rt.alloc(), &known)
 }
 
 const SMALL_KEY: &[u8] =
