@@ -1,3 +1,1 @@
 mod Kept
-pub mod Audits
-pub mod Digits

@@ -4,7 +4,6 @@
 //! program and the engine for lines are those of `line_serve`, handed on by name.
 #![tactic(auto)]
 
-mod evidence;
 mod job;
 mod judge;
 mod program;
@@ -24,4 +23,3 @@ pub use line_serve::{
 };
 pub use program::serve;
 pub use set::Set;
-pub use slh_audit::{Evidence, Verdict};
