@@ -1,3 +1,0 @@
-pub mod Evidence
-pub mod Places
-pub mod Verdicts
