@@ -1,0 +1,14 @@
+pub mod Meaning
+pub mod Nearby
+pub mod Pieces
+pub mod Descent
+pub mod LayerDescent
+pub mod ForestDescent
+pub mod LayersDescent
+pub mod OwnBytes
+pub mod Binding
+pub mod Told
+pub mod Shown
+pub mod Finding
+pub mod Judging
+pub mod Order

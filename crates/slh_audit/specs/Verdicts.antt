@@ -1,0 +1,78 @@
+-- What an audit answers, and the test of evidence. Z is the scheme, key a signing key.
+use Rattle.std.specs.Prelude.{ℕ, ◌*◌, ◌^◌, ◌==◌, nat_lt, Bool, if◌then◌else◌, List, length, take}
+use Rattle.std.specs.Prelude.{Option, None, Some, Result, Ok, Err}
+use Rattle.std.specs.Str.{bytes_eq}
+use Rattle.slh_audit.specs.declared.evidence.AuditError.{AuditError}
+use Rattle.slh_audit.specs.declared.evidence.AuditError.TheVariants.{Length, ContextTooLong}
+use Rattle.slh_audit.specs.declared.evidence.AuditError.TheVariants.{MessageTooLong, KeyMismatch}
+use Rattle.slh_audit.specs.declared.evidence.AuditError.TheVariants.{Invalid}
+use Rattle.slh_audit.specs.declared.evidence.Evidence.{Evidence}
+use Rattle.slh_audit.specs.declared.evidence.Verdict.{Verdict}
+use Rattle.slh_audit.specs.declared.evidence.Verdict.TheVariants.{Genuine, Foreign}
+use Rattle.slh_audit.specs.Evidence.{dispute, dispute_of, shows}
+use Rattle.slh_audit.specs.Places.{first_evidence}
+use Rattle.slh_core.specs.Bytes.{part}
+use Rattle.slh_core.specs.Parameters.{Scheme}
+use Rattle.slh_trees.specs.Checking.{checked_root, signature_size}
+use Rattle.slh_trees.specs.Frame.{frame}
+use Rattle.slh_trees.specs.Keys.{top_root}
+use Rattle.slh_trees.specs.Signing.{digest_signature}
+
+-- the first refusal by size, where there is one
+abbrev pub size_refusal : Scheme → List ℕ → List ℕ → List ℕ → List ℕ → Option AuditError
+size_refusal Z key context message sig =
+    if length key == 4 * Z.n then
+    if length sig == signature_size Z then
+    if nat_lt 255 (length context) then Some ContextTooLong else
+    if nat_lt (2 ^ 60) (length message) then Some MessageTooLong else None
+    else Some Length
+    else Some Length
+
+-- by the first evidence. Where there is none, accepted bytes are those that the key makes: that is
+-- the law of binding
+abbrev pub foreign_by : Option Evidence → Verdict
+foreign_by None = Genuine
+foreign_by (Some e) = Foreign e
+
+-- for accepted bytes: `Genuine` where the key makes them with their own randomizer, else `Foreign`
+-- of the first evidence that shows. For a digest, a public seed s and a secret seed sk
+abbrev pub digest_verdict : Scheme → List ℕ → List ℕ → List ℕ → List ℕ → Verdict
+digest_verdict Z s sk digest sig =
+    if bytes_eq sig (digest_signature Z s sk (take Z.n sig) digest)
+    then Genuine
+    else foreign_by (first_evidence (dispute Z s sk digest sig))
+
+-- for a signing key and a message
+abbrev pub verdict : Scheme → List ℕ → List ℕ → List ℕ → Verdict
+verdict Z key message sig =
+    let s = part Z.n key 2 in
+    let digest = Z.suite.h_msg (take Z.n sig) s (part Z.n key 3) message in
+    digest_verdict Z s (part Z.n key 0) digest sig
+
+-- `KeyMismatch` where the key's root isn't that of its seeds,
+-- `Invalid` where the bytes don't lead to it
+unfoldable pub message_audit : Scheme → List ℕ → List ℕ → List ℕ → Result Verdict AuditError
+message_audit Z key message sig =
+    let s = part Z.n key 2 in
+    let root = part Z.n key 3 in
+    if bytes_eq root (top_root Z s (part Z.n key 0)) then
+    if bytes_eq (checked_root Z s root message sig) root then Ok (verdict Z key message sig)
+    else Err Invalid
+    else Err KeyMismatch
+
+-- an answer, unless there is a refusal
+abbrev pub unless_refused : {T : Type 0} → Option AuditError → Result T AuditError
+    → Result T AuditError
+unless_refused None answer = answer
+unless_refused (Some refusal) answer = Err refusal
+
+abbrev pub audit_answer : Scheme → List ℕ → List ℕ → List ℕ → List ℕ → Result Verdict AuditError
+audit_answer Z key context message sig =
+    unless_refused (size_refusal Z key context message sig)
+    (message_audit Z key (frame context message) sig)
+
+abbrev pub check_answer : Scheme → List ℕ → List ℕ → List ℕ → List ℕ → Evidence
+    → Result Bool AuditError
+check_answer Z key context message sig e =
+    unless_refused (size_refusal Z key context message sig)
+    (Ok (shows (dispute_of Z key (frame context message) sig) e))

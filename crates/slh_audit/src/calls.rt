@@ -1,0 +1,264 @@
+//! Audits: whether a key made the bytes that lead to its root.
+ghost use Rattle.std.specs.Prelude.{◌≡◌, ◌≤◌, ◌*◌, ◌+◌, ◌++◌, length, take, drop, slice_range};
+ghost use Rattle.slh_audit.specs.Evidence.{dispute, dispute_of, shows};
+ghost use Rattle.slh_audit.specs.Verdicts.{audit_answer, check_answer, message_audit};
+ghost use Rattle.slh_audit.specs.Verdicts.{digest_verdict as spec_digest_verdict};
+ghost use Rattle.slh_audit.specs.Verdicts.{foreign_by as spec_foreign_by};
+ghost use Rattle.slh_core.specs.Bytes.{part};
+ghost use Rattle.slh_core.specs.Steps.{IsFresh};
+ghost use Rattle.slh_trees.specs.Checking.{forest_size, signature_size};
+ghost use Rattle.slh_trees.specs.Keys.{top_root as spec_top_root};
+ghost use Rattle.slh_trees.specs.MessageDigest.{split_digest as spec_split_digest};
+
+use crate::dispute::Dispute;
+use crate::evidence::{AuditError, Evidence, Verdict};
+use crate::layer::same;
+use crate::sizes::{check_sizes, frame_head};
+use hybrid_array::ArraySize;
+use slh_core::address::WotsHash;
+use slh_core::nbytes::NBytes;
+use slh_core::params::{ForsParams, MAX_DIGEST_LEN, MAX_MESSAGE_LEN, forest_sizes, layer_sizes};
+use slh_core::parts::part_of;
+use slh_core::steps::Steps;
+use slh_trees::xmss::xmss_node;
+use slh_trees::{check_root, split_digest};
+use std::marker::Brand;
+use std::sync::ledger::{Blank, Ledger};
+
+/// Sets the seeds of a key and the bytes of a signature against each other, for a digest.
+fn set_against<'a, P: ForsParams>(
+    sk_seed: &NBytes<P::N>,
+    pk_seed: &NBytes<P::N>,
+    digest: &'a [u8],
+    sig: &'a [u8],
+) -> Dispute<'a, P>
+    requires digest { length digest.now ≡ P.M.USIZE }
+    requires whole { length sig.now ≡ signature_size P.scheme }
+    ensures { let upper = P.N.USIZE + forest_size P.N.USIZE P.K.USIZE P.A.USIZE in
+        let parts = spec_split_digest P.scheme digest.now in
+        result ≡ record {
+          seed = pk_seed.now;
+          sk = sk_seed.now;
+          t = parts.tree;
+          l = parts.leaf;
+          md = parts.md;
+          forest = slice_range sig.now P.N.USIZE upper;
+          layers = drop upper sig.now;
+        } }
+{
+    layer_sizes::<P>();
+    forest_sizes::<P>();
+    let n = P::N::USIZE;
+    let upper = n + P::K::USIZE * ((1 + P::A::USIZE) * n);
+    let (md, tree, leaf) = split_digest::<P>(digest);
+    Dispute {
+        sk_seed: sk_seed.copy(),
+        pk_seed: pk_seed.copy(),
+        keyed: P::keyed(pk_seed),
+        tree,
+        leaf,
+        md,
+        forest: &sig[n..upper],
+        layers: &sig[upper..],
+    }
+}
+
+/// The verdict by the first evidence.
+fn foreign_by(found: Option<Evidence>) -> Verdict
+    ensures { result ≡ spec_foreign_by found }
+{
+    match found {
+        Some(evidence) => Verdict::Foreign(evidence),
+        None => Verdict::Genuine,
+    }
+}
+
+/// The verdict on accepted bytes, for a digest. It searches for evidence only where the bytes
+/// aren't those that the key makes.
+fn digest_verdict<P: ForsParams, L: Ledger>(
+    sk_seed: &NBytes<P::N>,
+    pk_seed: &NBytes<P::N>,
+    digest: &[u8],
+    sig: &[u8],
+    steps: &mut Steps<L>,
+) -> Verdict
+    requires digest { length digest.now ≡ P.M.USIZE }
+    requires whole { length sig.now ≡ signature_size P.scheme }
+    ensures { result ≡ spec_digest_verdict P.scheme pk_seed.now sk_seed.now digest.now sig.now }
+{
+    let dispute = set_against::<P>(sk_seed, pk_seed, digest, sig);
+    if dispute.is_made::<L>(steps) {
+        return Verdict::Genuine;
+    }
+    foreign_by(dispute.first_evidence::<L>(steps))
+}
+
+/// Whether evidence shows, for a digest.
+fn digest_shows<P: ForsParams, L: Ledger>(
+    sk_seed: &NBytes<P::N>,
+    pk_seed: &NBytes<P::N>,
+    digest: &[u8],
+    sig: &[u8],
+    evidence: Evidence,
+    steps: &mut Steps<L>,
+) -> bool
+    requires digest { length digest.now ≡ P.M.USIZE }
+    requires whole { length sig.now ≡ signature_size P.scheme }
+    ensures { let D = dispute P.scheme pk_seed.now sk_seed.now digest.now sig.now in
+        result ≡ shows D evidence }
+{
+    let dispute = set_against::<P>(sk_seed, pk_seed, digest, sig);
+    dispute.shows::<L>(evidence, steps)
+}
+
+/// The root of the top tree of a key's seeds.
+#[tactic(auto, unfolding(slh_trees::specs::Keys::top_root))]
+fn top_root<P: ForsParams, L: Ledger>(
+    sk_seed: &NBytes<P::N>,
+    pk_seed: &NBytes<P::N>,
+    steps: &mut Steps<L>,
+) -> NBytes<P::N>
+    ensures { result ≡ spec_top_root P.scheme pk_seed.now sk_seed.now }
+{
+    layer_sizes::<P>();
+    let keyed = P::keyed(pk_seed);
+    let top = WotsHash {
+        layer_adrs: P::D::USIZE as u32 - 1,
+        ..WotsHash::default()
+    };
+    xmss_node::<P, L>(sk_seed, 0, P::HPrime::USIZE as u32, &keyed, &top, steps)
+}
+
+/// Writes the digest of the message that the three slices joined are, by the key and by the
+/// signature's own randomizer.
+fn write_digest<P: ForsParams>(
+    key: &[u8],
+    head: &[u8],
+    ctx: &[u8],
+    msg: &[u8],
+    sig: &[u8],
+    out: &mut [u8],
+)
+    requires key { length key.now ≡ 4 * P.N.USIZE }
+    requires message { length head.now + length ctx.now + length msg.now ≤ MAX_MESSAGE_LEN }
+    requires whole { length sig.now ≡ signature_size P.scheme }
+    requires room { length out.old ≡ P.M.USIZE }
+    ensures { let Z = P.scheme in
+        let message = head.now ++ ctx.now ++ msg.now in
+        let rand = take Z.n sig.now in
+        out.new ≡ Z.suite.h_msg rand (part Z.n key.now 2) (part Z.n key.now 3) message }
+{
+    forest_sizes::<P>();
+    let rand = NBytes::<P::N>::exact(&sig[..P::N::USIZE]);
+    let pk_seed = part_of::<P::N>(key, 2);
+    let pk_root = part_of::<P::N>(key, 3);
+    P::h_msg(&rand, &pk_seed, &pk_root, head, ctx, msg, out);
+}
+
+/// The audit of the bytes of a signature of the message that the three slices joined are.
+#[tactic(auto, unfolding(crate::specs::Verdicts::message_audit))]
+fn audit_message<P: ForsParams, L: Ledger>(
+    key: &[u8],
+    head: &[u8],
+    ctx: &[u8],
+    msg: &[u8],
+    sig: &[u8],
+    blank: Blank,
+) -> Result<Verdict, AuditError>
+    requires fresh { IsFresh blank L.name L.parts }
+    requires key { length key.now ≡ 4 * P.N.USIZE }
+    requires message { length head.now + length ctx.now + length msg.now ≤ MAX_MESSAGE_LEN }
+    requires whole { length sig.now ≡ signature_size P.scheme }
+    ensures { let message = head.now ++ ctx.now ++ msg.now in
+        result ≡ message_audit P.scheme key.now message sig.now }
+{
+    forest_sizes::<P>();
+    let mut steps = Steps::<L>::new(blank);
+    let sk_seed = part_of::<P::N>(key, 0);
+    let pk_seed = part_of::<P::N>(key, 2);
+    let pk_root = part_of::<P::N>(key, 3);
+    let own = top_root::<P, L>(&sk_seed, &pk_seed, &mut steps);
+    if !same(pk_root.as_slice(), own.as_slice()) {
+        return Err(AuditError::KeyMismatch);
+    }
+    let root = check_root::<P, L>(&pk_seed, &pk_root, head, ctx, msg, sig, &mut steps);
+    if !same(root.as_slice(), pk_root.as_slice()) {
+        return Err(AuditError::Invalid);
+    }
+    let mut store = [0u8; MAX_DIGEST_LEN];
+    let digest = &mut store[..P::M::USIZE];
+    write_digest::<P>(key, head, ctx, msg, sig, digest);
+    Ok(digest_verdict::<P, L>(&sk_seed, &pk_seed, digest, sig, &mut steps))
+}
+
+/// Whether evidence shows against the bytes of a signature of the message that the three slices
+/// joined are.
+fn check_message<P: ForsParams, L: Ledger>(
+    key: &[u8],
+    head: &[u8],
+    ctx: &[u8],
+    msg: &[u8],
+    sig: &[u8],
+    evidence: Evidence,
+    blank: Blank,
+) -> bool
+    requires fresh { IsFresh blank L.name L.parts }
+    requires key { length key.now ≡ 4 * P.N.USIZE }
+    requires message { length head.now + length ctx.now + length msg.now ≤ MAX_MESSAGE_LEN }
+    requires whole { length sig.now ≡ signature_size P.scheme }
+    ensures { let message = head.now ++ ctx.now ++ msg.now in
+        result ≡ shows (dispute_of P.scheme key.now message sig.now) evidence }
+{
+    forest_sizes::<P>();
+    let mut steps = Steps::<L>::new(blank);
+    let sk_seed = part_of::<P::N>(key, 0);
+    let pk_seed = part_of::<P::N>(key, 2);
+    let mut store = [0u8; MAX_DIGEST_LEN];
+    let digest = &mut store[..P::M::USIZE];
+    write_digest::<P>(key, head, ctx, msg, sig, digest);
+    digest_shows::<P, L>(&sk_seed, &pk_seed, digest, sig, evidence, &mut steps)
+}
+
+/// Audits the bytes of a signature of a message with a context, by the signing key of 4n bytes
+/// whose holder is said to have made it. `Length`: the key or the signature has a wrong number of bytes;
+/// `ContextTooLong`, `MessageTooLong`; `KeyMismatch`: the key's root isn't that of its seeds;
+/// `Invalid`: the key doesn't accept the bytes. Bytes that the key makes cost about as much as
+/// signing and verifying, others about ten times that.
+pub fn audit<P: ForsParams>(
+    key: &[u8],
+    ctx: &[u8],
+    msg: &[u8],
+    sig: &[u8],
+) -> Result<Verdict, AuditError>
+    ensures { result ≡ audit_answer P.scheme key.now ctx.now msg.now sig.now }
+{
+    match check_sizes::<P>(key, ctx, msg, sig) {
+        Ok(()) => {
+            let head = frame_head(ctx);
+            audit_message::<P, Brand>(key, &head, ctx, msg, sig, Blank::new(1))
+        }
+        Err(refusal) => Err(refusal),
+    }
+}
+
+/// Whether evidence shows against the bytes of a signature, of any key and whether they are
+/// accepted or not. `Length`, `ContextTooLong`, `MessageTooLong` as in `audit`. Numbers of a place
+/// that isn't there give false.
+pub fn check_evidence<P: ForsParams>(
+    key: &[u8],
+    ctx: &[u8],
+    msg: &[u8],
+    sig: &[u8],
+    evidence: &Evidence,
+) -> Result<bool, AuditError>
+    ensures { result ≡ check_answer P.scheme key.now ctx.now msg.now sig.now evidence.now }
+{
+    match check_sizes::<P>(key, ctx, msg, sig) {
+        Ok(()) => {
+            let head = frame_head(ctx);
+            let place = *evidence;
+            Ok(check_message::<P, Brand>(key, &head, ctx, msg, sig, place, Blank::new(1)))
+        }
+        Err(refusal) => Err(refusal),
+    }
+}

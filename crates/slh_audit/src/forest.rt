@@ -1,0 +1,199 @@
+//! Whether evidence of the forest shows.
+ghost use Rattle.std.specs.Prelude.{◌≡◌, ◌↔◌, ◌+◌, ◌-◌, ◌*◌, ◌/◌, ◌^◌, ◌<◌, ◌≤◌, length, take};
+ghost use Rattle.std.specs.Prelude.{drop, slice_index, IsTrue};
+ghost use Rattle.slh_audit.specs.Evidence.{fors_node_shows as spec_fors_node_shows};
+ghost use Rattle.slh_audit.specs.Evidence.{fors_roots_show as spec_fors_roots_show};
+ghost use Rattle.slh_audit.specs.Evidence.{fors_secret_shows as spec_fors_secret_shows};
+ghost use Rattle.slh_core.specs.Bytes.{joined, part};
+ghost use Rattle.slh_core.specs.Digits.{digits};
+ghost use Rattle.slh_trees.specs.Checking.{checked_fors_node};
+ghost use Rattle.slh_trees.specs.Fors.{fors_leaf, fors_node as spec_fors_node, leaf_index};
+
+use crate::layer::{collide, nodes_collide};
+use hybrid_array::ArraySize;
+use slh_core::address::ForsTree;
+use slh_core::digits::base_2b;
+use slh_core::nbytes::NBytes;
+use slh_core::params::{ForsParams, MAX_FORS_TREES, MAX_ROOTS_LEN, forest_sizes};
+use slh_core::parts::part_of;
+use slh_core::steps::Steps;
+use slh_trees::climb::climb_path;
+use slh_trees::fors::{climb_all, fors_node, fors_sk_gen, index_of, opened_len};
+use slh_trees::node::{NodeAddress, sibling};
+use std::sync::ledger::Ledger;
+
+/// The index of the leaf that the digest names in a tree.
+fn named_leaf<P: ForsParams>(md: &[u8], tree: u32) -> u32
+    requires tree { tree < P.K.USIZE }
+    requires digest { length md.now ≡ P.MD.USIZE }
+    ensures value { result ≡ leaf_index P.A.USIZE (digits md.now P.A.USIZE P.K.USIZE) tree }
+    ensures below { result < P.K.USIZE * 2 ^ P.A.USIZE }
+{
+    forest_sizes::<P>();
+    let k = P::K::USIZE;
+    let mut digits = [0u16; MAX_FORS_TREES];
+    base_2b(md, P::A::USIZE as u32, &mut digits[..k]);
+    index_of::<P>(tree as usize, digits[tree as usize])
+}
+
+/// The secret that is opened in a tree and the siblings, in the forest's part of a signature.
+fn opened_parts<P: ForsParams>(sig: &[u8], tree: usize) -> (&[u8], &[u8])
+    requires tree { tree < P.K.USIZE }
+    requires whole { length sig.now ≡ P.K.USIZE * ((1 + P.A.USIZE) * P.N.USIZE) }
+    ensures secret { result.0.now ≡ take P.N.USIZE (part ((1 + P.A.USIZE) * P.N.USIZE) sig.now tree) }
+    ensures path { result.1.now ≡ drop P.N.USIZE (part ((1 + P.A.USIZE) * P.N.USIZE) sig.now tree) }
+    ensures secret_len { length result.0.now ≡ P.N.USIZE }
+    ensures path_len { length result.1.now ≡ P.A.USIZE * P.N.USIZE }
+{
+    forest_sizes::<P>();
+    let size = opened_len::<P>();
+    sig[tree * size..(tree + 1) * size].split_at(P::N::USIZE)
+}
+
+/// The leaf of the key's own forest with an index.
+#[tactic(auto, unfolding(slh_trees::specs::Merkle::merkle))]
+fn own_leaf<P: ForsParams, L: Ledger>(
+    sk_seed: &NBytes<P::N>,
+    keyed: &P::Keyed,
+    adrs: &ForsTree,
+    y: u32,
+    steps: &mut Steps<L>,
+) -> NBytes<P::N>
+    requires { y < P.K.USIZE * 2 ^ P.A.USIZE }
+    ensures { let K = P.keyed_suite keyed.now in
+        let a = adrs.now in
+        result ≡ fors_leaf K sk_seed.now a.tree_adrs_low a.key_pair_adrs y }
+{
+    fors_node::<P, L>(sk_seed, y, 0, keyed, adrs, steps)
+}
+
+/// Whether the secret that is opened in a tree shows.
+#[tactic(auto, unfolding(crate::specs::Evidence::fors_secret_shows, slh_trees::specs::Checking::checked_fors_node, slh_trees::specs::Merkle::climb))]
+pub(crate) fn fors_secret_shows<P: ForsParams, L: Ledger>(
+    sk_seed: &NBytes<P::N>,
+    keyed: &P::Keyed,
+    adrs: &ForsTree,
+    sig: &[u8],
+    md: &[u8],
+    tree: u32,
+    steps: &mut Steps<L>,
+) -> bool
+    requires tree { tree < P.K.USIZE }
+    requires digest { length md.now ≡ P.MD.USIZE }
+    requires whole { length sig.now ≡ P.K.USIZE * ((1 + P.A.USIZE) * P.N.USIZE) }
+    ensures { let K = P.keyed_suite keyed.now in
+        let a = P.A.USIZE in
+        let x = digits md.now a P.K.USIZE in
+        result ≡ spec_fors_secret_shows K sk_seed.now
+        adrs.now.tree_adrs_low adrs.now.key_pair_adrs a sig.now x tree }
+{
+    forest_sizes::<P>();
+    let y = named_leaf::<P>(md, tree);
+    let (first, _) = opened_parts::<P>(sig, tree as usize);
+    let secret = NBytes::<P::N>::exact(first);
+    let leaf = P::f(keyed, &adrs.at_node(0, y), &secret, steps);
+    let own = fors_sk_gen::<P, L>(sk_seed, keyed, adrs, y, steps);
+    let own_leaf = own_leaf::<P, L>(sk_seed, keyed, adrs, y, steps);
+    collide(
+        secret.as_slice(),
+        own.as_slice(),
+        leaf.as_slice(),
+        own_leaf.as_slice(),
+    )
+}
+
+/// Whether the node at a height on the way up in a tree shows.
+pub(crate) fn fors_node_shows<P: ForsParams, L: Ledger>(
+    sk_seed: &NBytes<P::N>,
+    keyed: &P::Keyed,
+    adrs: &ForsTree,
+    sig: &[u8],
+    md: &[u8],
+    tree: u32,
+    height: u32,
+    steps: &mut Steps<L>,
+) -> bool
+    requires tree { tree < P.K.USIZE }
+    requires low { 1 ≤ height }
+    requires high { height ≤ P.A.USIZE }
+    requires digest { length md.now ≡ P.MD.USIZE }
+    requires whole { length sig.now ≡ P.K.USIZE * ((1 + P.A.USIZE) * P.N.USIZE) }
+    ensures { let K = P.keyed_suite keyed.now in
+        let a = P.A.USIZE in
+        let x = digits md.now a P.K.USIZE in
+        result ≡ spec_fors_node_shows K sk_seed.now
+        adrs.now.tree_adrs_low adrs.now.key_pair_adrs a sig.now x tree height }
+{
+    forest_sizes::<P>();
+    let y = named_leaf::<P>(md, tree);
+    let (first, path) = opened_parts::<P>(sig, tree as usize);
+    let secret = NBytes::<P::N>::exact(first);
+    let leaf = P::f(keyed, &adrs.at_node(0, y), &secret, steps);
+    let z = height - 1;
+    let below = climb_path::<P, ForsTree, L>(&leaf, y, z as usize, path, keyed, adrs, steps);
+    let beside = part_of::<P::N>(path, z as usize);
+    let node = climb_path::<P, ForsTree, L>(&leaf, y, height as usize, path, keyed, adrs, steps);
+    let own_below = fors_node::<P, L>(sk_seed, y >> z, z, keyed, adrs, steps);
+    let own_beside = fors_node::<P, L>(sk_seed, sibling(y >> z), z, keyed, adrs, steps);
+    let own_node = fors_node::<P, L>(sk_seed, y >> height, height, keyed, adrs, steps);
+    nodes_collide(&below, &own_below, &beside, &own_beside, &node, &own_node)
+}
+
+/// Writes the roots that the forest's part of a signature leads to.
+fn checked_roots<P: ForsParams, L: Ledger>(
+    keyed: &P::Keyed,
+    adrs: &ForsTree,
+    sig: &[u8],
+    md: &[u8],
+    out: &mut [u8],
+    steps: &mut Steps<L>,
+)
+    requires digest { length md.now ≡ P.MD.USIZE }
+    requires whole { length sig.now ≡ P.K.USIZE * ((1 + P.A.USIZE) * P.N.USIZE) }
+    requires room { length out.old ≡ P.K.USIZE * P.N.USIZE }
+    ensures { let K = P.keyed_suite keyed.now in
+        let t = adrs.now.tree_adrs_low in
+        let l = adrs.now.key_pair_adrs in
+        let a = P.A.USIZE in
+        let x = digits md.now a P.K.USIZE in
+        out.new ≡ joined (λ i. checked_fors_node K t l a sig.now x i a) P.K.USIZE }
+{
+    forest_sizes::<P>();
+    let k = P::K::USIZE;
+    let mut digits = [0u16; MAX_FORS_TREES];
+    base_2b(md, P::A::USIZE as u32, &mut digits[..k]);
+    climb_all::<P, L>(&digits[..k], sig, keyed, adrs, out, steps);
+}
+
+/// Whether the roots of the forest show, beside those of the key's own.
+#[tactic(auto, unfolding(crate::specs::Evidence::fors_roots_show, slh_trees::specs::Checking::fors_pk_from_sig, slh_trees::specs::Fors::fors_pk))]
+pub(crate) fn fors_roots_show<P: ForsParams, L: Ledger>(
+    sk_seed: &NBytes<P::N>,
+    keyed: &P::Keyed,
+    adrs: &ForsTree,
+    sig: &[u8],
+    md: &[u8],
+    own: &[u8],
+    steps: &mut Steps<L>,
+) -> bool
+    requires digest { length md.now ≡ P.MD.USIZE }
+    requires whole { length sig.now ≡ P.K.USIZE * ((1 + P.A.USIZE) * P.N.USIZE) }
+    requires own { let K = P.keyed_suite keyed.now in
+        let t = adrs.now.tree_adrs_low in
+        let l = adrs.now.key_pair_adrs in
+        own.now ≡ joined (λ i. spec_fors_node K sk_seed.now t l P.A.USIZE i) P.K.USIZE }
+    requires own_len { length own.now ≡ P.K.USIZE * P.N.USIZE }
+    ensures { let K = P.keyed_suite keyed.now in
+        let a = P.A.USIZE in
+        let x = digits md.now a P.K.USIZE in
+        result ≡ spec_fors_roots_show K sk_seed.now
+        adrs.now.tree_adrs_low adrs.now.key_pair_adrs a sig.now x P.K.USIZE md.now }
+{
+    forest_sizes::<P>();
+    let len = P::K::USIZE * P::N::USIZE;
+    let mut roots = [0u8; MAX_ROOTS_LEN];
+    checked_roots::<P, L>(keyed, adrs, sig, md, &mut roots[..len], steps);
+    let key = P::t(keyed, &adrs.fors_roots(), &roots[..len], steps);
+    let own_key = P::t(keyed, &adrs.fors_roots(), own, steps);
+    collide(&roots[..len], own, key.as_slice(), own_key.as_slice())
+}

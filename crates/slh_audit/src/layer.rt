@@ -1,0 +1,258 @@
+//! Whether evidence of one layer shows.
+ghost use Rattle.std.specs.Prelude.{take, drop, ◌≡◌, ◌↔◌, ℕ, ◌+◌, ◌-◌, ◌*◌, ◌/◌, ◌^◌, ◌<◌, ◌≤◌};
+ghost use Rattle.std.specs.Prelude.{length, slice_index, IsTrue};
+ghost use Rattle.std.specs.Str.{bytes_eq};
+ghost use Rattle.slh_core.specs.Digits.{wots_digits};
+ghost use Rattle.slh_audit.specs.Evidence.{collide as spec_collide};
+ghost use Rattle.slh_audit.specs.Evidence.{tree_node_shows as spec_tree_node_shows};
+ghost use Rattle.slh_audit.specs.Evidence.{leaf_shows as spec_leaf_shows};
+ghost use Rattle.slh_audit.specs.Evidence.{chain_step_shows as spec_chain_step_shows};
+ghost use Rattle.slh_audit.specs.Evidence.{early_shows as spec_early_shows};
+ghost use Rattle.slh_core.specs.Bytes.{joined};
+ghost use Rattle.slh_core.specs.Wots.{chain_value};
+ghost use Rattle.slh_core.specs.Parameters.{chain_count};
+ghost use Rattle.slh_trees.specs.Hypertree.{layer_size};
+
+use hybrid_array::ArraySize;
+use slh_core::address::{HashTree, WotsHash};
+use slh_core::digits::message_digits;
+use slh_core::nbytes::NBytes;
+use slh_core::params::{MAX_ENDS_LEN, WotsParams, XmssParams, chain_sizes, tree_sizes};
+use slh_core::parts::{part_of, put_part};
+use slh_core::steps::Steps;
+use slh_core::wots::{finish_chains, own_chain, wots_chain, wots_pk_from_sig};
+use slh_trees::climb::climb_path;
+use slh_trees::node::sibling;
+use slh_trees::xmss::xmss_node;
+use std::sync::ledger::Ledger;
+
+/// Whether two byte strings are the same.
+pub(crate) fn same(a: &[u8], b: &[u8]) -> bool
+    ensures { result ≡ bytes_eq a.now b.now }
+{
+    a == b
+}
+
+/// Whether two inputs differ and two outputs are equal.
+pub(crate) fn collide(input: &[u8], own_input: &[u8], output: &[u8], own_output: &[u8]) -> bool
+    ensures { result ≡ spec_collide input.now own_input.now output.now own_output.now }
+{
+    input != own_input && output == own_output
+}
+
+/// Whether a node's children aren't both the key's own, and the node is.
+pub(crate) fn nodes_collide<N: ArraySize>(
+    below: &NBytes<N>,
+    own_below: &NBytes<N>,
+    beside: &NBytes<N>,
+    own_beside: &NBytes<N>,
+    node: &NBytes<N>,
+    own_node: &NBytes<N>,
+) -> bool
+    ensures { IsTrue result ↔ ((¬ ((below.now ≡ own_below.now)
+        × (beside.now ≡ own_beside.now))) × (node.now ≡ own_node.now)) }
+{
+    let same = below.as_slice() == own_below.as_slice()
+        && beside.as_slice() == own_beside.as_slice();
+    !same && node.as_slice() == own_node.as_slice()
+}
+
+/// The values of the chains and the siblings, in a layer's part of a signature.
+pub(crate) fn layer_parts<P: XmssParams>(sig: &[u8]) -> (&[u8], &[u8])
+    requires { length sig.now ≡ layer_size P.N.USIZE P.HPrime.USIZE }
+    ensures chains { result.0.now ≡ take (chain_count P.N.USIZE * P.N.USIZE) sig.now }
+    ensures path { result.1.now ≡ drop (chain_count P.N.USIZE * P.N.USIZE) sig.now }
+    ensures chains_len { length result.0.now ≡ P.WotsSigLen.USIZE * P.N.USIZE }
+    ensures path_len { length result.1.now ≡ P.HPrime.USIZE * P.N.USIZE }
+{
+    tree_sizes::<P>();
+    sig.split_at(P::WotsSigLen::USIZE * P::N::USIZE)
+}
+
+/// Whether the node at a height on the way up shows.
+pub(crate) fn tree_node_shows<P: XmssParams, L: Ledger>(
+    sk_seed: &NBytes<P::N>,
+    keyed: &P::Keyed,
+    adrs: &WotsHash,
+    sig: &[u8],
+    message: &NBytes<P::N>,
+    height: u32,
+    steps: &mut Steps<L>,
+) -> bool
+    requires low { 1 ≤ height }
+    requires high { height ≤ P.HPrime.USIZE }
+    requires leaf { adrs.now.key_pair_adrs < 2 ^ P.HPrime.USIZE }
+    requires whole { length sig.now ≡ layer_size P.N.USIZE P.HPrime.USIZE }
+    ensures { let K = P.keyed_suite keyed.now in
+        let a = adrs.now in
+        result ≡ spec_tree_node_shows K sk_seed.now
+        a.layer_adrs a.tree_adrs_low a.key_pair_adrs sig.now message.now height }
+{
+    tree_sizes::<P>();
+    let (chains, path) = layer_parts::<P>(sig);
+    let leaf = wots_pk_from_sig::<P, L>(chains, message, keyed, adrs, steps);
+    let y = adrs.key_pair_adrs;
+    let z = height - 1;
+    let at = adrs.tree_adrs();
+    let below = climb_path::<P, HashTree, L>(&leaf, y, z as usize, path, keyed, &at, steps);
+    let beside = part_of::<P::N>(path, z as usize);
+    let node = climb_path::<P, HashTree, L>(&leaf, y, height as usize, path, keyed, &at, steps);
+    let own_below = xmss_node::<P, L>(sk_seed, y >> z, z, keyed, adrs, steps);
+    let own_beside = xmss_node::<P, L>(sk_seed, sibling(y >> z), z, keyed, adrs, steps);
+    let own_node = xmss_node::<P, L>(sk_seed, y >> height, height, keyed, adrs, steps);
+    nodes_collide(&below, &own_below, &beside, &own_beside, &node, &own_node)
+}
+
+/// Writes the ends of the key's own chains.
+#[tactic(auto, unfolding(slh_core::specs::Bytes::joined))]
+fn own_ends<P: WotsParams, L: Ledger>(
+    sk_seed: &NBytes<P::N>,
+    keyed: &P::Keyed,
+    adrs: &WotsHash,
+    out: &mut [u8],
+    steps: &mut Steps<L>,
+)
+    requires { length out.old ≡ P.WotsSigLen.USIZE * P.N.USIZE }
+    ensures { let K = P.keyed_suite keyed.now in
+        let sk = sk_seed.now in
+        let a = adrs.now in
+        let j = a.layer_adrs in
+        let t = a.tree_adrs_low in
+        out.new ≡ joined (λ c. chain_value K sk j t a.key_pair_adrs c 15) (chain_count P.N.USIZE) }
+{
+    chain_sizes::<P>();
+    let n = P::N::USIZE;
+    for c in 0..P::WotsSigLen::USIZE {
+        let end = own_chain::<P, L>(sk_seed, keyed, adrs, c as u32, 15, steps);
+        put_part(out, n, c, end.as_slice());
+    }
+}
+
+/// Whether the ends of the chains show.
+#[tactic(auto, using(slh_core::proofs::DigitSteps::wots_digits_below), unfolding(slh_core::specs::Wots::wots_pk_from_sig, slh_core::specs::Wots::wots_pk, crate::specs::Evidence::leaf_shows))]
+pub(crate) fn leaf_shows<P: XmssParams, L: Ledger>(
+    sk_seed: &NBytes<P::N>,
+    keyed: &P::Keyed,
+    adrs: &WotsHash,
+    sig: &[u8],
+    message: &NBytes<P::N>,
+    steps: &mut Steps<L>,
+) -> bool
+    requires { length sig.now ≡ layer_size P.N.USIZE P.HPrime.USIZE }
+    ensures { let K = P.keyed_suite keyed.now in
+        let a = adrs.now in
+        result ≡ spec_leaf_shows K sk_seed.now
+        a.layer_adrs a.tree_adrs_low a.key_pair_adrs sig.now message.now }
+{
+    tree_sizes::<P>();
+    let len = P::WotsSigLen::USIZE;
+    let size = len * P::N::USIZE;
+    let all = message_digits(message);
+    let mut ends = [0u8; MAX_ENDS_LEN];
+    let (chains, _) = layer_parts::<P>(sig);
+    finish_chains::<P, L>(&all[..len], chains, keyed, adrs, &mut ends[..size], steps);
+    let mut own = [0u8; MAX_ENDS_LEN];
+    own_ends::<P, L>(sk_seed, keyed, adrs, &mut own[..size], steps);
+    let leaf = P::t(keyed, &adrs.pk_adrs(), &ends[..size], steps);
+    let own_leaf = P::t(keyed, &adrs.pk_adrs(), &own[..size], steps);
+    collide(
+        &ends[..size],
+        &own[..size],
+        leaf.as_slice(),
+        own_leaf.as_slice(),
+    )
+}
+
+/// The digit of a message that belongs to a chain.
+#[tactic(auto, using(slh_core::proofs::DigitSteps::wots_digits_below))]
+fn digit_of<P: WotsParams>(message: &NBytes<P::N>, chain: u32) -> u32
+    requires { chain < P.WotsSigLen.USIZE }
+    ensures value { result ≡ slice_index (wots_digits P.N.USIZE message.now) chain }
+    ensures below { result < 16 }
+{
+    chain_sizes::<P>();
+    u32::from(message_digits(message)[chain as usize])
+}
+
+/// The address of another chain of the same key pair.
+fn at_chain(adrs: &WotsHash, chain: u32) -> WotsHash
+    ensures { result ≡ record adrs.now { chain_adrs = chain; hash_adrs = 0 } }
+{
+    WotsHash {
+        layer_adrs: adrs.layer_adrs,
+        tree_adrs_low: adrs.tree_adrs_low,
+        key_pair_adrs: adrs.key_pair_adrs,
+        chain_adrs: chain,
+        hash_adrs: 0,
+    }
+}
+
+/// Whether a chain's value before a step shows.
+pub(crate) fn chain_step_shows<P: XmssParams, L: Ledger>(
+    sk_seed: &NBytes<P::N>,
+    keyed: &P::Keyed,
+    adrs: &WotsHash,
+    sig: &[u8],
+    message: &NBytes<P::N>,
+    chain: u32,
+    step: u32,
+    steps: &mut Steps<L>,
+) -> bool
+    requires chain { chain < P.WotsSigLen.USIZE }
+    requires whole { length sig.now ≡ layer_size P.N.USIZE P.HPrime.USIZE }
+    ensures { let K = P.keyed_suite keyed.now in
+        let a = adrs.now in
+        result ≡ spec_chain_step_shows K sk_seed.now
+        a.layer_adrs a.tree_adrs_low a.key_pair_adrs sig.now message.now chain step }
+{
+    tree_sizes::<P>();
+    let digit = digit_of::<P>(message, chain);
+    if step < digit {
+        return false;
+    }
+    if step > 14 {
+        return false;
+    }
+    let (chains, _) = layer_parts::<P>(sig);
+    let value = part_of::<P::N>(chains, chain as usize);
+    let at = at_chain(adrs, chain);
+    let before = wots_chain::<P, L>(&value, digit, step - digit, keyed, &at, steps);
+    let after = wots_chain::<P, L>(&value, digit, step + 1 - digit, keyed, &at, steps);
+    let own_before = own_chain::<P, L>(sk_seed, keyed, adrs, chain, step, steps);
+    let own_after = own_chain::<P, L>(sk_seed, keyed, adrs, chain, step + 1, steps);
+    collide(
+        before.as_slice(),
+        own_before.as_slice(),
+        after.as_slice(),
+        own_after.as_slice(),
+    )
+}
+
+/// Whether a chain is opened earlier than the key opens it for its own message.
+pub(crate) fn early_shows<P: XmssParams, L: Ledger>(
+    sk_seed: &NBytes<P::N>,
+    keyed: &P::Keyed,
+    adrs: &WotsHash,
+    sig: &[u8],
+    message: &NBytes<P::N>,
+    own: &NBytes<P::N>,
+    chain: u32,
+    steps: &mut Steps<L>,
+) -> bool
+    requires chain { chain < P.WotsSigLen.USIZE }
+    requires whole { length sig.now ≡ layer_size P.N.USIZE P.HPrime.USIZE }
+    ensures { let K = P.keyed_suite keyed.now in
+        let a = adrs.now in
+        result ≡ spec_early_shows K sk_seed.now
+        a.layer_adrs a.tree_adrs_low a.key_pair_adrs sig.now message.now own.now chain }
+{
+    tree_sizes::<P>();
+    let digit = digit_of::<P>(message, chain);
+    if digit >= digit_of::<P>(own, chain) {
+        return false;
+    }
+    let (chains, _) = layer_parts::<P>(sig);
+    let value = part_of::<P::N>(chains, chain as usize);
+    let own_value = own_chain::<P, L>(sk_seed, keyed, adrs, chain, digit, steps);
+    same(value.as_slice(), own_value.as_slice())
+}

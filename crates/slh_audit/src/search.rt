@@ -1,0 +1,201 @@
+//! The search for the first evidence that shows.
+ghost use Rattle.std.specs.Prelude.{◌≡◌, ◌<◌};
+ghost use Rattle.std.specs.List.{find};
+ghost use Rattle.slh_audit.specs.Evidence.{shows as spec_shows, checked_at, dispute_on, own_at};
+ghost use Rattle.slh_audit.specs.Places.{in_turn, tree_node_places, chain_places, layer_places};
+ghost use Rattle.slh_audit.specs.Places.{all_layers_places, fors_tree_places, forest_places};
+ghost use Rattle.slh_audit.specs.Places.{first_evidence as spec_first_evidence};
+ghost use Rattle.slh_core.specs.Parameters.{chain_count, scheme_of};
+
+use crate::dispute::Dispute;
+use crate::evidence::Evidence;
+use hybrid_array::ArraySize;
+use slh_core::nbytes::NBytes;
+use slh_core::params::{ForsParams, forest_sizes, layer_sizes};
+use slh_core::steps::Steps;
+use std::sync::ledger::Ledger;
+
+impl<'a, P: ForsParams> Dispute<'a, P> {
+    /// The first node of a layer's tree that shows.
+    pub(crate) fn first_tree_node<L: Ledger>(
+        &self,
+        layer: u32,
+        message: &NBytes<P::N>,
+        steps: &mut Steps<L>,
+    ) -> Option<Evidence>
+        requires layer { layer < P.D.USIZE }
+        requires message { let Z = scheme_of P.suite P.N.USIZE
+            P.HPrime.USIZE P.D.USIZE P.A.USIZE P.K.USIZE in
+            message.now ≡ checked_at (dispute_on Z self.now) layer }
+        ensures { let Z = scheme_of P.suite P.N.USIZE
+            P.HPrime.USIZE P.D.USIZE P.A.USIZE P.K.USIZE in
+            let D = dispute_on Z self.now in
+            result ≡ find (spec_shows D) (tree_node_places D.hp layer) }
+    {
+        layer_sizes::<P>();
+        let top = P::HPrime::USIZE as u32;
+        for down in 0..top {
+            let height = top - down;
+            if self.tree_node_shows::<L>(layer, height, message, steps) {
+                return Some(Evidence::TreeNode { layer, height });
+            }
+        }
+        None
+    }
+
+    /// The first evidence of a chain that shows.
+    fn first_in_chain<L: Ledger>(
+        &self,
+        layer: u32,
+        chain: u32,
+        message: &NBytes<P::N>,
+        own: &NBytes<P::N>,
+        steps: &mut Steps<L>,
+    ) -> Option<Evidence>
+        requires layer { layer < P.D.USIZE }
+        requires chain { chain < P.WotsSigLen.USIZE }
+        requires message { let Z = scheme_of P.suite P.N.USIZE
+            P.HPrime.USIZE P.D.USIZE P.A.USIZE P.K.USIZE in
+            message.now ≡ checked_at (dispute_on Z self.now) layer }
+        requires own { let Z = scheme_of P.suite P.N.USIZE
+            P.HPrime.USIZE P.D.USIZE P.A.USIZE P.K.USIZE in
+            own.now ≡ own_at (dispute_on Z self.now) layer }
+        ensures { let Z = scheme_of P.suite P.N.USIZE
+            P.HPrime.USIZE P.D.USIZE P.A.USIZE P.K.USIZE in
+            let D = dispute_on Z self.now in
+            result ≡ find (spec_shows D) (chain_places layer chain) }
+    {
+        for down in 0..15u32 {
+            let step = 14 - down;
+            if self.chain_step_shows::<L>(layer, chain, step, message, steps) {
+                return Some(Evidence::ChainStep { layer, chain, step });
+            }
+        }
+        if self.early_shows::<L>(layer, chain, message, own, steps) {
+            return Some(Evidence::Early { layer, chain });
+        }
+        None
+    }
+
+    /// The first evidence of a layer's chains that shows.
+    fn first_in_chains<L: Ledger>(
+        &self,
+        layer: u32,
+        message: &NBytes<P::N>,
+        own: &NBytes<P::N>,
+        steps: &mut Steps<L>,
+    ) -> Option<Evidence>
+        requires layer { layer < P.D.USIZE }
+        requires message { let Z = scheme_of P.suite P.N.USIZE
+            P.HPrime.USIZE P.D.USIZE P.A.USIZE P.K.USIZE in
+            message.now ≡ checked_at (dispute_on Z self.now) layer }
+        requires own { let Z = scheme_of P.suite P.N.USIZE
+            P.HPrime.USIZE P.D.USIZE P.A.USIZE P.K.USIZE in
+            own.now ≡ own_at (dispute_on Z self.now) layer }
+        ensures { let Z = scheme_of P.suite P.N.USIZE
+            P.HPrime.USIZE P.D.USIZE P.A.USIZE P.K.USIZE in
+            let D = dispute_on Z self.now in
+            result ≡ find (spec_shows D) (in_turn (chain_places layer) (chain_count D.K.n)) }
+    {
+        layer_sizes::<P>();
+        let len = P::WotsSigLen::USIZE as u32;
+        for chain in 0..len {
+            let found = self.first_in_chain::<L>(layer, chain, message, own, steps);
+            if found.is_some() {
+                return found;
+            }
+        }
+        None
+    }
+
+    /// The first evidence of a layer that shows.
+    fn first_in_layer<L: Ledger>(&self, layer: u32, steps: &mut Steps<L>) -> Option<Evidence>
+        requires layer { layer < P.D.USIZE }
+        ensures { let Z = scheme_of P.suite P.N.USIZE
+            P.HPrime.USIZE P.D.USIZE P.A.USIZE P.K.USIZE in
+            let D = dispute_on Z self.now in
+            result ≡ find (spec_shows D) (layer_places D.hp (chain_count D.K.n) layer) }
+    {
+        let message = self.checked_message::<L>(layer as usize, steps);
+        let found = self.first_tree_node::<L>(layer, &message, steps);
+        if found.is_some() {
+            return found;
+        }
+        if self.leaf_shows::<L>(layer, &message, steps) {
+            return Some(Evidence::Leaf { layer });
+        }
+        let own = self.own_message::<L>(layer as usize, steps);
+        self.first_in_chains::<L>(layer, &message, &own, steps)
+    }
+
+    /// The first evidence of all layers that shows.
+    fn first_in_layers<L: Ledger>(&self, steps: &mut Steps<L>) -> Option<Evidence>
+        ensures { let Z = scheme_of P.suite P.N.USIZE
+            P.HPrime.USIZE P.D.USIZE P.A.USIZE P.K.USIZE in
+            let D = dispute_on Z self.now in
+            result ≡ find (spec_shows D) (all_layers_places D) }
+    {
+        layer_sizes::<P>();
+        let count = P::D::USIZE as u32;
+        for down in 0..count {
+            let found = self.first_in_layer::<L>(count - 1 - down, steps);
+            if found.is_some() {
+                return found;
+            }
+        }
+        None
+    }
+
+    /// The first evidence of a tree of the forest that shows.
+    fn first_in_fors_tree<L: Ledger>(&self, tree: u32, steps: &mut Steps<L>) -> Option<Evidence>
+        requires tree { tree < P.K.USIZE }
+        ensures { let Z = scheme_of P.suite P.N.USIZE
+            P.HPrime.USIZE P.D.USIZE P.A.USIZE P.K.USIZE in
+            let D = dispute_on Z self.now in
+            result ≡ find (spec_shows D) (fors_tree_places D.a tree) }
+    {
+        forest_sizes::<P>();
+        let top = P::A::USIZE as u32;
+        for down in 0..top + 1 {
+            let height = top - down;
+            if self.any_fors_node_shows::<L>(tree, height, steps) {
+                return Some(Evidence::ForsNode { tree, height });
+            }
+        }
+        None
+    }
+
+    /// The first evidence of the forest that shows.
+    fn first_in_forest<L: Ledger>(&self, steps: &mut Steps<L>) -> Option<Evidence>
+        ensures { let Z = scheme_of P.suite P.N.USIZE
+            P.HPrime.USIZE P.D.USIZE P.A.USIZE P.K.USIZE in
+            let D = dispute_on Z self.now in
+            result ≡ find (spec_shows D) (forest_places D.a D.k) }
+    {
+        forest_sizes::<P>();
+        if self.fors_roots_show::<L>(steps) {
+            return Some(Evidence::ForsRoots);
+        }
+        let count = P::K::USIZE as u32;
+        for tree in 0..count {
+            let found = self.first_in_fors_tree::<L>(tree, steps);
+            if found.is_some() {
+                return found;
+            }
+        }
+        None
+    }
+
+    /// The first evidence that shows.
+    pub(crate) fn first_evidence<L: Ledger>(&self, steps: &mut Steps<L>) -> Option<Evidence>
+        ensures { let Z = scheme_of P.suite P.N.USIZE
+            P.HPrime.USIZE P.D.USIZE P.A.USIZE P.K.USIZE in
+            result ≡ spec_first_evidence (dispute_on Z self.now) }
+    {
+        let found = self.first_in_layers::<L>(steps);
+        if found.is_some() {
+            return found;
+        }
+        self.first_in_forest::<L>(steps)
+    }
+}
