@@ -1,1 +1,3 @@
 mod Kept
+pub mod Audits
+pub mod Digits

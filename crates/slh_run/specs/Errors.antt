@@ -1,4 +1,6 @@
--- The refusals of the calls on keys, as refusals of a job.
+-- The refusals of the calls on keys and of audits, as refusals of a job.
+use Rattle.slh_audit.specs.declared.evidence.AuditError.{AuditError}
+use Rattle.slh_audit.specs.declared.evidence.AuditError.TheVariants as audit
 use Rattle.slh_dsa.specs.declared.error.Error.{Error as KeyError}
 use Rattle.slh_dsa.specs.declared.error.Error.TheVariants as key
 use Rattle.slh_run.specs.declared.job.Error.{Error}
@@ -11,3 +13,10 @@ error_of key.RandomizerLength = job.RandomizerLength
 error_of key.MessageTooLong = job.MessageTooLong
 error_of key.Invalid = job.Invalid
 error_of key.Memory = job.Memory
+
+abbrev pub audit_error_of : AuditError → Error
+audit_error_of audit.Length = job.Length
+audit_error_of audit.ContextTooLong = job.ContextTooLong
+audit_error_of audit.MessageTooLong = job.MessageTooLong
+audit_error_of audit.KeyMismatch = job.KeyMismatch
+audit_error_of audit.Invalid = job.Invalid

@@ -7,12 +7,17 @@ use Rattle.slh_trees.specs.Keys.{signing_key_bytes}
 use Rattle.slh_trees.specs.Signing.{signature_of}
 use Rattle.slh_dsa.specs.Calls.{first_refusal, is_valid, keygen_refusal, sign_input_refusal}
 use Rattle.slh_dsa.specs.Calls.{signing_key_refusal, verify_refusal, verifying_key_refusal}
+use Rattle.slh_audit.specs.Evidence.{dispute_of, shows}
+use Rattle.slh_audit.specs.Verdicts.{message_audit}
+use Rattle.slh_audit.specs.declared.evidence.AuditError.{AuditError}
+use Rattle.slh_audit.specs.declared.evidence.Verdict.{Verdict}
 use Rattle.slh_dsa.specs.declared.error.Error.{Error as KeyError}
-use Rattle.slh_run.specs.Errors.{error_of}
+use Rattle.slh_run.specs.Errors.{audit_error_of, error_of}
 use Rattle.slh_run.specs.declared.job.Job.{Job}
-use Rattle.slh_run.specs.declared.job.Job.TheVariants.{Keygen, Sign, Verify}
+use Rattle.slh_run.specs.declared.job.Job.TheVariants.{Keygen, Sign, Verify, Audit, Check}
 use Rattle.slh_run.specs.declared.job.Answer.{Answer}
-use Rattle.slh_run.specs.declared.job.Answer.TheVariants.{Key, Signature, Accepted}
+use Rattle.slh_run.specs.declared.job.Answer.TheVariants.{Key, Signature, Accepted, Shown}
+use Rattle.slh_run.specs.declared.job.Answer.TheVariants.{Verdict as VerdictAnswer}
 use Rattle.slh_run.specs.declared.job.Error.{Error}
 use Rattle.slh_run.specs.declared.job.Error.TheVariants.{Invalid, Memory}
 
@@ -23,6 +28,15 @@ size_refusal Z (Sign key context message randomizer) = first_refusal
     (signing_key_refusal Z key ∷ sign_input_refusal Z context randomizer message ∷ [])
 size_refusal Z (Verify key context message signature) = first_refusal
     (verifying_key_refusal Z key ∷ verify_refusal Z context message signature ∷ [])
+size_refusal Z (Audit key context message signature) = first_refusal
+    (signing_key_refusal Z key ∷ verify_refusal Z context message signature ∷ [])
+size_refusal Z (Check key context message signature evidence) = first_refusal
+    (signing_key_refusal Z key ∷ verify_refusal Z context message signature ∷ [])
+
+-- what an audit says, as an answer to a job
+abbrev pub verdict_answer : Result Verdict AuditError → Result Answer Error
+verdict_answer (Ok verdict) = Ok (VerdictAnswer verdict)
+verdict_answer (Err refusal) = Err (audit_error_of refusal)
 
 -- the answer to a job whose sizes are right
 abbrev pub answer_to : Scheme → Job → Result Answer Error
@@ -31,6 +45,10 @@ answer_to Z (Sign key context message randomizer) =
     Ok (Signature (signature_of Z key randomizer (frame context message)))
 answer_to Z (Verify key context message signature) =
     if is_valid Z key context message signature then Ok Accepted else Err Invalid
+answer_to Z (Audit key context message signature) =
+    verdict_answer (message_audit Z key (frame context message) signature)
+answer_to Z (Check key context message signature evidence) =
+    Ok (Shown (shows (dispute_of Z key (frame context message) signature) evidence))
 
 abbrev pub refused_or : Option KeyError → Result Answer Error → Result Answer Error
 refused_or None answer = answer
@@ -45,6 +63,8 @@ abbrev pub NeedsMemory : Job → Type 0
 NeedsMemory (Keygen sk_seed sk_prf pk_seed) = ⊤
 NeedsMemory (Sign key context message randomizer) = ⊤
 NeedsMemory (Verify key context message signature) = ⊥
+NeedsMemory (Audit key context message signature) = ⊥
+NeedsMemory (Check key context message signature evidence) = ⊥
 
 -- a job whose sizes are right found no memory for its answer's bytes
 abbrev pub RunsOutOfMemory : Scheme → Job → Result Answer Error → Type 0

@@ -1,6 +1,7 @@
 pub mod Sets
 pub mod Judgement
 pub mod Errors
+pub mod EvidenceFields
 pub mod Requests
 pub mod Reply
 pub mod Usage

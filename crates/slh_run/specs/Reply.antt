@@ -1,13 +1,17 @@
 -- The reply to a line (README, "Lines").
 use Rattle.std.specs.Prelude.{◌==◌, ℕ, ◌/◌, List, [], ◌++◌, length, drop, Result, Ok, Err, codes}
-use Rattle.std.specs.Prelude.{if◌then◌else◌}
+use Rattle.std.specs.Prelude.{Bool, if◌then◌else◌}
 use Rattle.hex.specs.Hex.{encode_lower}
 use Rattle.line_serve.specs.Fields.{fields}
+use Rattle.slh_audit.specs.declared.evidence.Verdict.{Verdict}
+use Rattle.slh_audit.specs.declared.evidence.Verdict.TheVariants.{Genuine, Foreign}
+use Rattle.slh_run.specs.EvidenceFields.{evidence_text}
 use Rattle.slh_run.specs.Judgement.{judgement}
 use Rattle.slh_run.specs.Requests.{request_of}
 use Rattle.slh_run.specs.Sets.{scheme_for}
 use Rattle.slh_run.specs.declared.job.Answer.{Answer}
-use Rattle.slh_run.specs.declared.job.Answer.TheVariants.{Key, Signature, Accepted}
+use Rattle.slh_run.specs.declared.job.Answer.TheVariants.{Key, Signature, Accepted, Shown}
+use Rattle.slh_run.specs.declared.job.Answer.TheVariants.{Verdict as VerdictAnswer}
 use Rattle.slh_run.specs.declared.job.Error.{Error}
 use Rattle.slh_run.specs.declared.job.Error.TheVariants as error
 use Rattle.slh_run.specs.declared.request.Fault.{Fault}
@@ -23,11 +27,19 @@ key_text key =
 abbrev pub signature_text : List ℕ → List ℕ
 signature_text signature = codes "sig " ++ encode_lower signature ++ codes "\n"
 
+abbrev pub verdict_text : Verdict → List ℕ
+verdict_text Genuine = codes "genuine\n"
+verdict_text (Foreign evidence) = codes "foreign " ++ evidence_text evidence ++ codes "\n"
+
+abbrev pub shown_text : Bool → List ℕ
+shown_text shown = if shown then codes "shown\n" else codes "not shown\n"
+
 abbrev pub error_text : Error → List ℕ
 error_text error.Length = codes "error length\n"
 error_text error.ContextTooLong = codes "error context\n"
 error_text error.RandomizerLength = codes "error randomizer\n"
 error_text error.MessageTooLong = codes "error message\n"
+error_text error.KeyMismatch = codes "error key\n"
 error_text error.Invalid = codes "error invalid\n"
 error_text error.Memory = []
 
@@ -36,6 +48,8 @@ abbrev pub answer_text : Result Answer Error → List ℕ
 answer_text (Ok (Key key)) = key_text key
 answer_text (Ok (Signature signature)) = signature_text signature
 answer_text (Ok Accepted) = codes "accepted\n"
+answer_text (Ok (VerdictAnswer verdict)) = verdict_text verdict
+answer_text (Ok (Shown shown)) = shown_text shown
 answer_text (Err refusal) = error_text refusal
 
 abbrev pub fault_text : Fault → List ℕ

@@ -1,14 +1,15 @@
 -- What a job line asks for, by its fields (README, "Lines").
-use Rattle.std.specs.Prelude.{◌==◌, ℕ, List, [], length, slice_get, unwrap_or, Option, None, Some}
+use Rattle.std.specs.Prelude.{◌==◌, ℕ, List, length, Bool, true, Option, None, Some}
 use Rattle.std.specs.Prelude.{Result, Ok, Err, codes, if◌then◌else◌}
 use Rattle.std.specs.Str.{bytes_eq}
 use Rattle.line_serve.specs.Fields.{hex_value}
+use Rattle.slh_run.specs.EvidenceFields.{evidence_at, field_at}
 use Rattle.slh_run.specs.Sets.{set_named}
 use Rattle.slh_run.specs.declared.job.Job.{Job}
 use Rattle.slh_run.specs.declared.job.Job.TheVariants as job
 use Rattle.slh_run.specs.declared.set.Set.{Set}
 use Rattle.slh_run.specs.declared.request.Command.{Command}
-use Rattle.slh_run.specs.declared.request.Command.TheVariants.{Keygen, Sign, Verify}
+use Rattle.slh_run.specs.declared.request.Command.TheVariants.{Keygen, Sign, Verify, Audit, Check}
 use Rattle.slh_run.specs.declared.request.Fault.{Fault}
 use Rattle.slh_run.specs.declared.request.Fault.TheVariants as fault
 use Rattle.slh_run.specs.declared.request.Request.{Request}
@@ -19,20 +20,23 @@ command_named name =
     if bytes_eq name (codes "keygen") then Some Keygen
     else if bytes_eq name (codes "sign") then Some Sign
     else if bytes_eq name (codes "verify") then Some Verify
+    else if bytes_eq name (codes "audit") then Some Audit
+    else if bytes_eq name (codes "check") then Some Check
     else None
 
 -- how many fields the line of a command has
 --   SET keygen SEED PRF PKSEED
 --   SET sign KEY CTX MSG RAND
 --   SET verify VK CTX MSG SIG
-abbrev pub field_count : Command → ℕ
-field_count Keygen = 5
-field_count Sign = 6
-field_count Verify = 6
-
--- the field at an index, with no bytes where there are not so many
-abbrev pub field_at : List (List ℕ) → ℕ → List ℕ
-field_at fields i = unwrap_or (slice_get fields i) []
+--   SET audit KEY CTX MSG SIG
+-- and whether it has them. That of check, SET check KEY CTX MSG SIG KIND NUMBERS, has as many as
+-- its kind of evidence asks for, which are judged with the kind itself
+abbrev pub has_fields : Command → ℕ → Bool
+has_fields Keygen count = count == 5
+has_fields Sign count = count == 6
+has_fields Verify count = count == 6
+has_fields Audit count = count == 6
+has_fields Check count = true
 
 abbrev pub and_then : {A B : Type 0} → Result A Fault → (A → Result B Fault) → Result B Fault
 and_then (Err found) next = Err found
@@ -55,6 +59,11 @@ abbrev pub randomizer_at : List (List ℕ) → ℕ → Result (Option (List ℕ)
 randomizer_at fields i =
     if bytes_eq (field_at fields i) (codes "none") then Ok None else some_bytes (bytes_at fields i)
 
+-- the evidence of a check
+abbrev pub some_or_fields : {A : Type 0} → Option A → Result A Fault
+some_or_fields None = Err fault.Fields
+some_or_fields (Some value) = Ok value
+
 -- the job of a command, whose line has the right number of fields
 abbrev pub job_of : Command → List (List ℕ) → Result Job Fault
 job_of Keygen fields =
@@ -74,12 +83,25 @@ job_of Verify fields =
     and_then (bytes_at fields 4) (λ message.
     and_then (bytes_at fields 5) (λ signature.
     Ok (job.Verify key context message signature)))))
+job_of Audit fields =
+    and_then (bytes_at fields 2) (λ key.
+    and_then (bytes_at fields 3) (λ context.
+    and_then (bytes_at fields 4) (λ message.
+    and_then (bytes_at fields 5) (λ signature.
+    Ok (job.Audit key context message signature)))))
+job_of Check fields =
+    and_then (some_or_fields (evidence_at fields)) (λ evidence.
+    and_then (bytes_at fields 2) (λ key.
+    and_then (bytes_at fields 3) (λ context.
+    and_then (bytes_at fields 4) (λ message.
+    and_then (bytes_at fields 5) (λ signature.
+    Ok (job.Check key context message signature evidence))))))
 
 -- the job of a line whose second field was found to name a command, or to name none
 abbrev pub job_for : Option Command → List (List ℕ) → Result Job Fault
 job_for None fields = Err fault.Command
 job_for (Some command) fields =
-    if length fields == field_count command then job_of command fields else Err fault.Fields
+    if has_fields command (length fields) then job_of command fields else Err fault.Fields
 
 -- the request of a line whose first field was found to name a set, or to name none
 abbrev pub request_for : Option Set → List (List ℕ) → Result Request Fault

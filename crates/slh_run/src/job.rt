@@ -1,5 +1,6 @@
 //! Jobs, and what is answered to them.
 use line_serve::ByteString;
+use slh_audit::{Evidence, Verdict};
 
 /// What is asked for. Its byte strings may have any length; `run` refuses those that don't fit.
 #[derive(Drop)]
@@ -36,6 +37,30 @@ pub enum Job {
         /// The signature, as many bytes as the set's signatures have.
         signature: ByteString,
     },
+    /// Whether the holder of a key made a signature of a message with a context.
+    Audit {
+        /// The signing key, 4n bytes.
+        key: ByteString,
+        /// The context, at most 255 bytes.
+        context: ByteString,
+        /// The message, at most 2^60 bytes.
+        message: ByteString,
+        /// The signature, as many bytes as the set's signatures have.
+        signature: ByteString,
+    },
+    /// Whether evidence shows against a signature of a message with a context.
+    Check {
+        /// The signing key, 4n bytes.
+        key: ByteString,
+        /// The context, at most 255 bytes.
+        context: ByteString,
+        /// The message, at most 2^60 bytes.
+        message: ByteString,
+        /// The signature, as many bytes as the set's signatures have.
+        signature: ByteString,
+        /// The evidence. Numbers of a place that isn't there don't show.
+        evidence: Evidence,
+    },
 }
 
 /// The answer to a job that wasn't refused.
@@ -47,6 +72,10 @@ pub enum Answer {
     Signature(ByteString),
     /// To `Verify`: the signature leads to the key's root.
     Accepted,
+    /// To `Audit`: whether the key made the signature, and evidence where it did not.
+    Verdict(Verdict),
+    /// To `Check`: whether the evidence shows.
+    Shown(bool),
 }
 
 /// Why a job was refused. Where several causes stand together, the first in this order is answered.
@@ -60,6 +89,8 @@ pub enum Error {
     RandomizerLength,
     /// The message has more than 2^60 bytes.
     MessageTooLong,
+    /// The signing key's root isn't that of its seeds. Only `Audit` asks for it.
+    KeyMismatch,
     /// The signature doesn't lead to the key's root.
     Invalid,
     /// There was no memory for the answer's bytes. Only `Keygen` and `Sign` need any.

@@ -2,15 +2,16 @@
 ghost use Rattle.std.specs.Prelude.{◌≡◌};
 ghost use Rattle.std.specs.Option.{option_copied};
 ghost use Rattle.slh_core.specs.Steps.{IsFresh};
-ghost use Rattle.slh_run.specs.Errors.{error_of};
-ghost use Rattle.slh_run.specs.Judgement.{IsJudged};
+ghost use Rattle.slh_run.specs.Errors.{audit_error_of, error_of};
+ghost use Rattle.slh_run.specs.Judgement.{IsJudged, judgement};
 ghost use Rattle.slh_run.specs.Sets.{scheme_for};
-ghost use Rattle.slh_run.specs.declared.job.Job.TheVariants.{Keygen, Sign, Verify};
+ghost use Rattle.slh_run.specs.declared.job.Job.TheVariants.{Keygen, Sign, Verify, Audit, Check};
 
 use crate::job::{Answer, Error, Job};
 use crate::set::Set;
 use hybrid_array::ArraySize;
 use line_serve::ByteString;
+use slh_audit::{AuditError, Evidence, audit, check_evidence};
 use slh_core::params::chain_sizes;
 use slh_core::steps::Steps;
 use slh_dsa::{ParameterSet, SigningKey, VerifyingKey};
@@ -30,6 +31,20 @@ impl From<slh_dsa::Error> for Error {
             slh_dsa::Error::MessageTooLong => Error::MessageTooLong,
             slh_dsa::Error::Invalid => Error::Invalid,
             slh_dsa::Error::Memory => Error::Memory,
+        }
+    }
+}
+
+impl From<AuditError> for Error {
+    ghost from_gives = { λ e f. f ≡ audit_error_of e };
+
+    fn from(error: AuditError) -> Self {
+        match error {
+            AuditError::Length => Error::Length,
+            AuditError::ContextTooLong => Error::ContextTooLong,
+            AuditError::MessageTooLong => Error::MessageTooLong,
+            AuditError::KeyMismatch => Error::KeyMismatch,
+            AuditError::Invalid => Error::Invalid,
         }
     }
 }
@@ -95,6 +110,34 @@ fn verify<P: ParameterSet, L: Ledger>(
     Ok(Answer::Accepted)
 }
 
+// Whether a key made a signature. It takes no memory.
+fn judge_audit<P: ParameterSet>(
+    key: &[u8],
+    ctx: &[u8],
+    msg: &[u8],
+    signature: &[u8],
+) -> Result<Answer, Error>
+    ensures { result ≡ judgement P.scheme (Audit key.now ctx.now msg.now signature.now) }
+{
+    let verdict = audit::<P>(key, ctx, msg, signature)?;
+    Ok(Answer::Verdict(verdict))
+}
+
+// Whether evidence shows. It takes no memory.
+fn judge_check<P: ParameterSet>(
+    key: &[u8],
+    ctx: &[u8],
+    msg: &[u8],
+    signature: &[u8],
+    evidence: &Evidence,
+) -> Result<Answer, Error>
+    ensures { let job = Check key.now ctx.now msg.now signature.now evidence.now in
+        result ≡ judgement P.scheme job }
+{
+    let shown = check_evidence::<P>(key, ctx, msg, signature, evidence)?;
+    Ok(Answer::Shown(shown))
+}
+
 // Answers a job, on a counter that is made here.
 fn run_in<P: ParameterSet, L: Ledger>(
     alloc: Global,
@@ -141,6 +184,30 @@ fn run_in<P: ParameterSet, L: Ledger>(
             message.as_slice(),
             signature.as_slice(),
             &mut steps,
+        ),
+        Job::Audit {
+            key,
+            context,
+            message,
+            signature,
+        } => judge_audit::<P>(
+            key.as_slice(),
+            context.as_slice(),
+            message.as_slice(),
+            signature.as_slice(),
+        ),
+        Job::Check {
+            key,
+            context,
+            message,
+            signature,
+            evidence,
+        } => judge_check::<P>(
+            key.as_slice(),
+            context.as_slice(),
+            message.as_slice(),
+            signature.as_slice(),
+            evidence,
         ),
     }
 }

@@ -4,6 +4,7 @@
 //! program and the engine for lines are those of `line_serve`, handed on by name.
 #![tactic(auto)]
 
+mod evidence;
 mod job;
 mod judge;
 mod program;
@@ -23,3 +24,4 @@ pub use line_serve::{
 };
 pub use program::serve;
 pub use set::Set;
+pub use slh_audit::{Evidence, Verdict};

@@ -2,12 +2,15 @@
 ghost use Rattle.std.specs.Prelude.{◌≡◌, ◌+◌, ◌-◌, ◌*◌, ◌/◌, ◌++◌, length, Ok, OnOk, OnErr};
 ghost use Rattle.line_serve.specs.Fields.{contents};
 ghost use Rattle.slh_run.specs.Reply.{error_text, fault_text, key_text, reply_of_fields};
-ghost use Rattle.slh_run.specs.Reply.{reply_of_line, request_text, signature_text};
+ghost use Rattle.slh_run.specs.Reply.{reply_of_line, request_text, signature_text, verdict_text};
+ghost use Rattle.slh_audit.specs.declared.evidence.Verdict.TheVariants.{Foreign};
 
+use crate::evidence::push_evidence;
 use crate::job::{Answer, Error};
 use crate::judge::run;
 use crate::request::{Fault, KEPT_FIELDS, Request, read_request};
 use line_serve::{ByteString, Replier, cut_fields};
+use slh_audit::{Evidence, Verdict};
 use std::alloc::{AllocError, Global};
 
 /// Answers job lines.
@@ -69,6 +72,18 @@ fn push_signature(alloc: Global, out: &mut ByteString, signature: &[u8]) -> Resu
     out.push_slice(text.as_slice())
 }
 
+// Puts the text of a foreign signature's evidence at the end.
+fn push_foreign(alloc: Global, out: &mut ByteString, evidence: Evidence) -> Result<(), AllocError>
+    ensures ok { OnOk result (out.new ≡ out.old ++ verdict_text (Foreign evidence)) }
+    ensures err { OnErr result (out.new ≡ out.old) }
+{
+    let mut text = ByteString::new(alloc);
+    text.push_slice(b"foreign ")?;
+    push_evidence(&mut text, evidence)?;
+    text.push_slice(b"\n")?;
+    out.push_slice(text.as_slice())
+}
+
 impl Error {
     // The reply that names the refusal. `Memory` has none: it ends a run.
     fn text(self) -> &'static [u8]
@@ -79,6 +94,7 @@ impl Error {
             Error::ContextTooLong => b"error context\n",
             Error::RandomizerLength => b"error randomizer\n",
             Error::MessageTooLong => b"error message\n",
+            Error::KeyMismatch => b"error key\n",
             Error::Invalid => b"error invalid\n",
             Error::Memory => b"",
         }
@@ -109,6 +125,10 @@ fn push_answer(alloc: Global, request: &Request, out: &mut ByteString) -> Result
         Ok(Answer::Key(key)) => push_key(alloc, out, key.as_slice()),
         Ok(Answer::Signature(signature)) => push_signature(alloc, out, signature.as_slice()),
         Ok(Answer::Accepted) => out.push_slice(b"accepted\n"),
+        Ok(Answer::Verdict(Verdict::Genuine)) => out.push_slice(b"genuine\n"),
+        Ok(Answer::Verdict(Verdict::Foreign(evidence))) => push_foreign(alloc, out, evidence),
+        Ok(Answer::Shown(true)) => out.push_slice(b"shown\n"),
+        Ok(Answer::Shown(false)) => out.push_slice(b"not shown\n"),
         Err(Error::Memory) => Err(AllocError),
         Err(refusal) => out.push_slice(refusal.text()),
     }

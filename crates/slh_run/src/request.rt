@@ -1,11 +1,13 @@
 //! What a job line asks for.
 ghost use Rattle.std.specs.Prelude.{◌≡◌, ◌⊎◌, Err};
 ghost use Rattle.line_serve.specs.Fields.{contents};
-ghost use Rattle.slh_run.specs.Requests.{bytes_at, command_named, field_at, job_for, job_of};
+ghost use Rattle.slh_run.specs.Requests.{bytes_at, command_named, job_for, job_of};
+ghost use Rattle.slh_run.specs.EvidenceFields.{field_at as spec_field_at};
 ghost use Rattle.slh_run.specs.Requests.{randomizer_at, request_of};
-ghost use Rattle.slh_run.specs.declared.request.Command.TheVariants.{Keygen, Sign, Verify};
+ghost use Rattle.slh_run.specs.declared.request.Command.TheVariants.{Keygen, Sign, Verify, Audit, Check};
 ghost use Rattle.slh_run.specs.declared.request.Fault.TheVariants.{Memory};
 
+use crate::evidence::{field_at, read_evidence};
 use crate::job::Job;
 use crate::set::Set;
 use line_serve::{ByteString, hex_field};
@@ -13,7 +15,7 @@ use std::alloc::{AllocError, Global};
 
 /// How many fields of a line are kept: one more than a line of any command has, so that a line of
 /// more is still one of too many.
-pub(crate) const KEPT_FIELDS: usize = 7;
+pub(crate) const KEPT_FIELDS: usize = 11;
 
 /// A job for a parameter set.
 #[derive(Drop)]
@@ -46,6 +48,8 @@ pub(crate) enum Command {
     Keygen,
     Sign,
     Verify,
+    Audit,
+    Check,
 }
 
 impl Command {
@@ -58,19 +62,13 @@ impl Command {
             Some(Command::Sign)
         } else if name == b"verify".as_slice() {
             Some(Command::Verify)
+        } else if name == b"audit".as_slice() {
+            Some(Command::Audit)
+        } else if name == b"check".as_slice() {
+            Some(Command::Check)
         } else {
             None
         }
-    }
-}
-
-// The field at an index, with no bytes where there are not so many.
-fn field_at<'a>(fields: &[&'a [u8]], i: usize) -> &'a [u8]
-    ensures { result.now ≡ field_at (contents fields.now) i }
-{
-    match fields.get(i) {
-        Some(&found) => found,
-        None => &[],
     }
 }
 
@@ -139,10 +137,44 @@ fn read_verify(alloc: Global, fields: &[&[u8]]) -> Result<Job, Fault>
     })
 }
 
+fn read_audit(alloc: Global, fields: &[&[u8]]) -> Result<Job, Fault>
+    ensures { (result ≡ job_of Audit (contents fields.now)) ⊎ (result ≡ Err Memory) }
+{
+    let key = bytes_at(alloc, fields, 2)?;
+    let context = bytes_at(alloc, fields, 3)?;
+    let message = bytes_at(alloc, fields, 4)?;
+    let signature = bytes_at(alloc, fields, 5)?;
+    Ok(Job::Audit {
+        key,
+        context,
+        message,
+        signature,
+    })
+}
+
+fn read_check(alloc: Global, fields: &[&[u8]]) -> Result<Job, Fault>
+    ensures { (result ≡ job_of Check (contents fields.now)) ⊎ (result ≡ Err Memory) }
+{
+    let Some(evidence) = read_evidence(fields) else {
+        return Err(Fault::Fields);
+    };
+    let key = bytes_at(alloc, fields, 2)?;
+    let context = bytes_at(alloc, fields, 3)?;
+    let message = bytes_at(alloc, fields, 4)?;
+    let signature = bytes_at(alloc, fields, 5)?;
+    Ok(Job::Check {
+        key,
+        context,
+        message,
+        signature,
+        evidence,
+    })
+}
+
 // The job of a line of these fields, by its command.
 fn read_job(alloc: Global, fields: &[&[u8]]) -> Result<Job, Fault>
     ensures { let all = contents fields.now in
-        (result ≡ job_for (command_named (field_at all 1)) all) ⊎ (result ≡ Err Memory) }
+        (result ≡ job_for (command_named (spec_field_at all 1)) all) ⊎ (result ≡ Err Memory) }
 {
     let Some(command) = Command::from_name(field_at(fields, 1)) else {
         return Err(Fault::Command);
@@ -151,6 +183,8 @@ fn read_job(alloc: Global, fields: &[&[u8]]) -> Result<Job, Fault>
         Command::Keygen if fields.len() == 5 => read_keygen(alloc, fields),
         Command::Sign if fields.len() == 6 => read_sign(alloc, fields),
         Command::Verify if fields.len() == 6 => read_verify(alloc, fields),
+        Command::Audit if fields.len() == 6 => read_audit(alloc, fields),
+        Command::Check => read_check(alloc, fields),
         _ => Err(Fault::Fields),
     }
 }

@@ -87,6 +87,53 @@ fn signs_and_verifies_by_lines(rt: HostRuntime) -> Result<(), Fail> {
     Ok(())
 }
 
+// A signature is its key's own: no evidence shows against it, on layers that are there and on one
+// that isn't. A key with another root is none.
+#[test]
+fn audits_by_lines(rt: HostRuntime) -> Result<(), Fail> {
+    let alloc = rt.alloc();
+    let sign = [
+        b"SLH-DSA-SHA2-128f sign ".as_slice(),
+        KEY,
+        b" - 48656c6c6f none",
+    ];
+    let sign = joined(alloc, &sign)?;
+    let (_, text) = served(alloc, sign.as_slice())?;
+    let rest = text.as_slice().strip_prefix(b"sig ").ok_or("no signature")?;
+    let signature = rest.strip_suffix(b"\n").ok_or("no line feed")?;
+    let other = joined(alloc, &[&KEY[..KEY.len() - 1], b"e"])?;
+    for (command, key, evidence, reply) in [
+        (
+            b"SLH-DSA-SHA2-128f audit ".as_slice(),
+            KEY,
+            b"".as_slice(),
+            b"genuine\n".as_slice(),
+        ),
+        (b"SLH-DSA-SHA2-128f check ", KEY, b" leaf 0", b"not shown\n"),
+        (
+            b"SLH-DSA-SHA2-128f check ",
+            KEY,
+            b" leaf 22",
+            b"not shown\n",
+        ),
+        (
+            b"SLH-DSA-SHA2-128f audit ",
+            other.as_slice(),
+            b"",
+            b"error key\n",
+        ),
+    ] {
+        let line = joined(
+            alloc,
+            &[command, key, b" - 48656c6c6f ", signature, evidence],
+        )?;
+        let (status, text) = served(alloc, line.as_slice())?;
+        assert_eq!(rt; status, 0);
+        assert_eq!(rt; text.as_slice(), reply);
+    }
+    Ok(())
+}
+
 // A line each, with the reply that the line format gives it.
 #[test]
 fn hostile_lines(rt: HostRuntime) -> Result<(), Fail> {
@@ -99,8 +146,25 @@ fn hostile_lines(rt: HostRuntime) -> Result<(), Fail> {
         (b" Keygen 00 00 00", b"error command\n"),
         (b" keygen\t00 00 00", b"error command\n"),
         (b" - 00 00 00", b"error command\n"),
-        (b" audit 00 00 00 00", b"error command\n"),
-        (b" check 00 00 00 00 leaf", b"error command\n"),
+        (b" audit 00 00 00", b"error fields\n"),
+        (b" check 00 00 00 00", b"error fields\n"),
+        (b" check 00 00 00 00 leaf", b"error fields\n"),
+        (b" check 00 00 00 00 Leaf 0", b"error fields\n"),
+        (b" check 00 00 00 00 leaf 0 0", b"error fields\n"),
+        (b" check 0g 00 00 00 leaf -1", b"error fields\n"),
+        (b" check 00 00 00 00 leaf 4294967296", b"error fields\n"),
+        (b" check 00 00 00 00 leaf 00000000000", b"error fields\n"),
+        (b" check 00 00 00 00 fors-roots 0", b"error fields\n"),
+        (b" check 00 00 00 00 chain-step 0 0", b"error fields\n"),
+        (b" check 00 00 00 00 early 0 0 0 0 0 0 0", b"error fields\n"),
+        (b" check 0g 00 00 00 leaf 0", b"error hex\n"),
+        (b" audit 00 0 00 00", b"error hex\n"),
+        (b" audit 00 00 00 00", b"error length\n"),
+        (b" check 00 00 00 00 leaf 4294967295", b"error length\n"),
+        (
+            b" check 00 00 00 00 chain-step 0 0000000000 14",
+            b"error length\n",
+        ),
         (b" keygen", b"error fields\n"),
         (b" keygen 00 00", b"error fields\n"),
         (b" keygen 00 00 00 00", b"error fields\n"),

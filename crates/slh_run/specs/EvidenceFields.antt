@@ -1,0 +1,87 @@
+-- How evidence stands on a line (README, "Lines").
+use Rattle.std.specs.Prelude.{◌==◌, ℕ, ◌+◌, ◌-◌, ◌*◌, ◌^◌, List, [], ◌∷◌, ◌++◌, length, slice_get}
+use Rattle.std.specs.Prelude.{unwrap_or, Option, None, Some, Bool, ◌&&◌, nat_le, nat_lt}
+use Rattle.std.specs.Prelude.{codes, decimal, if◌then◌else◌}
+use Rattle.std.specs.Str.{bytes_eq}
+use Rattle.slh_audit.specs.declared.evidence.Evidence.{Evidence}
+use Rattle.slh_audit.specs.declared.evidence.Evidence.TheVariants.{ForsNode, ForsRoots}
+use Rattle.slh_audit.specs.declared.evidence.Evidence.TheVariants.{ChainStep, Leaf, TreeNode, Early}
+
+-- the field at an index, with no bytes where there are not so many
+abbrev pub field_at : List (List ℕ) → ℕ → List ℕ
+field_at fields i = unwrap_or (slice_get fields i) []
+
+-- a decimal digit
+abbrev pub is_digit : ℕ → Bool
+is_digit c = nat_le 48 c && nat_le c 57
+
+-- the number that digits go on to from a number, while it stays below 2^32
+abbrev pub read_digits : ℕ → List ℕ → Option ℕ
+read_digits number [] = Some number
+read_digits number (c ∷ later) =
+    if is_digit c then
+    if nat_lt (number * 10 + (c - 48)) (2 ^ 32)
+    then read_digits (number * 10 + (c - 48)) later else None
+    else None
+
+-- a number is 1 to 10 decimal digits with a value below 2^32
+abbrev pub number_value : List ℕ → Option ℕ
+number_value text =
+    if nat_le 1 (length text) && nat_le (length text) 10 then read_digits 0 text else None
+
+abbrev pub for_some : {A B : Type 0} → Option A → (A → Option B) → Option B
+for_some None next = None
+for_some (Some value) next = next value
+
+-- evidence's numbers stand from field 7 on, behind its kind; there are as many as the kind has
+abbrev pub one_number : List (List ℕ) → (ℕ → Evidence) → Option Evidence
+one_number fields make =
+    if length fields == 8 then
+    for_some (number_value (field_at fields 7)) (λ x. Some (make x))
+    else None
+
+abbrev pub two_numbers : List (List ℕ) → (ℕ → ℕ → Evidence) → Option Evidence
+two_numbers fields make =
+    if length fields == 9 then
+    for_some (number_value (field_at fields 7)) (λ x.
+    for_some (number_value (field_at fields 8)) (λ y. Some (make x y)))
+    else None
+
+abbrev pub three_numbers : List (List ℕ) → (ℕ → ℕ → ℕ → Evidence) → Option Evidence
+three_numbers fields make =
+    if length fields == 10 then
+    for_some (number_value (field_at fields 7)) (λ x.
+    for_some (number_value (field_at fields 8)) (λ y.
+    for_some (number_value (field_at fields 9)) (λ z. Some (make x y z))))
+    else None
+
+-- the evidence of a line, whose kind is field 6
+--   fors-node TREE HEIGHT
+--   fors-roots
+--   chain-step LAYER CHAIN STEP
+--   leaf LAYER
+--   tree-node LAYER HEIGHT
+--   early LAYER CHAIN
+abbrev pub evidence_at : List (List ℕ) → Option Evidence
+evidence_at fields =
+    let kind = field_at fields 6 in
+    if bytes_eq kind (codes "fors-node") then two_numbers fields (λ i z. ForsNode i z)
+    else if bytes_eq kind (codes "fors-roots") then
+    if length fields == 7 then Some ForsRoots else None
+    else if bytes_eq kind (codes "chain-step") then three_numbers fields (λ j c q. ChainStep j c q)
+    else if bytes_eq kind (codes "leaf") then one_number fields (λ j. Leaf j)
+    else if bytes_eq kind (codes "tree-node") then two_numbers fields (λ j z. TreeNode j z)
+    else if bytes_eq kind (codes "early") then two_numbers fields (λ j c. Early j c)
+    else None
+
+-- how it is printed: numbers without leading zeros
+abbrev pub spaced : ℕ → List ℕ
+spaced number = codes " " ++ decimal number
+
+abbrev pub evidence_text : Evidence → List ℕ
+evidence_text (ForsNode i z) = codes "fors-node" ++ spaced i ++ spaced z
+evidence_text ForsRoots = codes "fors-roots"
+evidence_text (ChainStep j c q) = codes "chain-step" ++ spaced j ++ spaced c ++ spaced q
+evidence_text (Leaf j) = codes "leaf" ++ spaced j
+evidence_text (TreeNode j z) = codes "tree-node" ++ spaced j ++ spaced z
+evidence_text (Early j c) = codes "early" ++ spaced j ++ spaced c
