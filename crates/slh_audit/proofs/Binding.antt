@@ -10,10 +10,11 @@ use Rattle.slh_audit.proofs.LayerDescent.{IsValue}
 use Rattle.slh_audit.proofs.LayersDescent.{layers_down}
 use Rattle.slh_audit.proofs.Pieces.{joined_parts}
 use Rattle.slh_core.specs.Digits.{digits}
-use Rattle.slh_audit.proofs.Meaning.{dispute_of, Dispute, IsOwn, ForsNodeShows, IsShown, checked_at, dispute, own_at}
+use Rattle.slh_audit.proofs.Meaning.{dispute_of, Dispute, IsOwn, IsOwnLayer, ForsNodeShows, IsShown, checked_at, dispute, own_at}
 use Rattle.slh_audit.specs.declared.evidence.Evidence.{Evidence}
 use Rattle.slh_audit.specs.declared.evidence.Evidence.TheVariants.{ForsNode, ForsRoots, ChainStep, Leaf, TreeNode, Early}
-use Rattle.slh_audit.proofs.OwnBytes.{no_tree_node, no_leaf, no_chain_step, no_early, no_roots, no_secret, no_fors_node}
+use Rattle.slh_audit.proofs.OwnBytes.{no_roots, no_secret, no_fors_node}
+use Rattle.slh_audit.proofs.OwnLayers.{no_own_chain_step, no_own_early, no_own_leaf, no_own_tree_node}
 use Rattle.slh_core.proofs.Joins.{joined_same, part-joined, range_left, range_right, drop_front}
 use Rattle.slh_trees.proofs.Forests.{fors_pk_from_sig-signature, length-fors_sig}
 use Rattle.slh_trees.proofs.Layers.{checked_message-signature, length-layer_signature}
@@ -94,28 +95,26 @@ checked_own D sized own j h =
     rw (own.0, own.1, fors_pk_from_sig-signature K D.sk D.t D.l D.k D.a D.md sized.lengths)
     (checked_message-signature K D.hp D.sk D.t D.l (fors_pk K D.sk D.t D.l D.k D.a) D.d j sized.lengths sized.leaf h)
 
-layer_own : (D : Dispute) → IsSized D → IsOwn D → (j : ℕ) → j < D.d → part (layer_size D.K.n D.hp) D.layers j ≡ xmss_sig D.K D.sk j (tree_at D.hp D.t j) (leaf_at D.hp D.t D.l j) (own_at D j) D.hp
-unfolding IsOwn ht_sig layer_signature
-layer_own D sized own j below =
+own_layer : (D : Dispute) → IsSized D → IsOwn D → (j : ℕ) → j < D.d → IsOwnLayer D j
+unfolding IsOwn IsOwnLayer ht_sig
+own_layer D sized own j below =
     let K = D.K in
-    let key = fors_pk K D.sk D.t D.l D.k D.a in
-    rw own.1 (part-joined (layer_signature K D.hp D.sk D.t D.l key) (layer_size K.n D.hp) D.d j (λ i. length-layer_signature K D.hp D.sk D.t D.l key i sized.lengths) below)
+    let key = fors_pk K D.sk D.t D.l D.k D.a in (
+      checked_own D sized own j (omega (arith, below)),
+      rw own.1 (part-joined (layer_signature K D.hp D.sk D.t D.l key) (layer_size K.n D.hp) D.d j (λ i. length-layer_signature K D.hp D.sk D.t D.l key i sized.lengths) below),
+    )
 
 -- nothing shows against them
 pub none_shows : (D : Dispute) → IsSized D → IsOwn D → (e : Evidence) → ¬ IsShown D e
 unfolding IsShown IsOwn
 none_shows D sized own (TreeNode j z) shows =
-    no_tree_node D.K D.sk D.hp j (tree_at D.hp D.t j) (leaf_at D.hp D.t D.l j) (own_at D j) sized.lengths z shows.0 shows.1
-    (rw (checked_own D sized own j (omega (arith, shows.2.0)), layer_own D sized own j shows.2.0) at shows.2.1)
+    no_own_tree_node D j sized.lengths (own_layer D sized own j shows.2.0) z shows
 none_shows D sized own (Leaf j) shows =
-    no_leaf D.K D.sk D.hp j (tree_at D.hp D.t j) (leaf_at D.hp D.t D.l j) (own_at D j) sized.lengths
-    (rw (checked_own D sized own j (omega (arith, shows.0)), layer_own D sized own j shows.0) at shows.1)
+    no_own_leaf D j sized.lengths (own_layer D sized own j shows.0) shows
 none_shows D sized own (ChainStep j c q) shows =
-    no_chain_step D.K D.sk D.hp j (tree_at D.hp D.t j) (leaf_at D.hp D.t D.l j) (own_at D j) sized.lengths c q shows.0
-    (rw (checked_own D sized own j (omega (arith, shows.1.0)), layer_own D sized own j shows.1.0) at shows.1.1)
+    no_own_chain_step D j sized.lengths (own_layer D sized own j shows.1.0) c q shows
 none_shows D sized own (Early j c) shows =
-    no_early D.K D.sk D.hp j (tree_at D.hp D.t j) (leaf_at D.hp D.t D.l j) (own_at D j) sized.lengths c
-    (rw (checked_own D sized own j (omega (arith, shows.1.0)), layer_own D sized own j shows.1.0) at shows.1.1)
+    no_own_early D j sized.lengths (own_layer D sized own j shows.1.0) c shows
 none_shows D sized own ForsRoots shows =
     no_roots D.K D.sk D.t D.l D.a D.k D.md sized.lengths (rw own.0 at shows)
 none_shows D sized own (ForsNode i zero) shows =

@@ -8,7 +8,8 @@ use Rattle.slh_core.specs.Wots.{chain, chain_value}
 use Rattle.slh_core.specs.Suite.{HasLength, Seeded}
 use Rattle.slh_trees.specs.Merkle.{Place, node_bytes, sibling_of, merkle, climb}
 use Rattle.slh_trees.proofs.Layers.{part_fits}
-use Rattle.slh_audit.proofs.Nearby.{even_pair, odd_pair, half, length-merkle}
+use Rattle.slh_audit.proofs.Nearby.{half}
+use Rattle.slh_trees.proofs.Climbs.{even_pair, odd_pair, length-merkle}
 
 -- the two children, whichever of them is on the way
 pub children : (at : ℕ → List ℕ) (below beside : List ℕ) (n i : ℕ) (b : Bool) → length below ≡ n → length beside ≡ n → ((k : ℕ) → length (at k) ≡ n) → (i % 2 == 0) ≡ b

@@ -53,5 +53,11 @@ module _ (test : Evidence → Bool) where
   unfolding in_turn
   turn_none f = refl
 
+  pub turn_all_none : (f : ℕ → List Evidence) (k : ℕ) → ((i : ℕ) → i < k → find test (f i) ≡ None) → find test (in_turn f k) ≡ None
+  unfolding in_turn
+  turn_all_none f zero none = refl
+  turn_all_none f (suc k) none =
+      after_none (in_turn f k) (f k) (turn_all_none f k (λ i below. none i (omega arith))) ∙ none k (omega arith)
+
   pub not_some : (r : Option Evidence) (xs : List Evidence) → is_some r ≡ false → r ≡ find test xs → find test xs ≡ None
   not_some r xs fails same = sym same ∙ none_of r fails

@@ -12,7 +12,7 @@ use Rattle.slh_core.specs.Digits.{digits}
 use Rattle.slh_core.specs.Suite.{HasLength, Seeded}
 use Rattle.slh_core.proofs.DigitSteps.{digits_below}
 use Rattle.slh_core.proofs.Joins.{joined_same}
-use Rattle.slh_audit.proofs.Nearby.{length-merkle}
+use Rattle.slh_trees.proofs.Climbs.{length-merkle}
 use Rattle.slh_trees.proofs.Layers.{part_fits}
 use Rattle.slh_trees.specs.Checking.{fors_pk_from_sig, checked_fors_node, forest_size}
 use Rattle.slh_trees.specs.Fors.{fors_pk, fors_leaf, fors_node, fors_opened, fors_auth_path, fors_place, fors_secret, fors_sig, leaf_index, opened_leaves}

@@ -7,9 +7,12 @@ use Rattle.std.proofs.Common.{◌⊎◌, inl, inr, Some}
 use Rattle.std.proofs.Common.{refl}
 use Rattle.slh_audit.proofs.Binding.{IsSized, binding, made_from_own, none_shows, own_from_made}
 use Rattle.slh_audit.proofs.Meaning.{dispute_of, shows_means}
-use Rattle.slh_audit.proofs.Order.{shown_found}
+use Rattle.slh_audit.proofs.Order.{none_found, shown_found, two}
+use Rattle.slh_audit.proofs.OwnLayers.{not_true}
 use Rattle.slh_audit.specs.Evidence.{shows}
-use Rattle.slh_audit.specs.Places.{first_evidence}
+use Rattle.slh_audit.specs.Places.{first_evidence, places}
+use Rattle.slh_audit.specs.Verdicts.{digest_verdict, foreign_by}
+use Rattle.slh_audit.specs.declared.evidence.Verdict.TheVariants.{Genuine}
 use Rattle.slh_audit.specs.declared.evidence.Evidence.{Evidence}
 use Rattle.slh_core.specs.Bytes.{part}
 use Rattle.slh_core.specs.Suite.{HasBytes}
@@ -23,17 +26,6 @@ use Rattle.slh_core.specs.Suite.{HasLength}
 use Rattle.slh_trees.specs.Checking.{signature_size}
 use Rattle.slh_trees.specs.Signing.{digest_signature}
 
--- bytes whose parts are the key's own are those that it makes with their own randomizer
-pub made_is : (Z : Scheme) (s sk digest sig : List ℕ) (b : Bool) → HasLength Z.suite Z.n → length sig ≡ signature_size Z
-    → IsTrue b ↔ IsOwn (dispute Z s sk digest sig)
-    → b ≡ bytes_eq sig (digest_signature Z s sk (take Z.n sig) digest)
-made_is Z s sk digest sig b law size tells =
-    one_answer b _ (
-      (λ t. made_from_own Z s sk digest sig (tells.0 t)),
-      (λ same. tells.1 (own_from_made Z s sk digest sig law (omega (arith, length-take Z.n sig)) same)),
-    )
-    (bytes_eq-Decides _ _)
-
 -- accepted bytes are those that the key makes, or the search finds evidence
 pub made_or_found : (Z : Scheme) (key message sig : List ℕ) → HasLength Z.suite Z.n → HasBytes Z.suite → Z.n ≤ 32 → 1 ≤ Z.d → 1 ≤ Z.hp → length sig ≡ signature_size Z
     → checked_root Z (part Z.n key 2) (part Z.n key 3) message sig ≡ top_root Z (part Z.n key 2) (part Z.n key 0)
@@ -44,10 +36,6 @@ made_or_found Z key message sig lengths bytes n_high layers low size leads =
       | inr made ↦ inr made
     ]
 
-not_true : (b : Bool) → ¬ IsTrue b → b ≡ false
-not_true true fails = absurd (fails refl)
-not_true false fails = refl
-
 -- against bytes that the key makes nothing shows
 pub none_against : (Z : Scheme) (s sk digest sig : List ℕ) (e : Evidence) → HasLength Z.suite Z.n → IsSized (dispute Z s sk digest sig) → length sig ≡ signature_size Z
     → sig ≡ digest_signature Z s sk (take Z.n sig) digest → shows (dispute Z s sk digest sig) e ≡ false
@@ -55,3 +43,21 @@ none_against Z s sk digest sig e law sized size made =
     let D = dispute Z s sk digest sig in
     let own = own_from_made Z s sk digest sig law (omega (arith, length-take Z.n sig)) made in
     not_true (shows D e) (λ holds. none_shows D sized own e ((shows_means D e).0 holds))
+
+-- so the verdict on bytes is by the search, whether the key makes them or not
+pub by_search : (Z : Scheme) (s sk digest sig : List ℕ) → HasLength Z.suite Z.n → IsSized (dispute Z s sk digest sig) → length sig ≡ signature_size Z
+    → foreign_by (first_evidence (dispute Z s sk digest sig)) ≡ digest_verdict Z s sk digest sig
+by_search Z s sk digest sig law sized size =
+    let D = dispute Z s sk digest sig in
+    let own = digest_signature Z s sk (take Z.n sig) digest in
+    elim (two (bytes_eq sig own)) [
+      | inl same ↦ rw (same, none_found (shows D) (places D) (λ e. none_against Z s sk digest sig e law sized size ((bytes_eq-Decides sig own).0 same))) refl
+      | inr other ↦ rw other refl
+    ]
+
+-- bytes whose parts are the key's own are genuine
+pub own_is_genuine : (Z : Scheme) (s sk digest sig : List ℕ) → IsOwn (dispute Z s sk digest sig) → Genuine ≡ digest_verdict Z s sk digest sig
+own_is_genuine Z s sk digest sig own =
+    let made = made_from_own Z s sk digest sig own in
+    let same : bytes_eq sig (digest_signature Z s sk (take Z.n sig) digest) ≡ true = (bytes_eq-Decides _ _).1 made in
+    rw same refl

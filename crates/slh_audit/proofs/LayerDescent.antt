@@ -13,8 +13,7 @@ use Rattle.slh_core.specs.Wots.{chain_value, chain_values, wots_sig, checked_cha
 use Rattle.slh_core.specs.Digits.{wots_digits}
 use Rattle.slh_core.specs.Parameters.{chain_count}
 use Rattle.slh_core.specs.Suite.{HasLength, Seeded}
-use Rattle.slh_core.proofs.Chains.{length-wots_pk}
-use Rattle.slh_audit.proofs.Nearby.{length-chain, length-chain_value}
+use Rattle.slh_core.proofs.Chains.{length-chain, length-chain_value, length-wots_pk}
 use Rattle.slh_core.proofs.DigitSteps.{wots_digits_below}
 use Rattle.slh_core.proofs.Joins.{joined_same}
 use Rattle.slh_trees.proofs.Layers.{part_fits}

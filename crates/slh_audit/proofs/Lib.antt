@@ -6,9 +6,10 @@ pub mod LayerDescent
 pub mod ForestDescent
 pub mod LayersDescent
 pub mod OwnBytes
+pub mod Finding
+pub mod OwnLayers
 pub mod Binding
 pub mod Told
 pub mod Shown
-pub mod Finding
 pub mod Judging
 pub mod Order

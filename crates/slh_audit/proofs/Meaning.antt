@@ -8,8 +8,8 @@ use Rattle.std.proofs.lemmas.Bool.{ltb-true, lt-ltb, leb-true, le-leb}
 use Rattle.slh_audit.specs.declared.evidence.Evidence.{Evidence}
 use Rattle.slh_audit.specs.declared.evidence.Evidence.TheVariants.{ForsNode, ForsRoots, ChainStep, Leaf, TreeNode, Early}
 use Rattle.slh_audit.specs.Evidence.{collide, tree_node_shows, leaf_shows, chain_step_shows, early_shows, fors_roots_show, fors_secret_shows, fors_node_shows, shows}
-unfoldable pub use Rattle.slh_audit.specs.Evidence.{climb_input, merkle_input, IsOwn}
-pub use Rattle.slh_audit.specs.Evidence.{Dispute, checked_at, own_at, dispute_on, dispute, dispute_of}
+unfoldable pub use Rattle.slh_audit.specs.Evidence.{climb_input, merkle_input, IsOwn, IsOwnLayer}
+pub use Rattle.slh_audit.specs.Evidence.{Dispute, IsOwnFrom, checked_at, own_at, dispute_on, dispute, dispute_of}
 use Rattle.slh_core.specs.Bytes.{joined, part}
 use Rattle.slh_core.specs.Wots.{chain_value, checked_chain, checked_ends, wots_pk_from_sig, wots_pk}
 use Rattle.slh_core.specs.Digits.{digits, wots_digits}

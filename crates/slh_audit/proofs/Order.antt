@@ -13,7 +13,7 @@ use Rattle.slh_audit.specs.declared.evidence.Evidence.TheVariants.{ForsNode, For
 use Rattle.slh_audit.proofs.Meaning.{ChainStepShows, Dispute, IsShown, shows_means}
 use Rattle.slh_core.specs.Parameters.{chain_count}
 
-two : (b : Bool) → (b ≡ true) ⊎ (b ≡ false)
+pub two : (b : Bool) → (b ≡ true) ⊎ (b ≡ false)
 two true = inl refl
 two false = inr refl
 
@@ -28,6 +28,13 @@ module _ (test : Evidence → Bool) where
       elim (two (test x)) [
         | inl holds ↦ (let same : x ≡ e = ap (λ o. unwrap_or o e) (rw holds at h) in subst (λ f. test f ≡ true) same holds)
         | inr fails ↦ found_passes xs e (rw fails at h)
+      ]
+
+  pub none_found : (xs : List Evidence) → ((e : Evidence) → test e ≡ false) → find test xs ≡ None
+  none_found xs fails =
+      elim (some_or_none (find test xs)) [
+        | inl found ↦ absurd (false≢true (sym (fails found.0) ∙ found_passes xs found.0 found.1))
+        | inr none ↦ none
       ]
 
   cons_at : (x : Evidence) (xs : List Evidence) → test x ≡ false → ((f : Evidence) → Contains xs f → test f ≡ false)

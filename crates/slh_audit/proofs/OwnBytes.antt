@@ -3,8 +3,7 @@ use Rattle.std.proofs.Common.{◌≡◌, ℕ, zero, suc, ◌+◌, ◌-◌, ◌*�
 use Rattle.std.proofs.lemmas.Nat.{div-mul-add}
 use Rattle.std.specs.Prelude.{slice_index}
 use Rattle.slh_audit.proofs.Meaning.{climb_input, merkle_input, TreeNodeShows, LeafShows, ChainStepShows, EarlyShows, ForsRootsShows, ForsSecretShows, ForsNodeShows}
-use Rattle.slh_core.proofs.Chains.{chain-add, length-wots_pk, length-wots_sig, wots_pk_from_sig-wots_sig}
-use Rattle.slh_audit.proofs.Nearby.{length-chain_value}
+use Rattle.slh_core.proofs.Chains.{chain-add, length-chain_value, length-wots_pk, length-wots_sig, wots_pk_from_sig-wots_sig}
 use Rattle.slh_core.proofs.DigitSteps.{wots_digits_below, digits_below}
 use Rattle.slh_core.proofs.Joins.{joined_same, part-joined, take_front, drop_front}
 use Rattle.slh_core.specs.Bytes.{part}
@@ -12,8 +11,8 @@ use Rattle.slh_core.specs.Wots.{chain, chain_secret, chain_value, chain_values, 
 use Rattle.slh_core.specs.Digits.{digits, wots_digits}
 use Rattle.slh_core.specs.Parameters.{chain_count}
 use Rattle.slh_core.specs.Suite.{HasLength, Seeded}
-use Rattle.slh_trees.proofs.Climbs.{length-merkle_auth_path, climb-merkle_auth_path}
-use Rattle.slh_audit.proofs.Nearby.{even_pair, odd_pair, half, length-merkle}
+use Rattle.slh_trees.proofs.Climbs.{even_pair, odd_pair, length-merkle, length-merkle_auth_path, climb-merkle_auth_path}
+use Rattle.slh_audit.proofs.Nearby.{half}
 use Rattle.slh_trees.specs.Checking.{checked_fors_node}
 use Rattle.slh_trees.specs.Fors.{fors_leaf, fors_opened, fors_auth_path, fors_place, fors_secret, fors_sig, leaf_index, opened_leaves}
 use Rattle.slh_trees.specs.Merkle.{Place, sibling_of, climb, merkle, merkle_auth_path}

@@ -12,7 +12,8 @@ use Rattle.slh_trees.specs.Fors.{fors_leaf, fors_place, leaf_index}
 use Rattle.slh_core.specs.Bytes.{part}
 use Rattle.slh_core.specs.Suite.{HasLength, Seeded}
 use Rattle.slh_trees.specs.Merkle.{Place, node_bytes, sibling_of, merkle, climb}
-use Rattle.slh_audit.proofs.Nearby.{half, length-merkle}
+use Rattle.slh_audit.proofs.Nearby.{half}
+use Rattle.slh_trees.proofs.Climbs.{length-merkle}
 
 module _ (K : Seeded) (B : Place) (leaves : ℕ → List ℕ) (x path : List ℕ) (y z : ℕ)
     (law : HasLength K.suite K.n) (lens : (i : ℕ) → length (leaves i) ≡ K.n) (lx : length x ≡ K.n) (fits : (z + 1) * K.n ≤ length path) where

@@ -18,7 +18,8 @@ use Rattle.slh_trees.specs.Checking.{fors_pk_from_sig, checked_fors_node, checke
 use Rattle.slh_trees.specs.Checking.{checked_node, forest_size}
 use Rattle.slh_trees.specs.Fors.{fors_pk, fors_sig, fors_leaf, fors_node, fors_place}
 use Rattle.slh_trees.specs.Fors.{fors_secret, leaf_index}
-use Rattle.slh_trees.specs.Hypertree.{ht_sig, layer_message, layer_size, leaf_at, tree_at}
+use Rattle.slh_trees.specs.Hypertree.{ht_sig, layer_message, layer_signature, layer_size}
+use Rattle.slh_trees.specs.Hypertree.{leaf_at, tree_at}
 use Rattle.slh_trees.specs.Merkle.{Place, climb, merkle}
 use Rattle.slh_trees.specs.MessageDigest.{split_digest}
 use Rattle.slh_trees.specs.Xmss.{xmss_node, tree_place}
@@ -167,6 +168,18 @@ module _ (D : Dispute) where
   shows (ForsNode i (suc z)) =
       nat_lt i D.k && nat_le (suc z) D.a
       && fors_node_shows D.K D.sk D.t D.l D.a D.forest (digits D.md D.a D.k) i (suc z)
+
+  -- layer j's part of the bytes is the one that the key makes, and the message that it leads on from
+  -- is the key's own
+  unfoldable pub IsOwnLayer : ℕ → Type 0
+  IsOwnLayer j =
+      let key = fors_pk D.K D.sk D.t D.l D.k D.a in
+      (checked_at j ≡ own_at j)
+      × (part (layer_size D.K.n D.hp) D.layers j ≡ layer_signature D.K D.hp D.sk D.t D.l key j)
+
+  -- so it is on each layer from a lowest one on
+  abbrev pub IsOwnFrom : ℕ → Type 0
+  IsOwnFrom lowest = (j : ℕ) → lowest ≤ j → j < D.d → IsOwnLayer j
 
   -- the bytes are those that the key makes
   unfoldable pub IsOwn : Type 0

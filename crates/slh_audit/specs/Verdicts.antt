@@ -1,5 +1,5 @@
 -- What an audit answers, and the test of evidence. Z is the scheme, key a signing key.
-use Rattle.std.specs.Prelude.{ℕ, ◌*◌, ◌^◌, ◌==◌, nat_lt, Bool, if◌then◌else◌, List, length, take}
+use Rattle.std.specs.Prelude.{ℕ, ◌*◌, Bool, if◌then◌else◌, List, [], ◌∷◌, length, take}
 use Rattle.std.specs.Prelude.{Option, None, Some, Result, Ok, Err}
 use Rattle.std.specs.Str.{bytes_eq}
 use Rattle.slh_audit.specs.declared.evidence.AuditError.{AuditError}
@@ -17,16 +17,14 @@ use Rattle.slh_trees.specs.Checking.{checked_root, signature_size}
 use Rattle.slh_trees.specs.Frame.{frame}
 use Rattle.slh_trees.specs.Keys.{top_root}
 use Rattle.slh_trees.specs.Signing.{digest_signature}
+use Rattle.slh_trees.specs.Sizes.{context_refusal, first_refusal, length_refusal, message_refusal}
 
 -- the first refusal by size, where there is one
 abbrev pub size_refusal : Scheme → List ℕ → List ℕ → List ℕ → List ℕ → Option AuditError
-size_refusal Z key context message sig =
-    if length key == 4 * Z.n then
-    if length sig == signature_size Z then
-    if nat_lt 255 (length context) then Some ContextTooLong else
-    if nat_lt (2 ^ 60) (length message) then Some MessageTooLong else None
-    else Some Length
-    else Some Length
+size_refusal Z key context message sig = first_refusal
+    (length_refusal Length (4 * Z.n) (length key)
+    ∷ length_refusal Length (signature_size Z) (length sig)
+    ∷ context_refusal ContextTooLong context ∷ message_refusal MessageTooLong message ∷ [])
 
 -- by the first evidence. Where there is none, accepted bytes are those that the key makes: that is
 -- the law of binding

@@ -1,5 +1,6 @@
 //! Audits: whether a key made the bytes that lead to its root.
 ghost use Rattle.std.specs.Prelude.{◌≡◌, ◌≤◌, ◌*◌, ◌+◌, ◌++◌, length, take, drop, slice_range};
+ghost use Rattle.std.specs.Prelude.{◌↔◌, ◌×◌, IsTrue};
 ghost use Rattle.slh_audit.specs.Evidence.{dispute, dispute_of, shows};
 ghost use Rattle.slh_audit.specs.Verdicts.{audit_answer, check_answer, message_audit};
 ghost use Rattle.slh_audit.specs.Verdicts.{digest_verdict as spec_digest_verdict};
@@ -7,21 +8,19 @@ ghost use Rattle.slh_audit.specs.Verdicts.{foreign_by as spec_foreign_by};
 ghost use Rattle.slh_core.specs.Bytes.{part};
 ghost use Rattle.slh_core.specs.Steps.{IsFresh};
 ghost use Rattle.slh_trees.specs.Checking.{forest_size, signature_size};
-ghost use Rattle.slh_trees.specs.Keys.{top_root as spec_top_root};
 ghost use Rattle.slh_trees.specs.MessageDigest.{split_digest as spec_split_digest};
 
 use crate::dispute::Dispute;
 use crate::evidence::{AuditError, Evidence, Verdict};
 use crate::layer::same;
-use crate::sizes::{check_sizes, frame_head};
+use crate::sizes::check_sizes;
 use hybrid_array::ArraySize;
-use slh_core::address::WotsHash;
 use slh_core::nbytes::NBytes;
 use slh_core::params::{ForsParams, MAX_DIGEST_LEN, MAX_MESSAGE_LEN, forest_sizes, layer_sizes};
 use slh_core::parts::part_of;
 use slh_core::steps::Steps;
-use slh_trees::xmss::xmss_node;
-use slh_trees::{check_root, split_digest};
+use slh_trees::sizes::frame_head;
+use slh_trees::{check_root, split_digest, top_root};
 use std::marker::Brand;
 use std::sync::ledger::{Blank, Ledger};
 
@@ -73,8 +72,15 @@ fn foreign_by(found: Option<Evidence>) -> Verdict
     }
 }
 
+/// Whether the forest's part and all layers are the key's own.
+fn all_made(forest: bool, lowest: u32) -> bool
+    ensures { IsTrue result ↔ (IsTrue forest × (lowest ≡ 0)) }
+{
+    forest && lowest == 0
+}
+
 /// The verdict on accepted bytes, for a digest. It searches for evidence only where the bytes
-/// aren't those that the key makes.
+/// aren't those that the key makes, and not on the upper layers that are.
 fn digest_verdict<P: ForsParams, L: Ledger>(
     sk_seed: &NBytes<P::N>,
     pk_seed: &NBytes<P::N>,
@@ -87,10 +93,12 @@ fn digest_verdict<P: ForsParams, L: Ledger>(
     ensures { result ≡ spec_digest_verdict P.scheme pk_seed.now sk_seed.now digest.now sig.now }
 {
     let dispute = set_against::<P>(sk_seed, pk_seed, digest, sig);
-    if dispute.is_made::<L>(steps) {
+    let (made, key) = dispute.forest_made::<L>(steps);
+    let lowest = dispute.own_from::<L>(&key, steps);
+    if all_made(made, lowest) {
         return Verdict::Genuine;
     }
-    foreign_by(dispute.first_evidence::<L>(steps))
+    foreign_by(dispute.first_evidence::<L>(lowest, steps))
 }
 
 /// Whether evidence shows, for a digest.
@@ -109,24 +117,6 @@ fn digest_shows<P: ForsParams, L: Ledger>(
 {
     let dispute = set_against::<P>(sk_seed, pk_seed, digest, sig);
     dispute.shows::<L>(evidence, steps)
-}
-
-/// The root of the top tree of a key's seeds.
-#[tactic(auto, unfolding(slh_trees::specs::Keys::top_root))]
-fn top_root<P: ForsParams, L: Ledger>(
-    sk_seed: &NBytes<P::N>,
-    pk_seed: &NBytes<P::N>,
-    steps: &mut Steps<L>,
-) -> NBytes<P::N>
-    ensures { result ≡ spec_top_root P.scheme pk_seed.now sk_seed.now }
-{
-    layer_sizes::<P>();
-    let keyed = P::keyed(pk_seed);
-    let top = WotsHash {
-        layer_adrs: P::D::USIZE as u32 - 1,
-        ..WotsHash::default()
-    };
-    xmss_node::<P, L>(sk_seed, 0, P::HPrime::USIZE as u32, &keyed, &top, steps)
 }
 
 /// Writes the digest of the message that the three slices joined are, by the key and by the

@@ -1,8 +1,9 @@
-//! Whether a signature's parts are those that the key makes.
-ghost use Rattle.std.specs.Prelude.{◌≡◌, ◌↔◌, IsTrue};
-ghost use Rattle.slh_audit.specs.Evidence.{IsOwn, dispute_on};
+//! How much of a signature is what the key makes.
+ghost use Rattle.std.specs.Prelude.{◌≡◌, ◌↔◌, ◌×◌, ◌+◌, ◌<◌, ◌≤◌, IsTrue};
+ghost use Rattle.std.specs.Str.{bytes_eq};
+ghost use Rattle.slh_audit.specs.Evidence.{IsOwnFrom, IsOwnLayer, checked_at, dispute_on, own_at};
 ghost use Rattle.slh_core.specs.Parameters.{scheme_of};
-ghost use Rattle.slh_trees.specs.Hypertree.{ht_sig};
+ghost use Rattle.slh_trees.specs.Fors.{fors_pk, fors_sig};
 
 use crate::dispute::Dispute;
 use crate::layer::same;
@@ -13,7 +14,7 @@ use slh_core::params::{ForsParams, MAX_FORS_TREES, MAX_OPENED_LEN, forest_sizes,
 use slh_core::steps::Steps;
 use slh_trees::fors::fors_sign_root;
 use slh_trees::hypertree::layer_len;
-use slh_trees::xmss::xmss_sign_root;
+use slh_trees::xmss::{xmss_pk_from_sig, xmss_sign_root};
 use std::sync::ledger::Ledger;
 
 // The most bytes of a forest's part of a signature.
@@ -22,13 +23,25 @@ const MAX_FOREST_LEN: usize = MAX_FORS_TREES * MAX_OPENED_LEN;
 // The most bytes of a layer's part, within what `layer_len` promises.
 const MAX_LAYER_LEN: usize = 4096;
 
+/// Whether two byte strings are the same, and two others too.
+fn both_same(a: &[u8], b: &[u8], c: &[u8], d: &[u8]) -> bool
+    ensures { IsTrue result ↔ ((a.now ≡ b.now) × (c.now ≡ d.now)) }
+{
+    a == b && c == d
+}
+
 impl<'a, P: ForsParams> Dispute<'a, P> {
-    /// Whether the forest's part and the layers' parts are those that the key makes. It costs as
-    /// much as signing.
-    pub(crate) fn is_made<L: Ledger>(&self, steps: &mut Steps<L>) -> bool
-        ensures { let Z = scheme_of P.suite P.N.USIZE
+    /// Whether the forest's part is the one that the key makes, and the public key of the key's
+    /// own forest.
+    pub(crate) fn forest_made<L: Ledger>(&self, steps: &mut Steps<L>) -> (bool, NBytes<P::N>)
+        ensures made { let Z = scheme_of P.suite P.N.USIZE
             P.HPrime.USIZE P.D.USIZE P.A.USIZE P.K.USIZE in
-            IsTrue result ↔ IsOwn (dispute_on Z self.now) }
+            let D = dispute_on Z self.now in
+            result.0 ≡ bytes_eq D.forest (fors_sig D.K D.sk D.t D.l D.k D.a D.md) }
+        ensures key { let Z = scheme_of P.suite P.N.USIZE
+            P.HPrime.USIZE P.D.USIZE P.A.USIZE P.K.USIZE in
+            let D = dispute_on Z self.now in
+            result.1 ≡ fors_pk D.K D.sk D.t D.l D.k D.a }
     {
         forest_sizes::<P>();
         let len = P::K::USIZE * ((1 + P::A::USIZE) * P::N::USIZE);
@@ -37,33 +50,75 @@ impl<'a, P: ForsParams> Dispute<'a, P> {
         let (sk_seed, keyed) = (&self.sk_seed, &self.keyed);
         let adrs = ForsTree::new(self.tree, self.leaf);
         let key = fors_sign_root::<P, L>(self.md, sk_seed, keyed, &adrs, own, steps);
-        if !same(self.forest, own) {
-            return false;
-        }
-        self.layers_made::<L>(&key, steps)
+        (same(self.forest, own), key)
     }
 
-    /// Whether the layers' parts are those that the key makes over the forest's public key.
-    fn layers_made<L: Ledger>(&self, key: &NBytes<P::N>, steps: &mut Steps<L>) -> bool
-        ensures { let Z = scheme_of P.suite P.N.USIZE
+    /// Takes the message that the check has on a layer and the key's own to the layer above.
+    /// Answers whether the layer is the key's own, which spares its check.
+    fn layer_up<L: Ledger>(
+        &self,
+        layer: u32,
+        checked: &mut NBytes<P::N>,
+        own: &mut NBytes<P::N>,
+        steps: &mut Steps<L>,
+    ) -> bool
+        requires layer { layer < P.D.USIZE }
+        requires checked { let Z = scheme_of P.suite P.N.USIZE
             P.HPrime.USIZE P.D.USIZE P.A.USIZE P.K.USIZE in
-            let D = dispute_on Z self.now in
-            IsTrue result ↔ (D.layers ≡ ht_sig D.K D.hp D.sk D.t D.l key.now D.d) }
+            checked.old ≡ checked_at (dispute_on Z self.now) layer }
+        requires own { let Z = scheme_of P.suite P.N.USIZE
+            P.HPrime.USIZE P.D.USIZE P.A.USIZE P.K.USIZE in
+            own.old ≡ own_at (dispute_on Z self.now) layer }
+        ensures made { let Z = scheme_of P.suite P.N.USIZE
+            P.HPrime.USIZE P.D.USIZE P.A.USIZE P.K.USIZE in
+            IsTrue result ↔ IsOwnLayer (dispute_on Z self.now) layer }
+        ensures checked { let Z = scheme_of P.suite P.N.USIZE
+            P.HPrime.USIZE P.D.USIZE P.A.USIZE P.K.USIZE in
+            checked.new ≡ checked_at (dispute_on Z self.now) (layer + 1) }
+        ensures own { let Z = scheme_of P.suite P.N.USIZE
+            P.HPrime.USIZE P.D.USIZE P.A.USIZE P.K.USIZE in
+            own.new ≡ own_at (dispute_on Z self.now) (layer + 1) }
     {
         layer_sizes::<P>();
-        let size = layer_len::<P>();
         let mut store = [0u8; MAX_LAYER_LEN];
-        let mut message = key.copy();
-        for j in 0..P::D::USIZE {
-            let adrs = self.adrs_at(j as u32);
-            let leaf = adrs.key_pair_adrs;
-            let own = &mut store[..size];
-            let (sk_seed, keyed) = (&self.sk_seed, &self.keyed);
-            message = xmss_sign_root::<P, L>(&message, sk_seed, keyed, leaf, &adrs, own, steps);
-            if !same(self.layer_sig(j), own) {
-                return false;
+        let made = &mut store[..layer_len::<P>()];
+        let sig = self.layer_sig(layer as usize);
+        let adrs = self.adrs_at(layer);
+        let leaf = adrs.key_pair_adrs;
+        let (sk_seed, keyed) = (&self.sk_seed, &self.keyed);
+        let root = xmss_sign_root::<P, L>(own, sk_seed, keyed, leaf, &adrs, made, steps);
+        let is_own = both_same(checked.as_slice(), own.as_slice(), sig, made);
+        *checked = if is_own {
+            root.copy()
+        } else {
+            xmss_pk_from_sig::<P, L>(leaf, sig, checked, keyed, &adrs, steps)
+        };
+        *own = root;
+        is_own
+    }
+
+    /// A layer from which on all layers are the key's own, given the public key of the key's own
+    /// forest. Where no lower one would do, the layer below it isn't the key's own. It costs as
+    /// much as signing, and a check of the layers that aren't the key's own.
+    pub(crate) fn own_from<L: Ledger>(&self, key: &NBytes<P::N>, steps: &mut Steps<L>) -> u32
+        requires key { let Z = scheme_of P.suite P.N.USIZE
+            P.HPrime.USIZE P.D.USIZE P.A.USIZE P.K.USIZE in
+            let D = dispute_on Z self.now in
+            key.now ≡ fors_pk D.K D.sk D.t D.l D.k D.a }
+        ensures high { result ≤ P.D.USIZE }
+        ensures own { let Z = scheme_of P.suite P.N.USIZE
+            P.HPrime.USIZE P.D.USIZE P.A.USIZE P.K.USIZE in
+            IsOwnFrom (dispute_on Z self.now) result }
+    {
+        layer_sizes::<P>();
+        let mut checked = self.checked_key::<L>(steps);
+        let mut own = key.copy();
+        let mut lowest = 0;
+        for layer in 0..P::D::USIZE as u32 {
+            if !self.layer_up::<L>(layer, &mut checked, &mut own, steps) {
+                lowest = layer + 1;
             }
         }
-        true
+        lowest
     }
 }

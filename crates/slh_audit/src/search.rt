@@ -1,7 +1,8 @@
 //! The search for the first evidence that shows.
-ghost use Rattle.std.specs.Prelude.{◌≡◌, ◌<◌};
+ghost use Rattle.std.specs.Prelude.{◌≡◌, ◌<◌, ◌≤◌};
 ghost use Rattle.std.specs.List.{find};
 ghost use Rattle.slh_audit.specs.Evidence.{shows as spec_shows, checked_at, dispute_on, own_at};
+ghost use Rattle.slh_audit.specs.Evidence.{IsOwnFrom};
 ghost use Rattle.slh_audit.specs.Places.{in_turn, tree_node_places, chain_places, layer_places};
 ghost use Rattle.slh_audit.specs.Places.{all_layers_places, fors_tree_places, forest_places};
 ghost use Rattle.slh_audit.specs.Places.{first_evidence as spec_first_evidence};
@@ -128,8 +129,13 @@ impl<'a, P: ForsParams> Dispute<'a, P> {
         self.first_in_chains::<L>(layer, &message, &own, steps)
     }
 
-    /// The first evidence of all layers that shows.
-    fn first_in_layers<L: Ledger>(&self, steps: &mut Steps<L>) -> Option<Evidence>
+    /// The first evidence of all layers that shows, where the layers from a lowest one on are the
+    /// key's own: nothing shows on them.
+    fn first_in_layers<L: Ledger>(&self, lowest: u32, steps: &mut Steps<L>) -> Option<Evidence>
+        requires lowest { lowest ≤ P.D.USIZE }
+        requires own { let Z = scheme_of P.suite P.N.USIZE
+            P.HPrime.USIZE P.D.USIZE P.A.USIZE P.K.USIZE in
+            IsOwnFrom (dispute_on Z self.now) lowest }
         ensures { let Z = scheme_of P.suite P.N.USIZE
             P.HPrime.USIZE P.D.USIZE P.A.USIZE P.K.USIZE in
             let D = dispute_on Z self.now in
@@ -137,7 +143,7 @@ impl<'a, P: ForsParams> Dispute<'a, P> {
     {
         layer_sizes::<P>();
         let count = P::D::USIZE as u32;
-        for down in 0..count {
+        for down in count - lowest..count {
             let found = self.first_in_layer::<L>(count - 1 - down, steps);
             if found.is_some() {
                 return found;
@@ -186,13 +192,21 @@ impl<'a, P: ForsParams> Dispute<'a, P> {
         None
     }
 
-    /// The first evidence that shows.
-    pub(crate) fn first_evidence<L: Ledger>(&self, steps: &mut Steps<L>) -> Option<Evidence>
+    /// The first evidence that shows, where the layers from a lowest one on are the key's own.
+    pub(crate) fn first_evidence<L: Ledger>(
+        &self,
+        lowest: u32,
+        steps: &mut Steps<L>,
+    ) -> Option<Evidence>
+        requires lowest { lowest ≤ P.D.USIZE }
+        requires own { let Z = scheme_of P.suite P.N.USIZE
+            P.HPrime.USIZE P.D.USIZE P.A.USIZE P.K.USIZE in
+            IsOwnFrom (dispute_on Z self.now) lowest }
         ensures { let Z = scheme_of P.suite P.N.USIZE
             P.HPrime.USIZE P.D.USIZE P.A.USIZE P.K.USIZE in
             result ≡ spec_first_evidence (dispute_on Z self.now) }
     {
-        let found = self.first_in_layers::<L>(steps);
+        let found = self.first_in_layers::<L>(lowest, steps);
         if found.is_some() {
             return found;
         }

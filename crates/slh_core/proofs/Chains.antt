@@ -25,7 +25,7 @@ unfolding chain
 length-chain K x j t l c i zero law h = h
 length-chain K x j t l c i (suc q) law h = law.f K.seed _ _
 
-length-chain_value : (K : Seeded) (sk : List ℕ) (j t l c q : ℕ) → HasLength K.suite K.n → length (chain_value K sk j t l c q) ≡ K.n
+pub length-chain_value : (K : Seeded) (sk : List ℕ) (j t l c q : ℕ) → HasLength K.suite K.n → length (chain_value K sk j t l c q) ≡ K.n
 length-chain_value K sk j t l c q law =
     length-chain K (chain_secret K sk j t l c) j t l c 0 q law (law.prf _ _ _)
 

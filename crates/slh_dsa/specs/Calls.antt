@@ -1,7 +1,7 @@
 -- What the calls on keys answer (FIPS 205, sections 9 and 10). Z is the scheme, of values of n
 -- bytes.
-use Rattle.std.specs.Prelude.{◌≡◌, ◌==◌, ℕ, ◌*◌, ◌^◌, ◌≤◌, List, [], ◌∷◌, length, nat_lt, Bool}
-use Rattle.std.specs.Prelude.{Option, None, Some, Result, MatchResult, IfOk, if◌then◌else◌}
+use Rattle.std.specs.Prelude.{◌≡◌, ◌==◌, ℕ, ◌*◌, ◌^◌, ◌≤◌, List, [], ◌∷◌, length, Bool}
+use Rattle.std.specs.Prelude.{Option, None, Some, Result, IfOk, if◌then◌else◌}
 use Rattle.std.specs.Option.{ForSome}
 use Rattle.std.specs.Str.{bytes_eq}
 use Rattle.slh_core.specs.Bytes.{part}
@@ -9,58 +9,39 @@ use Rattle.slh_core.specs.Parameters.{Scheme}
 use Rattle.slh_trees.specs.Checking.{checked_root, signature_size}
 use Rattle.slh_trees.specs.Frame.{frame}
 use Rattle.slh_trees.specs.Keys.{IsTrueKey, signing_key_bytes}
+use Rattle.slh_trees.specs.Sizes.{RefusedExactly, context_refusal, first_refusal, length_refusal}
+use Rattle.slh_trees.specs.Sizes.{message_refusal}
 use Rattle.slh_dsa.specs.declared.error.Error.{Error}
 use Rattle.slh_dsa.specs.declared.error.Error.TheVariants.{Length, ContextTooLong, RandomizerLength}
 use Rattle.slh_dsa.specs.declared.error.Error.TheVariants.{MessageTooLong, Invalid}
-
--- the first of the refusals that stand
-abbrev pub first_refusal : List (Option Error) → Option Error
-first_refusal [] = None
-first_refusal (None ∷ later) = first_refusal later
-first_refusal (Some refusal ∷ later) = Some refusal
-
--- the call is refused for exactly this cause, and not at all where there is none
-abbrev pub RefusedExactly : {T : Type 0} → Result T Error → Option Error → Type 0
-RefusedExactly result refusal = MatchResult result (λ _. refusal ≡ None) (λ e. refusal ≡ Some e)
-
--- there are so many bytes
-abbrev pub length_refusal : ℕ → ℕ → Option Error
-length_refusal wanted len = if len == wanted then None else Some Length
-
--- a context has at most 255 bytes
-abbrev pub context_refusal : List ℕ → Option Error
-context_refusal context = if nat_lt 255 (length context) then Some ContextTooLong else None
 
 -- opt_rand has n bytes where it is given
 abbrev pub opt_rand_refusal : Scheme → Option (List ℕ) → Option Error
 opt_rand_refusal Z None = None
 opt_rand_refusal Z (Some bytes) = if length bytes == Z.n then None else Some RandomizerLength
 
--- a message has at most 2^60 bytes
-abbrev pub message_refusal : List ℕ → Option Error
-message_refusal message = if nat_lt (2 ^ 60) (length message) then Some MessageTooLong else None
-
--- a signature has the scheme's number of bytes
-abbrev pub signature_refusal : Scheme → ℕ → Option Error
-signature_refusal Z len = length_refusal (signature_size Z) len
-
 -- why no key is made of three seeds
 abbrev pub keygen_refusal : Scheme → List ℕ → List ℕ → List ℕ → Option Error
 keygen_refusal Z sk_seed sk_prf pk_seed = first_refusal
-    (length_refusal Z.n (length sk_seed) ∷ length_refusal Z.n (length sk_prf)
-    ∷ length_refusal Z.n (length pk_seed) ∷ [])
+    (length_refusal Length Z.n (length sk_seed) ∷ length_refusal Length Z.n (length sk_prf)
+    ∷ length_refusal Length Z.n (length pk_seed) ∷ [])
+
+-- why there is no signature of so many bytes
+abbrev pub signature_refusal : Scheme → ℕ → Option Error
+signature_refusal Z len = length_refusal Length (signature_size Z) len
 
 -- why bytes are no signing key, and no verifying key
 abbrev pub signing_key_refusal : Scheme → List ℕ → Option Error
-signing_key_refusal Z key = length_refusal (4 * Z.n) (length key)
+signing_key_refusal Z key = length_refusal Length (4 * Z.n) (length key)
 
 abbrev pub verifying_key_refusal : Scheme → List ℕ → Option Error
-verifying_key_refusal Z key = length_refusal (2 * Z.n) (length key)
+verifying_key_refusal Z key = length_refusal Length (2 * Z.n) (length key)
 
 -- why signing is refused for what it is given
 abbrev pub sign_input_refusal : Scheme → List ℕ → Option (List ℕ) → List ℕ → Option Error
 sign_input_refusal Z context opt_rand message = first_refusal
-    (context_refusal context ∷ opt_rand_refusal Z opt_rand ∷ message_refusal message ∷ [])
+    (context_refusal ContextTooLong context ∷ opt_rand_refusal Z opt_rand
+    ∷ message_refusal MessageTooLong message ∷ [])
 
 -- why signing into so many bytes is refused
 abbrev pub sign_refusal : Scheme → List ℕ → Option (List ℕ) → List ℕ → ℕ → Option Error
@@ -70,7 +51,8 @@ sign_refusal Z context opt_rand message len = first_refusal
 -- why verifying is refused before anything is hashed
 abbrev pub verify_refusal : Scheme → List ℕ → List ℕ → List ℕ → Option Error
 verify_refusal Z context message sig = first_refusal
-    (signature_refusal Z (length sig) ∷ context_refusal context ∷ message_refusal message ∷ [])
+    (signature_refusal Z (length sig) ∷ context_refusal ContextTooLong context
+    ∷ message_refusal MessageTooLong message ∷ [])
 
 -- whether a signature leads to the root of a verifying key
 abbrev pub is_valid : Scheme → List ℕ → List ℕ → List ℕ → List ℕ → Bool

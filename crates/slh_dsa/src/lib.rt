@@ -6,7 +6,6 @@
 mod error;
 pub mod laws;
 mod parameter_set;
-mod root;
 mod signing;
 mod signing_key;
 mod sizes;

@@ -2,24 +2,19 @@
 ghost use Rattle.std.specs.Prelude.{◌≡◌, ◌≤◌, ◌^◌, length, OnOk};
 ghost use Rattle.std.specs.Option.{option_copied, ForSome};
 ghost use Rattle.slh_trees.specs.Checking.{signature_size};
-ghost use Rattle.slh_trees.specs.Frame.{frame_head};
-ghost use Rattle.slh_dsa.specs.Calls.{RefusedExactly, context_refusal, message_refusal};
+ghost use Rattle.slh_trees.specs.Sizes.{RefusedExactly, context_refusal, message_refusal};
 ghost use Rattle.slh_dsa.specs.Calls.{opt_rand_refusal, signature_refusal};
+ghost use Rattle.slh_dsa.specs.declared.error.Error.TheVariants.{ContextTooLong, MessageTooLong};
 
 use crate::error::Error;
 use crate::parameter_set::ParameterSet;
 use hybrid_array::ArraySize;
 use slh_core::params::chain_sizes;
-
-// The most bytes of a context (FIPS 205, algorithm 22).
-const MAX_CONTEXT: usize = 255;
-
-// The most bytes of a message, well within what SHA-256 takes.
-const MAX_MESSAGE: usize = 1 << 60;
+use slh_trees::sizes::{MAX_CONTEXT, MAX_MESSAGE};
 
 /// `ContextTooLong` for a context of more than 255 bytes.
 pub(crate) fn check_context(ctx: &[u8]) -> Result<(), Error>
-    ensures refusal { RefusedExactly result (context_refusal ctx.now) }
+    ensures refusal { RefusedExactly result (context_refusal ContextTooLong ctx.now) }
     ensures fits { OnOk result (length ctx.now ≤ 255) }
 {
     if ctx.len() > MAX_CONTEXT {
@@ -30,7 +25,7 @@ pub(crate) fn check_context(ctx: &[u8]) -> Result<(), Error>
 
 /// `MessageTooLong` for a message of more than 2^60 bytes.
 pub(crate) fn check_message(msg: &[u8]) -> Result<(), Error>
-    ensures refusal { RefusedExactly result (message_refusal msg.now) }
+    ensures refusal { RefusedExactly result (message_refusal MessageTooLong msg.now) }
     ensures fits { OnOk result (length msg.now ≤ 2 ^ 60) }
 {
     if msg.len() > MAX_MESSAGE {
@@ -63,12 +58,4 @@ pub(crate) fn check_opt_rand<P: ParameterSet>(opt_rand: Option<&[u8]>) -> Result
         return Err(Error::RandomizerLength);
     }
     Ok(())
-}
-
-/// The bytes before the context of a message that is signed as it is (FIPS 205, algorithm 22).
-pub(crate) fn frame_head(ctx: &[u8]) -> [u8; 2]
-    requires { length ctx.now ≤ 255 }
-    ensures { result ≡ frame_head ctx.now }
-{
-    [0, ctx.len() as u8]
 }

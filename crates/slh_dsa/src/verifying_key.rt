@@ -1,17 +1,19 @@
 //! Verifying keys (FIPS 205, section 9.1).
 ghost use Rattle.std.specs.Prelude.{◌≡◌, ◌≢◌, ◌≤◌, ◌+◌, ◌*◌, length, IfOk, IfErr};
 ghost use Rattle.slh_core.specs.Costs.{slh_verify_bound};
-ghost use Rattle.slh_dsa.specs.Calls.{RefusedExactly, verify_error, verifying_key_refusal};
+ghost use Rattle.slh_dsa.specs.Calls.{verify_error, verifying_key_refusal};
+ghost use Rattle.slh_trees.specs.Sizes.{RefusedExactly};
 ghost use Rattle.slh_dsa.specs.declared.error.Error.TheVariants.{Invalid};
 
 use crate::error::Error;
 use crate::parameter_set::ParameterSet;
-use crate::sizes::{check_context, check_message, check_signature, frame_head};
+use crate::sizes::{check_context, check_message, check_signature};
 use hybrid_array::ArraySize;
 use slh_core::nbytes::NBytes;
 use slh_core::params::chain_sizes;
 use slh_core::steps::Steps;
 use slh_trees::check::check_root;
+use slh_trees::sizes::frame_head;
 use std::alloc::AllocError;
 use std::marker::Model;
 use std::sync::ledger::Ledger;

@@ -15,10 +15,10 @@ use Rattle.slh_trees.specs.Xmss.{tree_place, xmss_node, auth_path, xmss_sig}
 use Rattle.slh_trees.proofs.Powers.{half}
 
 -- a node's two children, by one of them
-even_pair : (i : ℕ) → (i % 2 == 0) ≡ true → (2 * (i / 2) ≡ i) × (2 * (i / 2) + 1 ≡ sibling_of i)
+pub even_pair : (i : ℕ) → (i % 2 == 0) ≡ true → (2 * (i / 2) ≡ i) × (2 * (i / 2) + 1 ≡ sibling_of i)
 even_pair i h = grind (arith, nat_tests)
 
-odd_pair : (i : ℕ) → (i % 2 == 0) ≡ false → (2 * (i / 2) ≡ sibling_of i) × (2 * (i / 2) + 1 ≡ i)
+pub odd_pair : (i : ℕ) → (i % 2 == 0) ≡ false → (2 * (i / 2) ≡ sibling_of i) × (2 * (i / 2) + 1 ≡ i)
 odd_pair i h = grind (arith, nat_tests)
 
 -- whichever child the way comes from, the left one is hashed first
@@ -26,7 +26,7 @@ in_order : (h : List ℕ → List ℕ → List ℕ) (at : ℕ → List ℕ) (i :
 in_order h at i true e = let p = even_pair i e in rw (p.1, p.0) refl
 in_order h at i false e = let p = odd_pair i e in rw (p.1, p.0) refl
 
-length-merkle : (K : Seeded) (B : Place) (leaves : ℕ → List ℕ) (z i : ℕ) → HasLength K.suite K.n → ((i : ℕ) → length (leaves i) ≡ K.n) → length (merkle K B leaves z i) ≡ K.n
+pub length-merkle : (K : Seeded) (B : Place) (leaves : ℕ → List ℕ) (z i : ℕ) → HasLength K.suite K.n → ((i : ℕ) → length (leaves i) ≡ K.n) → length (merkle K B leaves z i) ≡ K.n
 unfolding merkle
 length-merkle K B leaves zero i law sizes = sizes i
 length-merkle K B leaves (suc z) i law sizes = law.h _ _ _ _

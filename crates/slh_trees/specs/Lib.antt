@@ -9,3 +9,4 @@ pub mod ToySuite
 pub mod Keys
 pub mod Signing
 pub mod Frame
+pub mod Sizes

@@ -14,6 +14,8 @@ pub mod hypertree;
 pub mod laws;
 mod leaves;
 pub mod node;
+pub mod root;
+pub mod sizes;
 mod subtree;
 #[cfg(test)]
 mod tests;
@@ -25,6 +27,7 @@ pub use check::check_root;
 pub use digest::split_digest;
 pub use fors::{fors_node, fors_pk_from_sig, fors_sign, fors_sign_root, fors_sk_gen};
 pub use hypertree::{ht_sign, ht_verify};
+pub use root::top_root;
 pub use slh_core::address::{
     Address, ForsPrf, ForsRoots, ForsTree, HashTree, WotsHash, WotsPk, WotsPrf,
 };

@@ -1,0 +1,25 @@
+-- Refusals for the sizes of what a call is given. Each call says by which of its errors it refuses.
+use Rattle.std.specs.Prelude.{◌≡◌, ◌==◌, ℕ, ◌^◌, List, [], ◌∷◌, length, nat_lt}
+use Rattle.std.specs.Prelude.{Option, None, Some, Result, MatchResult, if◌then◌else◌}
+
+-- the first of the refusals that stand
+abbrev pub first_refusal : {E : Type 0} → List (Option E) → Option E
+first_refusal [] = None
+first_refusal (None ∷ later) = first_refusal later
+first_refusal (Some refusal ∷ later) = Some refusal
+
+-- the call is refused for exactly this cause, and not at all where there is none
+abbrev pub RefusedExactly : {T E : Type 0} → Result T E → Option E → Type 0
+RefusedExactly result refusal = MatchResult result (λ _. refusal ≡ None) (λ e. refusal ≡ Some e)
+
+-- there are so many bytes
+abbrev pub length_refusal : {E : Type 0} → E → ℕ → ℕ → Option E
+length_refusal refusal wanted len = if len == wanted then None else Some refusal
+
+-- a context has at most 255 bytes (FIPS 205, algorithm 22)
+abbrev pub context_refusal : {E : Type 0} → E → List ℕ → Option E
+context_refusal refusal context = if nat_lt 255 (length context) then Some refusal else None
+
+-- a message has at most 2^60 bytes
+abbrev pub message_refusal : {E : Type 0} → E → List ℕ → Option E
+message_refusal refusal message = if nat_lt (2 ^ 60) (length message) then Some refusal else None
