@@ -1,5 +1,5 @@
 -- Against a layer that is the key's own nothing shows, and its check leads to the key's own root.
-use Rattle.std.proofs.Common.{◌≡◌, ℕ, suc, ◌+◌, ◌-◌, ◌*◌, ◌^◌, ◌<◌, ◌≤◌, Bool, true, false, IsTrue, arith, refl, sym, ap, ◌∙◌, add-one}
+use Rattle.std.proofs.Common.{◌≡◌, ◌↔◌, ℕ, suc, ◌+◌, ◌-◌, ◌*◌, ◌^◌, ◌<◌, ◌≤◌, Bool, true, false, IsTrue, arith, refl, sym, ap, ◌∙◌, add-one}
 use Rattle.std.proofs.Common.{List, [], ◌∷◌, ◌++◌, length, Option, None}
 use Rattle.std.specs.List.{find}
 use Rattle.slh_audit.proofs.Finding.{after_none, head_not, one_not, turn_all_none}
@@ -72,9 +72,19 @@ module _ (D : Dispute) (j : ℕ) (law : HasLength D.K.suite D.K.n) (own : IsOwnL
   checked_up below =
       let key = fors_pk_from_sig D.K D.t D.l D.k D.a D.forest D.md in
       let more = rw (own.0, own.1) at (checked_message-more D.K D.hp D.t D.l D.layers key j) in
-      ap (own_at D) add-one
+      ap (own_at D) (add-one j)
       ∙ sym (checked_node-xmss_sig D.K D.sk D.hp j (tree_at D.hp D.t j) (leaf_at D.hp D.t D.l j) (own_at D j) law below)
       ∙ more
+
+-- a comparison of messages and parts tells whether a layer is the key's own
+pub own_layer_told : (D : Dispute) (j : ℕ) (b : Bool) (checked own sig made : List ℕ) → checked ≡ checked_at D j → own ≡ own_at D j
+    → sig ≡ part (layer_size D.K.n D.hp) D.layers j → made ≡ layer_signature D.K D.hp D.sk D.t D.l (fors_pk D.K D.sk D.t D.l D.k D.a) j
+    → IsTrue b ↔ ((checked ≡ own) × (sig ≡ made)) → IsTrue b ↔ IsOwnLayer D j
+unfolding IsOwnLayer
+own_layer_told D j b checked own sig made c o s m told = (
+  (λ t. let both = told.0 t in (sym c ∙ both.0 ∙ o, sym s ∙ both.1 ∙ m)),
+  (λ is_own. told.1 (c ∙ is_own.0 ∙ sym o, s ∙ is_own.1 ∙ sym m)),
+)
 
 -- the upper layers, from the top one down
 pub upper_silent : (D : Dispute) (lowest : ℕ) → HasLength D.K.suite D.K.n → IsOwnFrom D lowest → lowest ≤ D.d

@@ -2,7 +2,8 @@
 -- key's own computation hash at the same addresses: what the check hashes comes from the bytes,
 -- what the key hashes from its secret seed. Evidence names a place where the two inputs differ and
 -- the two outputs are equal, or a chain that the bytes open at an earlier step than the key does.
-use Rattle.std.specs.Prelude.{◌≡◌, ℕ, zero, suc, ◌+◌, ◌-◌, ◌*◌, ◌/◌, ◌%◌, ◌^◌, ◌==◌, if◌then◌else◌}
+use Rattle.std.specs.Prelude.{◌≡◌, ℕ, zero, suc, ◌+◌, ◌-◌, ◌*◌, ◌/◌, ◌%◌, ◌^◌, ◌<◌, ◌≤◌, ◌==◌}
+use Rattle.std.specs.Prelude.{if◌then◌else◌}
 use Rattle.std.specs.Prelude.{Bool, not, ◌&&◌, nat_lt, nat_le}
 use Rattle.std.specs.Prelude.{List, ◌++◌, take, drop, slice_index, slice_range}
 use Rattle.std.specs.Str.{bytes_eq}

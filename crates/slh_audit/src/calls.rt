@@ -1,6 +1,6 @@
 //! Audits: whether a key made the bytes that lead to its root.
 ghost use Rattle.std.specs.Prelude.{◌≡◌, ◌≤◌, ◌*◌, ◌+◌, ◌++◌, length, take, drop, slice_range};
-ghost use Rattle.std.specs.Prelude.{◌↔◌, ◌×◌, IsTrue};
+ghost use Rattle.std.specs.Prelude.{◌↔◌, IsTrue};
 ghost use Rattle.slh_audit.specs.Evidence.{dispute, dispute_of, shows};
 ghost use Rattle.slh_audit.specs.Verdicts.{audit_answer, check_answer, message_audit};
 ghost use Rattle.slh_audit.specs.Verdicts.{digest_verdict as spec_digest_verdict};

@@ -72,7 +72,7 @@ impl<'a, P: ForsParams> Dispute<'a, P> {
     }
 
     /// The forest's public key that the signature leads to.
-    fn checked_key<L: Ledger>(&self, steps: &mut Steps<L>) -> NBytes<P::N>
+    pub(crate) fn checked_key<L: Ledger>(&self, steps: &mut Steps<L>) -> NBytes<P::N>
         ensures { let Z = scheme_of P.suite P.N.USIZE
             P.HPrime.USIZE P.D.USIZE P.A.USIZE P.K.USIZE in
             let D = dispute_on Z self.now in

@@ -1,5 +1,5 @@
 //! How much of a signature is what the key makes.
-ghost use Rattle.std.specs.Prelude.{◌≡◌, ◌↔◌, ◌×◌, ◌+◌, ◌<◌, ◌≤◌, IsTrue};
+ghost use Rattle.std.specs.Prelude.{◌≡◌, ◌↔◌, ◌+◌, ◌<◌, ◌≤◌, IsTrue};
 ghost use Rattle.std.specs.Str.{bytes_eq};
 ghost use Rattle.slh_audit.specs.Evidence.{IsOwnFrom, IsOwnLayer, checked_at, dispute_on, own_at};
 ghost use Rattle.slh_core.specs.Parameters.{scheme_of};

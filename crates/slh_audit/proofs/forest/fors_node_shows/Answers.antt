@@ -52,7 +52,7 @@ returns g c =
     let y_is : c.named_leaf-y.result ≡ y = c.named_leaf-y.ensures.value in
     let path_is : c.opened_parts.result.1.now ≡ drop n opened = c.opened_parts.ensures.path in
     let from_is : c.f-leaf.result ≡ from
-    = rw g.met.P.HashSuite.keyed_suite_is at c.f-leaf.ensures.value ∙ rw (c.at_node.ensures, c.exact-secret.ensures, c.opened_parts.ensures.secret, y_is) refl in
+    = rw g.met.P.HashSuite.keyed_suite_is at c.f-leaf.ensures.value ∙ rw (c.at_node.ensures.bytes, c.exact-secret.ensures, c.opened_parts.ensures.secret, y_is) refl in
     let fits : h * n ≤ length (drop n opened) = rw path_is at (rows_fit h a n (length c.opened_parts.result.1.now) c.requires.high c.opened_parts.ensures.path_len) in
     rw g.met.P.HashSuite.keyed_suite_is
     (one_answer _ _
