@@ -4,6 +4,8 @@
 //! program and the engine for lines are those of `line_serve`, handed on by name.
 #![tactic(auto)]
 
+#[cfg(test)]
+mod audit_tests;
 mod evidence;
 mod job;
 mod judge;

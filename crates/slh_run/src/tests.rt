@@ -12,7 +12,7 @@ use std::test::Fail;
 const KEYGEN: &[u8] =
     b"SLH-DSA-SHA2-128f keygen 01010101010101010101010101010101 02020202020202020202020202020202 03030303030303030303030303030303\n";
 
-const KEY: &[u8] =
+pub(crate) const KEY: &[u8] =
     b"0101010101010101010101010101010102020202020202020202020202020202030303030303030303030303030303034052e0733e69e78739d6e67c77f9a37d";
 
 const PUBLIC: &[u8] = b"030303030303030303030303030303034052e0733e69e78739d6e67c77f9a37d";
@@ -21,7 +21,7 @@ const KEY_REPLY: &[u8] =
     b"key 0101010101010101010101010101010102020202020202020202020202020202030303030303030303030303030303034052e0733e69e78739d6e67c77f9a37d 030303030303030303030303030303034052e0733e69e78739d6e67c77f9a37d\n";
 
 // What `serve` writes where its source gives these bytes, and its status.
-fn served(alloc: Global, input: &[u8]) -> Result<(u8, ByteString), AllocError> {
+pub(crate) fn served(alloc: Global, input: &[u8]) -> Result<(u8, ByteString), AllocError> {
     let mut source = QuietSource::new(Vec::from_slice(alloc, input)?);
     let mut sink = MemSink::new(alloc, Vec::new(alloc));
     let status = serve(alloc, &Words::new(alloc), &mut source, &mut sink);
@@ -29,7 +29,7 @@ fn served(alloc: Global, input: &[u8]) -> Result<(u8, ByteString), AllocError> {
 }
 
 // These pieces, one after the other.
-fn joined(alloc: Global, pieces: &[&[u8]]) -> Result<ByteString, AllocError> {
+pub(crate) fn joined(alloc: Global, pieces: &[&[u8]]) -> Result<ByteString, AllocError> {
     let mut all = ByteString::new(alloc);
     for piece in pieces {
         all.push_slice(piece)?;
@@ -84,53 +84,6 @@ fn signs_and_verifies_by_lines(rt: HostRuntime) -> Result<(), Fail> {
     assert_eq!(rt; status, 0);
     let replies = text.as_slice().strip_prefix(KEY_REPLY).ok_or("no key")?;
     assert_eq!(rt; replies, b"accepted\nerror invalid\n".as_slice());
-    Ok(())
-}
-
-// A signature is its key's own: no evidence shows against it, on layers that are there and on one
-// that isn't. A key with another root is none.
-#[test]
-fn audits_by_lines(rt: HostRuntime) -> Result<(), Fail> {
-    let alloc = rt.alloc();
-    let sign = [
-        b"SLH-DSA-SHA2-128f sign ".as_slice(),
-        KEY,
-        b" - 48656c6c6f none",
-    ];
-    let sign = joined(alloc, &sign)?;
-    let (_, text) = served(alloc, sign.as_slice())?;
-    let rest = text.as_slice().strip_prefix(b"sig ").ok_or("no signature")?;
-    let signature = rest.strip_suffix(b"\n").ok_or("no line feed")?;
-    let other = joined(alloc, &[&KEY[..KEY.len() - 1], b"e"])?;
-    for (command, key, evidence, reply) in [
-        (
-            b"SLH-DSA-SHA2-128f audit ".as_slice(),
-            KEY,
-            b"".as_slice(),
-            b"genuine\n".as_slice(),
-        ),
-        (b"SLH-DSA-SHA2-128f check ", KEY, b" leaf 0", b"not shown\n"),
-        (
-            b"SLH-DSA-SHA2-128f check ",
-            KEY,
-            b" leaf 22",
-            b"not shown\n",
-        ),
-        (
-            b"SLH-DSA-SHA2-128f audit ",
-            other.as_slice(),
-            b"",
-            b"error key\n",
-        ),
-    ] {
-        let line = joined(
-            alloc,
-            &[command, key, b" - 48656c6c6f ", signature, evidence],
-        )?;
-        let (status, text) = served(alloc, line.as_slice())?;
-        assert_eq!(rt; status, 0);
-        assert_eq!(rt; text.as_slice(), reply);
-    }
     Ok(())
 }
 
