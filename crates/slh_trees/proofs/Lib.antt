@@ -7,3 +7,4 @@ pub mod Layers
 pub mod Numbers
 pub mod Forests
 pub mod Signatures
+pub mod Ascents

@@ -6,11 +6,10 @@ ghost use Rattle.slh_core.specs.Costs.{auth_path_cost, fors_leaf_cost, fors_node
 ghost use Rattle.slh_core.specs.Costs.{fors_sign_cost, fors_pk_from_sig_cost, fors_pk_cost};
 ghost use Rattle.slh_trees.specs.Checking.{checked_fors_node};
 ghost use Rattle.slh_trees.specs.Checking.{fors_pk_from_sig as spec_fors_pk_from_sig};
-ghost use Rattle.slh_trees.specs.Fors.{fors_place, fors_secret, fors_node as spec_fors_node};
+ghost use Rattle.slh_trees.specs.Fors.{fors_secret, fors_node as spec_fors_node};
 ghost use Rattle.slh_trees.specs.Fors.{fors_auth_path, fors_pk, opened_leaves, fors_sig};
-ghost use Rattle.slh_trees.specs.Merkle.{node_bytes, climb as spec_climb};
 
-use crate::climb::climb_path;
+use crate::climb_rows::{climb_level, leaf_indices, opened_secrets};
 use crate::laws::forest_leads_to_key;
 use crate::leaves::{Leaves, MAX_ROW, number_from};
 use crate::node::NodeAddress;
@@ -20,7 +19,6 @@ use slh_core::address::{ForsPrf, ForsTree};
 use slh_core::digits::base_2b;
 use slh_core::nbytes::NBytes;
 use slh_core::params::{ForsParams, MAX_FORS_TREES, MAX_OPENED_LEN, MAX_ROOTS_LEN, forest_sizes};
-use slh_core::parts::put_part;
 use slh_core::steps::Steps;
 use std::sync::ledger::Ledger;
 
@@ -226,8 +224,7 @@ pub fn fors_pk_from_sig<P: ForsParams, L: Ledger>(
     P::t(keyed, &adrs.fors_roots(), &roots[..len], steps)
 }
 
-/// Climbs from each opened secret to the root of its tree.
-#[tactic(auto, unfolding(slh_core::specs::Bytes::joined))]
+/// Climbs from each opened secret to the root of its tree, in all trees together.
 pub fn climb_all<P: ForsParams, L: Ledger>(
     digits: &[u16],
     sig: &[u8],
@@ -247,36 +244,15 @@ pub fn climb_all<P: ForsParams, L: Ledger>(
         out.new ≡ joined (λ i. checked_fors_node K t l a sig.now digits.now i a) P.K.USIZE }
     ensures cost { steps.new ≡ steps.old + P.K.USIZE * (1 + P.A.USIZE) }
 {
-    let n = P::N::USIZE;
-    let size = opened_len::<P>();
-    for (i, digit) in digits.iter().enumerate() {
-        let y = index_of::<P>(i, *digit);
-        let root = climb_opened::<P, L>(&sig[i * size..(i + 1) * size], y, keyed, adrs, steps);
-        put_part(out, n, i, root.as_slice());
-    }
-}
-
-/// Climbs from the opened secret with index `y` to the root of its tree.
-fn climb_opened<P: ForsParams, L: Ledger>(
-    opened: &[u8],
-    y: u32,
-    keyed: &P::Keyed,
-    adrs: &ForsTree,
-    steps: &mut Steps<L>,
-) -> NBytes<P::N>
-    requires leaf { y < P.K.USIZE * 2 ^ P.A.USIZE }
-    requires whole { length opened.now ≡ (1 + P.A.USIZE) * P.N.USIZE }
-    ensures value { let K = P.keyed_suite keyed.now in
-        let B = fors_place adrs.now.tree_adrs_low adrs.now.key_pair_adrs in
-        let leaf = K.suite.f K.seed (node_bytes B 0 y) (take P.N.USIZE opened.now) in
-        result ≡ spec_climb K B leaf y (drop P.N.USIZE opened.now) P.A.USIZE }
-    ensures cost { steps.new ≡ steps.old + (1 + P.A.USIZE) }
-{
     forest_sizes::<P>();
-    let (first, path) = opened.split_at(P::N::USIZE);
-    let secret = NBytes::<P::N>::exact(first);
-    let leaf = P::f(keyed, &adrs.at_node(0, y), &secret, steps);
-    climb_path::<P, ForsTree, L>(&leaf, y, P::A::USIZE, path, keyed, adrs, steps)
+    let mut row = [0u32; MAX_FORS_TREES];
+    let indices = &mut row[..P::K::USIZE];
+    leaf_indices::<P>(digits, indices);
+    opened_secrets::<P>(sig, out);
+    P::f_each(keyed, &adrs.at_node(0, 0), indices, out, steps);
+    for z in 0..P::A::USIZE {
+        climb_level::<P, L>(indices, z, sig, keyed, adrs, out, steps);
+    }
 }
 
 /// Writes the signature of the digest's first part, and answers the forest's public key, which the

@@ -6,6 +6,7 @@
 
 pub mod check;
 pub mod climb;
+mod climb_rows;
 #[cfg(test)]
 mod counting;
 pub mod digest;

@@ -1,15 +1,49 @@
-use Rattle.std.proofs.Common.{arith, ◌≡◌, ap, refl}
-use Rattle.std.proofs.lemmas.Grind.{common_steps}
-use Rattle.slh_core.proofs.Joins.{joined_more}
+use Rattle.std.proofs.Common.{rules, arith, add-one, ◌≡◌, ◌+◌, ◌/◌, ◌∙◌, ap, sym, refl, length, ℕ, List}
+use Rattle.slh_core.specs.Bytes.{part}
+use Rattle.slh_core.specs.Suite.{HasLength}
+use Rattle.slh_core.proofs.Joins.{joined_same, part-joined}
 use Rattle.slh_trees.specs.Checking.{checked_fors_node}
+use Rattle.slh_trees.specs.Merkle.{climb}
+use Rattle.slh_trees.proofs.Powers.{half}
+use Rattle.slh_trees.proofs.Ascents.{length-checked_fors_node, node_above}
 use Rattle.slh_trees.proofs.fors.climb_all.Goals as goal
 
-pub loop-i-preserved : goal.loop-i-preserved
-unfolding checked_fors_node
-loop-i-preserved g c =
+pub loop-z-init : goal.loop-z-init
+unfolding checked_fors_node climb
+loop-z-init g c =
     let K = g.P.HashSuite.keyed_suite c.args.keyed.now in
     let size : K.n ≡ g.P.N.ArraySize.USIZE = ap (λ k. k.n) (g.met.P.HashSuite.keyed_suite_is c.args.keyed.now) in
+    let trees = g.P.K.ArraySize.USIZE in
+    let count : length c.leaf_indices.new.indices ≡ trees = search rules in
     record {
-      values = rw (c.put_part.ensures.front, c.loop-i.invariant.values, joined_more, c.as_slice.ensures.value, c.climb_opened-root.ensures.value, c.index_of-y.ensures.value, c.opened_len-size.ensures.value, ← size) refl;
-      cost = grind (arith, common_steps);
+      indices = λ i low. let leaf = c.leaf_indices.ensures i low in omega (arith, leaf);
+      values = (rw count at c.f_each.ensures.value)
+          ∙ joined_same _ _ trees (λ i low. rw (c.at_node.ensures.row, c.leaf_indices.ensures i low, c.opened_secrets.ensures i low, size) refl);
+      cost = omega (arith, c.f_each.ensures.step);
+    }
+
+pub loop-z-preserved : goal.loop-z-preserved
+loop-z-preserved g c =
+    let K = g.P.HashSuite.keyed_suite c.args.keyed.now in
+    let same = g.met.P.HashSuite.keyed_suite_is c.args.keyed.now in
+    let n = g.P.N.ArraySize.USIZE in
+    let size : K.n ≡ n = ap (λ k. k.n) same in
+    let law : HasLength K.suite K.n = rw same (g.met.P.HashSuite.lengths c.forest_sizes.ensures.n_high) in
+    let a = g.P.A.ArraySize.USIZE in
+    let t = c.args.adrs.now.tree_adrs_low in
+    let l = c.args.adrs.now.key_pair_adrs in
+    let sig = c.args.sig.now in
+    let x = c.args.digits.now in
+    let z = c.loop-z.z in
+    let trees = g.P.K.ArraySize.USIZE in
+    let below = c.loop-z.invariant in
+    let node : ℕ → List ℕ = λ i. checked_fors_node K t l a sig x i z in
+    let sizes : (i : ℕ) → length (node i) ≡ n = λ i. length-checked_fors_node K t l a sig x i z law ∙ size in
+    record {
+      indices = λ i low. c.climb_level.ensures.indices i low ∙ ap (λ y. y / 2) (below.indices i low) ∙ sym (half _ z);
+      values = c.climb_level.ensures.value
+          ∙ joined_same _ _ trees (λ i low.
+          let own : part n c.loop-z.out i ≡ node i = ap (λ xs. part n xs i) below.values ∙ part-joined node n trees i sizes low in
+          rw (own, ← size) (node_above K t l a sig x i z (z + 1) _ (add-one z) (below.indices i low)));
+      cost = omega (arith, c.climb_level.ensures.cost, below.cost);
     }

@@ -1,15 +1,17 @@
-use Rattle.std.proofs.Common.{◌≡◌, ◌+◌, ◌*◌, take}
+use Rattle.std.proofs.Common.{◌≡◌, ◌+◌, ◌*◌, ◌/◌, ◌^◌, ◌<◌, ℕ, slice_index}
 use Rattle.slh_core.specs.Bytes.{joined}
 use Rattle.slh_trees.specs.Checking.{checked_fors_node}
+use Rattle.slh_trees.specs.Fors.{leaf_index}
 use Rattle.slh_trees.proofs.fors.climb_all.Given as goal
 
--- the roots so far
-abbrev pub invariant-loop-i : goal.invariant-loop-i
-invariant-loop-i g l =
+-- the node of each tree at a height, and its index
+abbrev pub invariant-loop-z : goal.invariant-loop-z
+invariant-loop-z g l =
     let K = g.P.HashSuite.keyed_suite l.keyed in
+    let trees = g.P.K.ArraySize.USIZE in
     let a = g.P.A.ArraySize.USIZE in
     record {
-      values : take (l.i * l.n) l.out
-          ≡ joined (λ i. checked_fors_node K l.adrs.tree_adrs_low l.adrs.key_pair_adrs a l.sig l.digits i a) l.i;
-      cost : l.steps ≡ l.initial.steps + l.i * (1 + a);
+      indices : (i : ℕ) → i < trees → slice_index l.indices i ≡ leaf_index a l.digits i / 2 ^ l.z;
+      values : l.out ≡ joined (λ i. checked_fors_node K l.adrs.tree_adrs_low l.adrs.key_pair_adrs a l.sig l.digits i l.z) trees;
+      cost : l.steps ≡ l.initial.steps + l.z * trees;
     }

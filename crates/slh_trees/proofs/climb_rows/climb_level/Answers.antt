@@ -1,0 +1,23 @@
+use Rattle.std.proofs.Common.{arith, ◌≡◌, ◌+◌, ◌*◌, ◌/◌, ◌%◌, ◌∙◌, length, drop, slice_index}
+use Rattle.std.specs.Prelude.{◌==◌}
+use Rattle.slh_core.specs.Bytes.{part}
+use Rattle.slh_core.proofs.Joins.{joined_same}
+use Rattle.slh_trees.specs.Fors.{fors_place}
+use Rattle.slh_trees.specs.Merkle.{node_bytes}
+use Rattle.slh_trees.proofs.Ascents.{hashed_in_order}
+use Rattle.slh_trees.proofs.climb_rows.climb_level.Goals as goal
+
+pub returns-clause-value : goal.returns-clause-value
+returns-clause-value g c =
+    let K = g.P.HashSuite.keyed_suite c.args.keyed.now in
+    let B = fors_place c.args.adrs.now.tree_adrs_low c.args.adrs.now.key_pair_adrs in
+    let n = g.P.N.ArraySize.USIZE in
+    let trees = g.P.K.ArraySize.USIZE in
+    let size : length c.halve.new.indices ≡ trees = omega arith in
+    (rw size at c.h_each.ensures.value)
+    ∙ joined_same _ _ trees (λ i low.
+    let index = slice_index c.args.indices.now i in
+    let at = node_bytes B (c.args.z + 1) (index / 2) in
+    let beside = part n (drop n (part ((1 + g.P.A.ArraySize.USIZE) * n) c.args.sig.now i)) c.args.z in
+    rw (c.at_node-at.ensures.row, c.halve.ensures i (omega arith))
+    (hashed_in_order (K.suite.h K.seed at) (part n c.args.nodes.now i) beside _ _ (index % 2 == 0) (c.pair_nodes.ensures.left i low) (c.pair_nodes.ensures.right i low)))

@@ -1,0 +1,15 @@
+use Rattle.std.proofs.Common.{arith, below_more, ◌+◌, ◌*◌, ◌∙◌}
+use Rattle.slh_trees.proofs.climb_rows.pair_nodes.Goals as goal
+
+pub loop-i-preserved : goal.loop-i-preserved
+loop-i-preserved g c =
+    let put = c.put_in_order.ensures in
+    let so_far = c.loop-i.invariant in
+    record {
+      left = below_more _ _
+          (λ k low. put.before (2 * k) (omega arith) ∙ so_far.left k low)
+          (rw (c.part_of-node.ensures, c.sibling_in-beside.ensures) at put.left);
+      right = below_more _ _
+          (λ k low. put.before (2 * k + 1) (omega arith) ∙ so_far.right k low)
+          (rw (c.part_of-node.ensures, c.sibling_in-beside.ensures) at put.right);
+    }
