@@ -170,8 +170,8 @@ module _ (D : Dispute) where
       nat_lt i D.k && nat_le (suc z) D.a
       && fors_node_shows D.K D.sk D.t D.l D.a D.forest (digits D.md D.a D.k) i (suc z)
 
-  -- layer j's part of the bytes is the one that the key makes, and the message that it leads on from
-  -- is the key's own
+  -- layer j's part of the bytes is the one that the key makes, and the message that the check has
+  -- there is the key's own
   unfoldable pub IsOwnLayer : ℕ → Type 0
   IsOwnLayer j =
       let key = fors_pk D.K D.sk D.t D.l D.k D.a in

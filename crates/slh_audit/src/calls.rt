@@ -210,10 +210,10 @@ fn check_message<P: ForsParams, L: Ledger>(
 }
 
 /// Audits the bytes of a signature of a message with a context, by the signing key of 4n bytes
-/// whose holder is said to have made it. `Length`: the key or the signature has a wrong number of bytes;
-/// `ContextTooLong`, `MessageTooLong`; `KeyMismatch`: the key's root isn't that of its seeds;
-/// `Invalid`: the key doesn't accept the bytes. Bytes that the key makes cost about as much as
-/// signing and verifying, others about ten times that.
+/// whose holder is said to have made it. `Length`: the key or the signature has a wrong number of
+/// bytes; `ContextTooLong`, `MessageTooLong`; `KeyMismatch`: the key's root isn't that of its
+/// seeds; `Invalid`: the key doesn't accept the bytes. Bytes that the key makes cost about as much
+/// as signing and verifying, others a search of one layer or of the forest more.
 pub fn audit<P: ForsParams>(
     key: &[u8],
     ctx: &[u8],

@@ -1,6 +1,6 @@
 // The toy key with secret seed 5, PRF key 7 and public seed 3, and its signature of the message
-// 0x48 under an empty context, with bytes changed so that it is still accepted. All values are worked by
-// hand.
+// 0x48 under an empty context, with bytes changed so that it is still accepted. All values are
+// worked by hand.
 ghost use Rattle.slh_core.specs.Steps.{IsFresh};
 
 use crate::{AuditError, Evidence, Verdict, audit, check_evidence};
