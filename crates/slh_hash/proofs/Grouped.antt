@@ -6,23 +6,24 @@ use Rattle.std.proofs.lemmas.Nat.{mul-le}
 use Rattle.std.proofs.lemmas.Slice.{take-put_mid}
 use borrow.Rule.Slice.PartMut.{put_mid}
 use Rattle.hmac_sha256.specs.Sha256.{sha256}
+use Rattle.sha2.specs.Sha512.{sha512}
 use Rattle.slh_core.specs.Address.{compressed_address}
 use Rattle.slh_core.specs.Bytes.{joined, part}
 use Rattle.slh_core.proofs.Joins.{joined_same, part-joined}
-use Rattle.slh_hash.specs.Sha2.{seed_block, tweaked_hash_256}
+use Rattle.slh_hash.specs.Sha2.{seed_block, tweaked_hash_256, tweaked_hash_512}
 
 -- the digest in a place that isn't past the last
-pub digest_of_place : (m : List ℕ) (len last k : ℕ) (tails digests : List (List ℕ)) (tail : ℕ → List ℕ)
-    → digests ≡ map (λ t. sha256 (m ++ take len t)) tails
+pub digest_of_place : (hash : List ℕ → List ℕ) (m : List ℕ) (len last k : ℕ) (tails digests : List (List ℕ)) (tail : ℕ → List ℕ)
+    → digests ≡ map (λ t. hash (m ++ take len t)) tails
     → take len (slice_index_or tails k []) ≡ tail (min k last)
     → k ≤ last → k < length tails
-    → slice_index_or digests k [] ≡ sha256 (m ++ tail k)
-digest_of_place m len last k tails digests tail made there low below =
-    let digest : List ℕ → List ℕ = λ t. sha256 (m ++ take len t) in
+    → slice_index_or digests k [] ≡ hash (m ++ tail k)
+digest_of_place hash m len last k tails digests tail made there low below =
+    let digest : List ℕ → List ℕ = λ t. hash (m ++ take len t) in
     let place : min k last ≡ k = omega arith in
     ap (λ ds. slice_index_or ds k []) made
     ∙ get_or-map digest tails k [] [] below
-    ∙ ap (λ t. sha256 (m ++ t)) (there ∙ ap tail place)
+    ∙ ap (λ t. hash (m ++ t)) (there ∙ ap tail place)
 
 -- how many bytes a group's values have
 pub length-group : (n d r : ℕ) (nums xs : List ℕ) → length xs ≡ length nums * n → d + r ≤ length nums
@@ -74,7 +75,19 @@ number_of_group : (d r i : ℕ) (nums : List ℕ) → i < r
 number_of_group d r i nums below =
     get_or-take (d + r - d) (drop d nums) i 0 (omega arith) ∙ get_or-drop d nums i 0
 
--- the hashes of a group are those of its places in the row
+-- the hashes of a group are those of its places in the row, under a hash of an address and an input
+group_of : (hash : List ℕ → List ℕ → List ℕ) (at : ℕ → List ℕ) (n width d r : ℕ) (nums cur whole made : List ℕ) (digests : List (List ℕ))
+    → drop (d * width) cur ≡ drop (d * width) whole
+    → made ≡ joined (λ k. take n (slice_index_or digests k [])) r
+    → ((k : ℕ) → k < r
+    → slice_index_or digests k []
+    ≡ hash (at (slice_index (slice_range nums d (d + r)) k)) (part width (slice_range cur (d * width) ((d + r) * width)) k))
+    → made ≡ joined (λ i. take n (hash (at (slice_index nums (d + i))) (part width whole (d + i)))) r
+group_of hash at n width d r nums cur whole made digests same made_is digest_is =
+    made_is ∙ joined_same _ _ r (λ i below.
+    ap (take n) (digest_is i below ∙ rw (number_of_group d r i nums below, part_of_group width d r i cur whole below same) refl))
+
+-- by SHA-256
 pub group_hashed : (at : ℕ → List ℕ) (n width d r : ℕ) (s nums cur whole made : List ℕ) (digests : List (List ℕ))
     → drop (d * width) cur ≡ drop (d * width) whole
     → made ≡ joined (λ k. take n (slice_index_or digests k [])) r
@@ -85,8 +98,20 @@ pub group_hashed : (at : ℕ → List ℕ) (n width d r : ℕ) (s nums cur whole
     → made ≡ joined (λ i. tweaked_hash_256 n s (at (slice_index nums (d + i))) (part width whole (d + i))) r
 unfolding tweaked_hash_256
 group_hashed at n width d r s nums cur whole made digests same made_is digest_is =
-    made_is ∙ joined_same _ _ r (λ i below.
-    ap (take n) (digest_is i below ∙ rw (number_of_group d r i nums below, part_of_group width d r i cur whole below same) refl))
+    group_of (λ (a x : List ℕ). sha256 (seed_block 64 n s ++ (compressed_address a ++ x))) at n width d r nums cur whole made digests same made_is digest_is
+
+-- and by SHA-512
+pub group_hashed_wide : (at : ℕ → List ℕ) (n width d r : ℕ) (s nums cur whole made : List ℕ) (digests : List (List ℕ))
+    → drop (d * width) cur ≡ drop (d * width) whole
+    → made ≡ joined (λ k. take n (slice_index_or digests k [])) r
+    → ((k : ℕ) → k < r
+    → slice_index_or digests k []
+    ≡ sha512 (seed_block 128 n s ++ (compressed_address (at (slice_index (slice_range nums d (d + r)) k))
+    ++ part width (slice_range cur (d * width) ((d + r) * width)) k)))
+    → made ≡ joined (λ i. tweaked_hash_512 n s (at (slice_index nums (d + i))) (part width whole (d + i))) r
+unfolding tweaked_hash_512
+group_hashed_wide at n width d r s nums cur whole made digests same made_is digest_is =
+    group_of (λ (a x : List ℕ). sha512 (seed_block 128 n s ++ (compressed_address a ++ x))) at n width d r nums cur whole made digests same made_is digest_is
 
 -- the hashes of one value at many addresses
 pub hashes_of_repeated : (F : ℕ → List ℕ → List ℕ) (n count : ℕ) (v filled out : List ℕ) → length v ≡ n

@@ -1,6 +1,7 @@
 //! The hashes from which every hash of an address goes on.
 ghost use Rattle.hmac_sha256.specs.Hash.{StandsFor, StandsFor-prop, absorbed_bytes};
 ghost use Rattle.sha2.specs.Hashers.{Holds512};
+ghost use Rattle.sha512_lanes.specs.Begun.{BeginsWith, BeginsWith-prop};
 ghost use Rattle.slh_hash.specs.Keyed.{Holds512-prop};
 ghost use Rattle.slh_hash.specs.Sha2.{seed_block};
 ghost use Rattle.std.specs.Prelude.{◌≡◌, ◌≤◌};
@@ -8,6 +9,7 @@ ghost use Rattle.std.specs.Prelude.{◌≡◌, ◌≤◌};
 use hmac_sha256::Hash;
 use hybrid_array::ArraySize;
 use sha2::Sha512;
+use sha512_lanes::Begun;
 use slh_core::nbytes::NBytes;
 
 /// A public seed, and SHA-256 as it stands after the seed and the zeros that fill its block of 64
@@ -22,10 +24,13 @@ pub struct Sha2Keyed<N: ArraySize> {
 }
 
 /// The same for the categories 3 and 5, where H and T go on from SHA-512 as it stands after the
-/// seed and the zeros that fill its block of 128 bytes (FIPS 205, section 11.2.2).
+/// seed and the zeros that fill its block of 128 bytes (FIPS 205, section 11.2.2): once as the
+/// library keeps it, for one message of any length, and once to hash short ones side by side.
 #[derive(Drop)]
 pub struct Sha2Keyed35<N: ArraySize> {
     pub(crate) keyed: Sha2Keyed<N>,
     pub(crate) started: Sha512,
+    pub(crate) begun: Begun,
     ghost holds: { Holds512 started (seed_block 128 N.USIZE keyed.pk_seed) } by { Holds512-prop started (seed_block 128 N.USIZE keyed.pk_seed) },
+    ghost begins: { BeginsWith begun (seed_block 128 N.USIZE keyed.pk_seed) } by { BeginsWith-prop begun (seed_block 128 N.USIZE keyed.pk_seed) },
 }

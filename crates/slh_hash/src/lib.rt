@@ -18,6 +18,7 @@ mod tests;
 #[cfg(test)]
 mod tests_35;
 mod tweaked;
+mod wide_rows;
 
 pub use keyed::{Sha2Keyed, Sha2Keyed35};
 pub use mac::hmac_sha512;

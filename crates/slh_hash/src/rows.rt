@@ -22,32 +22,36 @@ use std::sync::ledger::Ledger;
 // but code cannot know which it is built for.
 const WIDEST: usize = 8;
 
-// How many bytes a compressed address has.
-const ADDRESS_LEN: usize = 22;
+/// How many bytes a compressed address has.
+pub(crate) const ADDRESS_LEN: usize = 22;
 
 // The compressed address and the input, at the front of a block.
 #[inline(always)]
-fn tail_of<A: Address>(adrs: &A, input: &[u8]) -> [u8; BLOCK_BYTES]
-    requires { ADDRESS_LEN + length input.now ≤ BLOCK_BYTES }
+fn tail_of<A: Address, const B: usize>(adrs: &A, input: &[u8]) -> [u8; B]
+    requires block { B ≤ 128 }
+    requires short { ADDRESS_LEN + length input.now ≤ B }
     ensures { take (ADDRESS_LEN + length input.now) result
         ≡ compressed_address (A.bytes adrs.now) ++ input.now }
 {
-    let mut tail = [0u8; BLOCK_BYTES];
+    let mut tail = [0u8; B];
     put_two(&adrs.compressed(), input, &mut tail);
     tail
 }
 
-// In each place the tail of a number. The places after the last number repeat it.
+/// In each of `W` places the tail of a number, at the front of a block of `B` bytes. The places after
+/// the last number repeat it.
 #[inline(always)]
-fn tails_of<A: RowAddress + Drop, const W: usize>(
+pub(crate) fn tails_of<A: RowAddress + Drop, const W: usize, const B: usize>(
     adrs: &A,
     numbers: &[u32],
     inputs: &[u8],
     width: usize,
-) -> [[u8; BLOCK_BYTES]; W]
+) -> [[u8; B]; W]
+    requires places { W ≤ WIDEST }
+    requires block { B ≤ 128 }
     requires some { 1 ≤ length numbers.now }
     requires whole { length inputs.now ≡ length numbers.now * width }
-    requires short { ADDRESS_LEN + width ≤ BLOCK_BYTES }
+    requires short { ADDRESS_LEN + width ≤ B }
     ensures { (k : ℕ) → k < W
         → let i = min k (length numbers.now - 1) in
         take (ADDRESS_LEN + width) (slice_index_or result k [])
@@ -55,7 +59,7 @@ fn tails_of<A: RowAddress + Drop, const W: usize>(
         ++ part width inputs.now i }
 {
     let last = numbers.len() - 1;
-    let mut tails = [[0u8; BLOCK_BYTES]; W];
+    let mut tails = [[0u8; B]; W];
     for k in 0..W {
         let i = k.min(last);
         let input = &inputs[i * width..i * width + width];
@@ -84,31 +88,31 @@ fn digests_of<N: ArraySize, A: RowAddress + Drop>(
 {
     let len = ADDRESS_LEN + width;
     if numbers.len() > 4 {
-        let tails = tails_of::<A, 8>(adrs, numbers, inputs, width);
+        let tails = tails_of::<A, 8, BLOCK_BYTES>(adrs, numbers, inputs, width);
         return keyed.started.finalize_eight(&tails, len);
     }
     let mut digests = [[0u8; 32]; WIDEST];
     if numbers.len() > 1 {
-        let tails = tails_of::<A, 4>(adrs, numbers, inputs, width);
+        let tails = tails_of::<A, 4, BLOCK_BYTES>(adrs, numbers, inputs, width);
         digests[..4].copy_from_slice(&keyed.started.finalize_four(&tails, len));
     } else {
-        let [tail] = tails_of::<A, 1>(adrs, numbers, inputs, width);
+        let [tail] = tails_of::<A, 1, BLOCK_BYTES>(adrs, numbers, inputs, width);
         digests[0] = keyed.started.finalize_with(&tail[..len]);
     }
     digests
 }
 
-// Writes the first bytes of the digests, `N::USIZE` of each, and counts a step for each.
+/// Writes the first bytes of the digests, `N::USIZE` of each, and counts a step for each.
 #[tactic(auto, unfolding(slh_core::specs::Bytes::joined))]
 #[inline]
-fn put_hashes<N: ArraySize, L: Ledger>(
-    digests: &[[u8; 32]; WIDEST],
+pub(crate) fn put_hashes<N: ArraySize, L: Ledger, const W: usize, const D: usize>(
+    digests: &[[u8; D]; W],
     count: usize,
     out: &mut [u8],
     steps: &mut Steps<L>,
 )
-    requires small { N.USIZE ≤ 32 }
-    requires few { count ≤ WIDEST }
+    requires small { N.USIZE ≤ D }
+    requires few { count ≤ W }
     requires room { length out.old ≡ count * N.USIZE }
     ensures value { out.new ≡ joined (λ k. take N.USIZE (slice_index_or digests.now k [])) count }
     ensures step { steps.new ≡ steps.old + count }
@@ -145,7 +149,7 @@ pub(crate) fn hash_each<N: ArraySize, A: RowAddress + Drop, L: Ledger>(
         let group = &numbers[done..end];
         let next = &mut values[done * n..end * n];
         let digests = digests_of(keyed, adrs, group, next, n);
-        put_hashes::<N, L>(&digests, group.len(), next, steps);
+        put_hashes::<N, L, WIDEST, 32>(&digests, group.len(), next, steps);
         done = end;
     }
 }
@@ -177,7 +181,7 @@ fn hash_short_pairs<N: ArraySize, A: RowAddress + Drop, L: Ledger>(
         let group = &numbers[done..end];
         let inputs = &pairs[done * (2 * n)..end * (2 * n)];
         let digests = digests_of(keyed, adrs, group, inputs, 2 * n);
-        put_hashes::<N, L>(&digests, group.len(), &mut out[done * n..end * n], steps);
+        put_hashes::<N, L, WIDEST, 32>(&digests, group.len(), &mut out[done * n..end * n], steps);
         done = end;
     }
 }

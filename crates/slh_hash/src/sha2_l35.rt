@@ -13,6 +13,7 @@ use crate::mac::hmac_sha512;
 use crate::mgf1::mgf1_512;
 use crate::rows::{hash_each, repeat};
 use crate::tweaked::{short_hash, start_35, wide_hash};
+use crate::wide_rows::hash_wide_pairs;
 use hybrid_array::ArraySize;
 use sha2::{Digest, Sha512};
 use slh_core::address::{Address, RowAddress};
@@ -101,6 +102,17 @@ impl<N: ArraySize, M: ArraySize> HashSuite for Sha2L35<N, M> {
         steps: &mut Steps<L>,
     ) {
         hash_each(&keyed.keyed, adrs, numbers, values, steps);
+    }
+
+    fn h_each<A: RowAddress + Drop, L: Ledger>(
+        keyed: &Sha2Keyed35<N>,
+        adrs: &A,
+        numbers: &[u32],
+        pairs: &[u8],
+        out: &mut [u8],
+        steps: &mut Steps<L>,
+    ) {
+        hash_wide_pairs(keyed, adrs, numbers, pairs, out, steps);
     }
 
     fn prf_each<A: RowAddress + Drop, L: Ledger>(

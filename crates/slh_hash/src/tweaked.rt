@@ -1,12 +1,13 @@
 //! The hashes of an address and an input.
 ghost use Rattle.std.specs.Prelude.{◌≡◌, ◌≤◌, ◌++◌, length, take, replicate};
-ghost use Rattle.slh_hash.specs.Sha2.{tweaked_hash_256, tweaked_hash_512};
+ghost use Rattle.slh_hash.specs.Sha2.{seed_block, tweaked_hash_256, tweaked_hash_512};
 
 use crate::join::put_two;
 use crate::keyed::{Sha2Keyed, Sha2Keyed35};
 use hmac_sha256::Hash;
 use hybrid_array::ArraySize;
 use sha2::{Digest, Sha512};
+use sha512_lanes::Begun;
 use slh_core::address::Address;
 use slh_core::nbytes::NBytes;
 use slh_core::params::MAX_ENDS_LEN;
@@ -15,14 +16,14 @@ const SHA256_BLOCK_LEN: usize = 64;
 
 const SHA512_BLOCK_LEN: usize = 128;
 
-const ZEROS: [u8; SHA512_BLOCK_LEN] = [0; SHA512_BLOCK_LEN];
+const ZEROS: [u8; SHA256_BLOCK_LEN] = [0; SHA256_BLOCK_LEN];
 
 // A compressed address and two values of 32 bytes.
 const SHORT_LEN: usize = 86;
 
 // So many zeros.
 fn zeros(count: usize) -> &'static [u8]
-    requires { count ≤ 128 }
+    requires { count ≤ 64 }
     ensures { result.now ≡ replicate count 0 }
 {
     &ZEROS[..count]
@@ -42,15 +43,26 @@ pub(crate) fn start<N: ArraySize>(pk_seed: &NBytes<N>) -> Sha2Keyed<N>
     }
 }
 
+// The public seed, and zeros after it.
+fn wide_seed_block<N: ArraySize>(pk_seed: &NBytes<N>) -> [u8; SHA512_BLOCK_LEN]
+    ensures { result ≡ seed_block 128 N.USIZE pk_seed.now }
+{
+    let seed = pk_seed.as_slice();
+    let mut block = [0u8; SHA512_BLOCK_LEN];
+    block[..seed.len()].copy_from_slice(seed);
+    block
+}
+
 /// The state for a public seed in the categories 3 and 5.
 pub(crate) fn start_35<N: ArraySize>(pk_seed: &NBytes<N>) -> Sha2Keyed35<N>
     ensures { result.keyed.pk_seed ≡ pk_seed.now }
 {
-    let keyed = start(pk_seed);
-    let seed = pk_seed.as_slice();
-    let mut started = Sha512::new_with_prefix(seed);
-    started.update(zeros(SHA512_BLOCK_LEN - seed.len()));
-    Sha2Keyed35 { keyed, started }
+    let block = wide_seed_block(pk_seed);
+    Sha2Keyed35 {
+        keyed: start(pk_seed),
+        started: Sha512::new_with_prefix(block),
+        begun: Begun::new(&block),
+    }
 }
 
 /// The SHA-256 hash of an address and an input of at most 64 bytes.

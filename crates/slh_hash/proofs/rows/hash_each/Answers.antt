@@ -18,13 +18,15 @@ digests_of-digests-requires-clause-whole g c =
     let whole = c.loop-done.auto.values ∙ c.requires.room in
     rw (end, c.USIZE-n.ensures) (length-group g.N.ArraySize.USIZE d r c.args.numbers.now c.loop-done.values whole (omega (arith, c.min-end.ensures)))
 
-pub put_hashes-requires-clause-room : goal.put_hashes-requires-clause-room
-put_hashes-requires-clause-room g c =
+pub put_hashes-requires : goal.put_hashes-requires
+put_hashes-requires g c =
     let d = c.loop-done.done in
     let r : ℕ = c.min-end.result - d in
     let end : c.min-end.result ≡ d + r = omega (arith, c.min-end.ensures) in
     let whole = c.loop-done.auto.values ∙ c.requires.room in
-    rw (end, c.USIZE-n.ensures) (length-group g.N.ArraySize.USIZE d r c.args.numbers.now c.loop-done.values whole (omega (arith, c.min-end.ensures)))
+    let low : g.N.ArraySize.USIZE ≤ 32 = omega (arith, c.USIZE-n.ensures, c.args.keyed.now.small) in
+    let few : length (slice_range c.args.numbers.now d c.min-end.result) ≤ 8 = omega (arith, length-take (c.min-end.result - d) (drop d c.args.numbers.now), length-drop d c.args.numbers.now, c.min-end.ensures) in
+    (omega arith, (omega arith, (low, (few, rw (end, c.USIZE-n.ensures) (length-group g.N.ArraySize.USIZE d r c.args.numbers.now c.loop-done.values whole (omega (arith, c.min-end.ensures)))))))
 
 pub loop-done-preserved : goal.loop-done-preserved
 loop-done-preserved g c =

@@ -2,4 +2,4 @@ use Rattle.std.proofs.lemmas.List.{take-replicate}
 use Rattle.slh_hash.proofs.tweaked.zeros.Goals as goal
 
 pub returns : goal.returns
-returns c = take-replicate c.args.count 128 0 c.requires
+returns c = take-replicate c.args.count 64 0 c.requires
