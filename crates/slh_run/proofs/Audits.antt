@@ -5,7 +5,7 @@ use Rattle.slh_audit.specs.Evidence.{dispute_of, shows}
 use Rattle.slh_audit.specs.declared.evidence.AuditError.{AuditError}
 use Rattle.slh_audit.specs.declared.evidence.AuditError.TheVariants as audit
 use Rattle.slh_audit.specs.declared.evidence.Evidence.{Evidence}
-use Rattle.slh_dsa.specs.Calls.{first_refusal}
+use Rattle.slh_trees.specs.Sizes.{first_refusal}
 use Rattle.slh_dsa.specs.declared.error.Error.TheVariants as key
 use Rattle.slh_run.specs.Errors.{audit_error_of}
 use Rattle.slh_run.specs.Judgement.{judgement, refused_or, verdict_answer}
@@ -22,8 +22,9 @@ answered map refusal answer = map (unless_refused refusal answer)
 
 module _ {T : Type 0} (map : Result T AuditError → Result Answer Error) (refused : (e : AuditError) → map (Err e) ≡ Err (audit_error_of e)) (answer : Result T AuditError) where
   pub refusals_agree : (keys sigs long big : Bool)
-      → map (unless_refused
-      (if keys then if sigs then if long then Some audit.ContextTooLong else if big then Some audit.MessageTooLong else None else Some audit.Length else Some audit.Length) answer)
+      → map (unless_refused (first_refusal
+      ((if keys then None else Some audit.Length) ∷ (if sigs then None else Some audit.Length)
+      ∷ (if long then Some audit.ContextTooLong else None) ∷ (if big then Some audit.MessageTooLong else None) ∷ [])) answer)
       ≡ refused_or (first_refusal
       ((if keys then None else Some key.Length) ∷ first_refusal ((if sigs then None else Some key.Length) ∷ (if long then Some key.ContextTooLong else None) ∷ (if big then Some key.MessageTooLong else None) ∷ []) ∷ []))
       (map answer)

@@ -393,13 +393,25 @@ fn signs_as(rt: &impl Abort, alloc: Global, job: &Job, hash: &[u8]) -> Result<()
     Ok(())
 }
 
-fn signs_as_known(rt: &impl Abort, alloc: Global, known: &Known) -> Result<(), Fail> {
+fn signs_hello(rt: &impl Abort, alloc: Global, known: &Known) -> Result<(), Fail> {
     let job = sign_job(alloc, known.key, b"", b"Hello", None)?;
-    signs_as(rt, alloc, &job, known.hello)?;
+    signs_as(rt, alloc, &job, known.hello)
+}
+
+fn signs_with_context(rt: &impl Abort, alloc: Global, known: &Known) -> Result<(), Fail> {
     let job = sign_job(alloc, known.key, &long_context(), b"", Some(&[0x5a; 16]))?;
-    signs_as(rt, alloc, &job, known.with_context)?;
+    signs_as(rt, alloc, &job, known.with_context)
+}
+
+fn signs_long_message(rt: &impl Abort, alloc: Global, known: &Known) -> Result<(), Fail> {
     let job = sign_job(alloc, known.key, &[0], &long_message(), None)?;
     signs_as(rt, alloc, &job, known.with_message)
+}
+
+fn signs_as_known(rt: &impl Abort, alloc: Global, known: &Known) -> Result<(), Fail> {
+    signs_hello(rt, alloc, known)?;
+    signs_with_context(rt, alloc, known)?;
+    signs_long_message(rt, alloc, known)
 }
 
 #[test]
