@@ -7,6 +7,7 @@ ghost use Rattle.std.specs.Str.Lines.{strip_carriage_return};
 ghost use Rattle.line_serve.specs.Fields.{contents, fields, hex_value, is_dash};
 
 use crate::bytes::ByteString;
+use crate::digits::decode;
 use std::alloc::{AllocError, Global};
 
 // The line without one carriage return at its end.
@@ -79,7 +80,7 @@ pub fn hex_field(_alloc: Global, bytes: &[u8], out: &mut ByteString) -> Result<b
     }
     let start = out.len();
     out.resize(start.saturating_add(bytes.len() / 2), 0)?;
-    if hex::decode_to_slice(bytes, &mut out.as_mut_slice()[start..]).is_ok() {
+    if decode(bytes, &mut out.as_mut_slice()[start..]) {
         return Ok(true);
     }
     out.truncate(start);

@@ -10,6 +10,7 @@
 
 mod answer;
 mod bytes;
+mod digits;
 mod fields;
 mod lines;
 mod memory;

@@ -1,5 +1,5 @@
 -- The words of a block's schedule, sixteen of them at a time, and the rounds one by one.
-use Rattle.std.proofs.Common.{◌≡◌, ℕ, ◌+◌, ◌-◌, ◌*◌, ◌<◌, ◌≤◌, List, [], ◌∷◌, ◌++◌, ap, length, take, drop, slice_index, refl, sym, ◌∙◌, arith}
+use Rattle.std.proofs.Common.{◌≡◌, ℕ, ◌+◌, ◌-◌, ◌*◌, ◌<◌, List, [], ◌∷◌, ◌++◌, ap, length, take, drop, slice_index, refl, sym, ◌∙◌, arith}
 use Rattle.std.proofs.lemmas.List.{take_more, drop-take, drop-drop, get_or-take, get_or-drop, length-take-le, length-drop}
 use Rattle.std.proofs.lemmas.Grind.{same_number_lists}
 use Rattle.sha2.specs.Sha512.{add_state, compress, round, round_constants, rounds, schedule, word_at}

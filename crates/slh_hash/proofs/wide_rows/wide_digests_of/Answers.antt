@@ -1,4 +1,4 @@
-use Rattle.std.proofs.Common.{ℕ, List, ◌≡◌, ◌+◌, ◌++◌, ◌∙◌, [], ap, arith, length, slice_index, slice_index_or}
+use Rattle.std.proofs.Common.{ℕ, List, ◌+◌, ◌++◌, ◌∙◌, [], ap, arith, slice_index, slice_index_or}
 use Rattle.std.proofs.lemmas.List.{get_or_append_left}
 use Rattle.sha2.specs.Sha512.{sha512}
 use Rattle.slh_core.specs.Address.{compressed_address}
