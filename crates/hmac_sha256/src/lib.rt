@@ -7,10 +7,15 @@
 mod comparison;
 mod compression;
 mod hashing;
+pub mod laws;
 mod mac;
 #[cfg(test)]
 mod tests;
 mod word;
+mod wrapped;
+#[cfg(test)]
+mod wrapped_tests;
 
 pub use hashing::{BLOCK_BYTES, Hash, MAX_BYTES, MAX_TAIL};
 pub use mac::HMAC;
+pub use wrapped::WrappedHash;

@@ -1,0 +1,3 @@
+pub mod Blocks
+pub mod Encoding
+pub mod Decoding

@@ -1,0 +1,10 @@
+use Rattle.std.proofs.Common.{◌∙◌, arith, rules}
+use Rattle.digest_core.proofs.Decoding.{two_and_rest}
+use Rattle.digest_core.proofs.oid.ObjectIdentifier.from_arcs.Goals as goal
+
+pub invariant_of-result : goal.invariant_of-result
+invariant_of-result c k =
+    rw (c.in_ok-octets.ensures.arcs ∙ two_and_rest c.args.arcs.now (omega arith)) (let f = c.type_inv.arcs k in search rules)
+
+pub returns-clause-arcs : goal.returns-clause-arcs
+returns-clause-arcs c = c.in_ok-octets.ensures.arcs ∙ two_and_rest c.args.arcs.now (omega arith)

@@ -1,0 +1,4 @@
+pub mod Absorbing
+pub mod Wrapped
+pub mod Oid
+pub mod OidRefusals

@@ -1,0 +1,20 @@
+-- A core and the bytes that a buffer holds for it.
+use Rattle.std.specs.Prelude.{◌≡◌, ℕ, ◌+◌, ◌%◌, ◌<◌, ◌≤◌, List, ◌++◌}
+
+-- what contracts see of a wrapped core
+pub record Wrapped (C : Type 0) : Type 0 where
+  pub core : C
+  pub held : List ℕ
+
+-- A core has absorbed `count` bytes, in whole blocks, and so many after them fill no block: together
+-- no more than the core may absorb.
+pub record IsWrapped (limit size count held : ℕ) : Type 0 where
+  pub within : count + held ≤ limit
+  pub whole : count % size ≡ 0
+  pub short : held < size
+
+-- the core stands for the list m but for its last bytes, which are held
+pub record StandsFor (stands : List ℕ → Type 0) (held m : List ℕ) : Type 0 where
+  pub absorbed : List ℕ
+  pub stood : stands absorbed
+  pub joined : m ≡ absorbed ++ held
