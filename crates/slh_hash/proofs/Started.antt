@@ -1,8 +1,28 @@
 -- A hash that has absorbed a seed and zeros stands for the seed's block.
-use Rattle.std.proofs.Common.{◌≡◌, ℕ, ◌-◌, List, ◌++◌, length, replicate, refl, subst}
+use Rattle.std.proofs.Common.{◌≡◌, ℕ, ◌+◌, ◌-◌, ◌%◌, ◌<◌, List, [], ◌∷◌, ◌++◌, length, replicate, arith, refl, sym, ap, ◌∙◌, subst}
+use Rattle.std.proofs.lemmas.List.{append-nil}
+use Rattle.digest_core.specs.Wrapped.{StandsFor as WrappedStandsFor}
 use Rattle.hmac_sha256.specs.Hash.{StandsFor}
 use Rattle.hmac_sha256.specs.declared.hashing.Hash.{Hash}
 use Rattle.slh_hash.specs.Sha2.{seed_block}
+
+no_items : (xs : List ℕ) → length xs ≡ 0 → xs ≡ []
+no_items [] none = refl
+no_items (x ∷ xs) none = absurd (omega (arith, none))
+
+-- nothing is held after one block
+pub nothing_held : (count : ℕ) (held : List ℕ) → count + length held ≡ 64 → count % 64 ≡ 0 → length held < 64 → held ≡ []
+nothing_held count held total whole short = no_items held (omega (arith, total, whole, short))
+
+-- where nothing is held, the core stands for all
+pub core_stands : (hash : Hash) (held m : List ℕ) → held ≡ [] → WrappedStandsFor (StandsFor hash) held m → StandsFor hash m
+core_stands hash held m none wrapped =
+    let all : m ≡ wrapped.absorbed = wrapped.joined ∙ ap (λ h. wrapped.absorbed ++ h) none ∙ append-nil wrapped.absorbed in
+    subst (λ (l : List ℕ). StandsFor hash l) (sym all) wrapped.stood
+
+pub wrapped_stands : (hash : Hash) (held m : List ℕ) → held ≡ [] → StandsFor hash m → WrappedStandsFor (StandsFor hash) held m
+wrapped_stands hash held m none stood =
+    record { absorbed = m; stood = stood; joined = sym (ap (λ h. m ++ h) none ∙ append-nil m) }
 
 pub stands_for_block : (hash : Hash) (n : ℕ) (seed zeros s copy : List ℕ) → seed ≡ s → copy ≡ s → length seed ≡ n
     → zeros ≡ replicate (64 - length seed) 0 → StandsFor hash (seed ++ zeros) → StandsFor hash (seed_block 64 n copy)

@@ -1,12 +1,13 @@
 //! The hashes from which every hash of an address goes on.
+ghost use Rattle.digest_core.specs.Wrapped.{StandsFor as WrappedStandsFor};
 ghost use Rattle.hmac_sha256.specs.Hash.{StandsFor, StandsFor-prop, absorbed_bytes};
 ghost use Rattle.sha2.specs.Hashers.{Holds512};
 ghost use Rattle.sha512_lanes.specs.Begun.{BeginsWith, BeginsWith-prop};
-ghost use Rattle.slh_hash.specs.Keyed.{Holds512-prop};
+ghost use Rattle.slh_hash.specs.Keyed.{Holds512-prop, nothing-prop};
 ghost use Rattle.slh_hash.specs.Sha2.{seed_block};
-ghost use Rattle.std.specs.Prelude.{◌≡◌, ◌≤◌};
+ghost use Rattle.std.specs.Prelude.{◌≡◌, ◌+◌, ◌≤◌, [], length};
 
-use hmac_sha256::Hash;
+use hmac_sha256::WrappedHash;
 use hybrid_array::ArraySize;
 use sha2::Sha512;
 use sha512_lanes::Begun;
@@ -17,10 +18,22 @@ use slh_core::nbytes::NBytes;
 #[derive(Drop)]
 pub struct Sha2Keyed<N: ArraySize> {
     pub(crate) pk_seed: NBytes<N>,
-    pub(crate) started: Hash,
-    ghost stands: { StandsFor started (seed_block 64 N.USIZE pk_seed) } by { StandsFor-prop started (seed_block 64 N.USIZE pk_seed) },
-    ghost one_block: { absorbed_bytes started ≡ 64 },
+    pub(crate) started: WrappedHash,
+    ghost stands: { StandsFor started.core (seed_block 64 N.USIZE pk_seed) } by { StandsFor-prop started.core (seed_block 64 N.USIZE pk_seed) },
+    ghost one_block: { absorbed_bytes started.core ≡ 64 },
+    ghost nothing_held: { started.held ≡ [] } by { nothing-prop started.held },
     ghost small: { N.USIZE ≤ 32 },
+}
+
+impl<N: ArraySize> Sha2Keyed<N> {
+    /// The hash that has absorbed the public seed and the zeros that fill its block.
+    pub fn started(&self) -> &WrappedHash
+        ensures stands { WrappedStandsFor (StandsFor result.now.core) result.now.held
+            (seed_block 64 N.USIZE self.now.pk_seed) }
+        ensures counts { absorbed_bytes result.now.core + length result.now.held ≡ 64 }
+    {
+        &self.started
+    }
 }
 
 /// The same for the categories 3 and 5, where H and T go on from SHA-512 as it stands after the
@@ -33,4 +46,15 @@ pub struct Sha2Keyed35<N: ArraySize> {
     pub(crate) begun: Begun,
     ghost holds: { Holds512 started (seed_block 128 N.USIZE keyed.pk_seed) } by { Holds512-prop started (seed_block 128 N.USIZE keyed.pk_seed) },
     ghost begins: { BeginsWith begun (seed_block 128 N.USIZE keyed.pk_seed) } by { BeginsWith-prop begun (seed_block 128 N.USIZE keyed.pk_seed) },
+}
+
+impl<N: ArraySize> Sha2Keyed35<N> {
+    /// SHA-256 that has absorbed the public seed and the zeros that fill its block.
+    pub fn started(&self) -> &WrappedHash
+        ensures stands { WrappedStandsFor (StandsFor result.now.core) result.now.held
+            (seed_block 64 N.USIZE self.now.keyed.pk_seed) }
+        ensures counts { absorbed_bytes result.now.core + length result.now.held ≡ 64 }
+    {
+        self.keyed.started()
+    }
 }

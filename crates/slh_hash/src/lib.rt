@@ -14,6 +14,8 @@ mod sets;
 mod sha2_l1;
 mod sha2_l35;
 #[cfg(test)]
+mod started_tests;
+#[cfg(test)]
 mod tests;
 #[cfg(test)]
 mod tests_35;

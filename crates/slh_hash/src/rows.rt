@@ -87,17 +87,18 @@ fn digests_of<N: ArraySize, A: RowAddress + Drop>(
         ++ part width inputs.now k)) }
 {
     let len = ADDRESS_LEN + width;
+    let started = keyed.started.core();
     if numbers.len() > 4 {
         let tails = tails_of::<A, 8, BLOCK_BYTES>(adrs, numbers, inputs, width);
-        return keyed.started.finalize_eight(&tails, len);
+        return started.finalize_eight(&tails, len);
     }
     let mut digests = [[0u8; 32]; WIDEST];
     if numbers.len() > 1 {
         let tails = tails_of::<A, 4, BLOCK_BYTES>(adrs, numbers, inputs, width);
-        digests[..4].copy_from_slice(&keyed.started.finalize_four(&tails, len));
+        digests[..4].copy_from_slice(&started.finalize_four(&tails, len));
     } else {
         let [tail] = tails_of::<A, 1, BLOCK_BYTES>(adrs, numbers, inputs, width);
-        digests[0] = keyed.started.finalize_with(&tail[..len]);
+        digests[0] = started.finalize_with(&tail[..len]);
     }
     digests
 }

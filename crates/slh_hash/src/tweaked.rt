@@ -4,7 +4,8 @@ ghost use Rattle.slh_hash.specs.Sha2.{seed_block, tweaked_hash_256, tweaked_hash
 
 use crate::join::put_two;
 use crate::keyed::{Sha2Keyed, Sha2Keyed35};
-use hmac_sha256::Hash;
+use digest_core::{FixedOutput, Update};
+use hmac_sha256::{Hash, WrappedHash};
 use hybrid_array::ArraySize;
 use sha2::{Digest, Sha512};
 use sha512_lanes::Begun;
@@ -34,9 +35,10 @@ pub(crate) fn start<N: ArraySize>(pk_seed: &NBytes<N>) -> Sha2Keyed<N>
     ensures { result.pk_seed ≡ pk_seed.now }
 {
     let seed = pk_seed.as_slice();
-    let mut started = Hash::new();
+    let mut started = WrappedHash::from_core(Hash::new());
     started.update(seed);
     started.update(zeros(SHA256_BLOCK_LEN - seed.len()));
+    let _core = started.core();
     Sha2Keyed {
         pk_seed: pk_seed.copy(),
         started,
@@ -77,7 +79,9 @@ pub(crate) fn short_hash<N: ArraySize, A: Address>(
 {
     let mut tail = [0u8; SHORT_LEN];
     let end = put_two(&adrs.compressed(), input, &mut tail);
-    NBytes::first_of(keyed.started.finalize_with(&tail[..end]))
+    let mut digest = [0u8; 32];
+    keyed.started().finalize_with(&tail[..end], &mut digest);
+    NBytes::first_of(digest)
 }
 
 /// The SHA-256 hash of an address and an input of any length up to that of a key pair's ends.
@@ -89,10 +93,12 @@ pub(crate) fn long_hash<N: ArraySize, A: Address>(
     requires { length input.now ≤ MAX_ENDS_LEN }
     ensures { result ≡ tweaked_hash_256 N.USIZE keyed.now.pk_seed (A.bytes adrs.now) input.now }
 {
-    let mut hash = keyed.started.copy();
+    let mut hash = keyed.started().clone();
     hash.update(&adrs.compressed());
     hash.update(input);
-    NBytes::first_of(hash.finalize())
+    let mut digest = [0u8; 32];
+    hash.finalize_into(&mut digest);
+    NBytes::first_of(digest)
 }
 
 /// The SHA-512 hash of an address and an input.

@@ -1,4 +1,4 @@
-use Rattle.std.proofs.Common.{ℕ, List, [], ◌∙◌, arith, sym}
+use Rattle.std.proofs.Common.{[], ◌∙◌, arith, sym}
 use Rattle.std.proofs.lemmas.List.{ext_get_or, get_or-map, length-map}
 use Rattle.hmac_sha256.specs.Sha256.{word_bytes}
 use Rattle.hmac_sha256.proofs.hashing.digests_of.Goals as goal

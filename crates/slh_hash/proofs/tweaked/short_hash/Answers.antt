@@ -8,6 +8,6 @@ unfolding tweaked_hash_256
 returns g c =
     let n = g.N.ArraySize.USIZE in
     let started = seed_block 64 n c.args.keyed.now.pk_seed in
-    let digest = c.finalize_with.ensures started c.args.keyed.now.stands in
+    let digest = c.finalize_with.ensures started c.started.ensures.stands in
     let tail = c.put_two-end.ensures.bytes in
     c.first_of.ensures ∙ ap (λ (d : List ℕ). take n d) (digest ∙ ap (λ (t : List ℕ). sha256 (started ++ t)) (tail ∙ ap (λ (a : List ℕ). a ++ c.args.input.now) c.compressed.ensures))
