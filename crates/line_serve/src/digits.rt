@@ -2,8 +2,8 @@
 ghost use Rattle.std.specs.Prelude.{◌≡◌, ◌<◌, length, true, false, MatchOption, MatchResult};
 ghost use Rattle.hex.specs.Hex.{decode_sized, hex_digit_value};
 
-// The value of each byte as a digit of either case, and 16 where it is none. Digits and letters come
-// in no order, so a branch on which it is would be guessed wrong half of the time.
+// The value of each byte as a digit of either case, and 16 where it is none. Digits and letters
+// come in no order, so a branch on which it is would be guessed wrong half of the time.
 const VALUES: [u8; 256] = [
     16, 16, 16, 16, 16, 16, 16, 16, 16, 16, 16, 16, 16, 16, 16, 16, 16, 16, 16, 16, 16, 16, 16, 16,
     16, 16, 16, 16, 16, 16, 16, 16, 16, 16, 16, 16, 16, 16, 16, 16, 16, 16, 16, 16, 16, 16, 16, 16,

@@ -38,8 +38,8 @@ fn tail_of<A: Address, const B: usize>(adrs: &A, input: &[u8]) -> [u8; B]
     tail
 }
 
-/// In each of `W` places the tail of a number, at the front of a block of `B` bytes. The places after
-/// the last number repeat it.
+/// In each of `W` places the tail of a number, at the front of a block of `B` bytes. The places
+/// after the last number repeat it.
 #[inline(always)]
 pub(crate) fn tails_of<A: RowAddress + Drop, const W: usize, const B: usize>(
     adrs: &A,
