@@ -1,3 +1,5 @@
 pub mod Handed
 pub mod Streams
 pub mod TwoBlocks
+pub mod Reading
+pub mod Serials

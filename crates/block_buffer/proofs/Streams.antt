@@ -3,14 +3,15 @@ use Rattle.std.proofs.Common.{◌≡◌, ℕ, ◌+◌, ◌*◌, ◌<◌, ◌≤�
 use Rattle.std.proofs.lemmas.List.{append-nil, take-append-drop}
 use Rattle.std.proofs.Math.Seq.{take-append-add, drop-append-add, take-append_seam}
 use Rattle.block_buffer.specs.Sink.{SinkState, Takes, TakesPart, room_after}
-use Rattle.block_buffer.specs.Blocks.{handed, blocks_of, rest_of}
+use Rattle.std.specs.Prelude.{Result, Ok, Err, OnOk, OnErr}
+use Rattle.block_buffer.specs.Blocks.{IsCut, handed, blocks_of, rest_of}
 use Rattle.block_buffer.proofs.Handed.{handed_none, handed_more}
 
-room_after_none : (room : Option ℕ) → room_after room 0 ≡ room
+pub room_after_none : (room : Option ℕ) → room_after room 0 ≡ room
 room_after_none None = refl
 room_after_none (Some n) = ap (λ k. Some k) (omega arith)
 
-room_after_twice : (room : Option ℕ) (m n : ℕ) → room_after (room_after room m) n ≡ room_after room (m + n)
+pub room_after_twice : (room : Option ℕ) (m n : ℕ) → room_after (room_after room m) n ≡ room_after room (m + n)
 room_after_twice None m n = refl
 room_after_twice (Some k) m n = ap (λ k. Some k) (omega arith)
 
@@ -67,3 +68,12 @@ module _ (waiting size : ℕ) (some : 1 ≤ size) where
 -- what the two parts of an input are
 pub cut : (n : ℕ) (old xs left right : List ℕ) → left ≡ take n xs → right ≡ drop n xs → old ++ xs ≡ (old ++ left) ++ right
 cut n old xs left right p q = rw (p, q, append_assoc, take-append-drop) refl
+
+-- over a sink that didn't refuse, what was taken and what is held are the stream
+pub unrefused : {T E : Type 0} (result : Result T E) (A B : SinkState) (waiting size : ℕ) (stream held : List ℕ) (Refuses : Type 0) → OnOk result (Takes A B (blocks_of waiting size stream)) → OnOk result (held ≡ rest_of waiting size stream) → OnErr result Refuses → (Refuses → ⊥) → IsCut A B stream held
+unrefused (Ok v) A B waiting size stream held Refuses takes rest cause none = record {
+  taken = blocks_of waiting size stream;
+  joined = rw rest (take-append-drop (handed waiting size (length stream)) stream);
+  takes = takes;
+}
+unrefused (Err e) A B waiting size stream held Refuses takes rest cause none = absurd (none cause)

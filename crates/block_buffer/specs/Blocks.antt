@@ -1,6 +1,7 @@
 -- How a stream of bytes is cut into blocks.
-use Rattle.std.specs.Prelude.{ℕ, ◌+◌, ◌-◌, ◌*◌, ◌/◌, List, ◌++◌, length, take, drop, replicate}
+use Rattle.std.specs.Prelude.{◌≡◌, ℕ, ◌+◌, ◌-◌, ◌*◌, ◌/◌, List, ◌++◌, length, take, drop, replicate}
 use Rattle.std.specs.Prelude.{nat_le, if◌then◌else◌}
+use Rattle.block_buffer.specs.Sink.{SinkState, Takes}
 
 -- Of `count` bytes, how many are handed out: as many whole blocks as leave the bytes that wait.
 abbrev pub handed : ℕ → ℕ → ℕ → ℕ
@@ -13,6 +14,12 @@ blocks_of waiting size stream = take (handed waiting size (length stream)) strea
 -- the bytes of a stream that are kept
 abbrev pub rest_of : ℕ → ℕ → List ℕ → List ℕ
 rest_of waiting size stream = drop (handed waiting size (length stream)) stream
+
+-- the sink took all of the stream but what is held
+pub record IsCut (before now : SinkState) (stream held : List ℕ) : Type 0 where
+  pub taken : List ℕ
+  pub joined : taken ++ held ≡ stream
+  pub takes : Takes before now taken
 
 -- so many bytes: some, then zeros, then a suffix
 abbrev pub filled : ℕ → List ℕ → List ℕ → List ℕ

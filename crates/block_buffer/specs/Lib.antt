@@ -1,3 +1,6 @@
 pub mod Sink
 pub mod Blocks
 pub mod Positions
+pub mod Serial
+pub mod Gen
+pub mod Unread

@@ -1,12 +1,13 @@
 //! A buffer of the bytes that don't fill a block yet.
 
-ghost use Rattle.std.specs.Prelude.{◌≡◌, ◌+◌, ◌-◌, ◌*◌, ◌/◌, ◌≤◌, ◌<◌, ◌↔◌, [], ◌++◌, length, IsOk, IfOk, OnOk, OnErr};
+ghost use Rattle.std.specs.Prelude.{◌≡◌, ◌+◌, ◌-◌, ◌*◌, ◌/◌, ◌≤◌, ◌<◌, ◌↔◌, [], ◌++◌, length};
+ghost use Rattle.std.specs.Prelude.{IsOk, IfOk, OnOk, OnErr};
 ghost use Rattle.block_buffer.specs.Sink.{HasRoom, Rose, Takes, TakesPart};
 ghost use Rattle.block_buffer.specs.Blocks.{blocks_of, handed, rest_of};
 
-use crate::kind::{BufferKind, Eager, waiting_of};
+use crate::kind::{BufferKind, Eager, Lazy, waiting_of};
 use crate::sink::{BlockSink, Refused};
-use hybrid_array::{ArraySize, slice_as_chunks};
+use hybrid_array::{Array, ArraySize};
 use std::marker::{Model, PhantomData};
 
 /// The most bytes of a block.
@@ -28,6 +29,9 @@ pub struct BlockBuffer<BS: ArraySize, K: BufferKind> {
 
 /// A buffer that hands a block out as soon as it is full.
 pub type EagerBuffer<B> = BlockBuffer<B, Eager>;
+
+/// A buffer that hands a full block out once more bytes come.
+pub type LazyBuffer<B> = BlockBuffer<B, Lazy>;
 
 impl<BS: ArraySize, K: BufferKind> Model for BlockBuffer<BS, K> {
     ghost use Rattle.std.specs.Prelude.{ℕ, List, take};
@@ -156,6 +160,7 @@ impl<BS: ArraySize, K: BufferKind> BlockBuffer<BS, K> {
         ensures low { 1 ≤ result }
         ensures high { result ≤ 255 }
     {
+        // A field is read so that the bounds of the block size are known.
         let _ = &self.pos;
         BS::USIZE
     }
@@ -182,7 +187,7 @@ impl<BS: ArraySize, K: BufferKind> BlockBuffer<BS, K> {
 
     // Holds more bytes.
     #[inline]
-    fn append(&mut self, bytes: &[u8])
+    pub(crate) fn append(&mut self, bytes: &[u8])
         requires { length self.old + length bytes.now < BS.USIZE + K.WAITING }
         ensures { self.new ≡ self.old ++ bytes.now }
     {
@@ -268,6 +273,6 @@ pub(crate) fn hand_out<BS: ArraySize, S: BlockSink<BS>>(
     ensures cause { OnErr result (Rose (S.refusals sink.old) (S.refusals sink.new)) }
     ensures never_falls { S.refusals sink.old ≤ S.refusals sink.new }
 {
-    let (blocks, _) = slice_as_chunks::<u8, BS>(bytes);
+    let (blocks, _) = Array::<u8, BS>::slice_as_chunks(bytes);
     sink.take(&blocks)
 }

@@ -3,6 +3,7 @@
 ghost use Rattle.std.specs.Prelude.{◌≡◌, ℕ, ◌+◌, ◌≤◌, ◌<◌, List, length, take};
 
 mod sealed {
+    /// What no other crate can implement.
     pub trait Sealed {}
 }
 
@@ -78,7 +79,43 @@ impl BufferKind for Eager {
     ghost few_wait = { Prim.search rules };
 }
 
-/// The number of bytes that wait, which the law of a kind says is at most one.
+/// Has positions 0 to the block size: a full block is kept until more bytes come. It leaves no byte
+/// for the position, which stands in a field.
+#[derive(Clone, Copy, Default)]
+pub struct Lazy;
+
+impl sealed::Sealed for Lazy {}
+
+impl BufferKind for Lazy {
+    ghost use Rattle.std.proofs.Common.{rules};
+
+    type Pos = u8;
+
+    const WAITING: usize = 1;
+
+    ghost WAITING = { 1 };
+
+    ghost position = { λ size store pos. pos };
+
+    fn start() -> u8 {
+        0
+    }
+
+    #[inline(always)]
+    fn get_pos(_size: usize, _store: &[u8], pos: &u8) -> usize {
+        *pos as usize
+    }
+
+    #[inline(always)]
+    fn set_pos(_size: usize, _store: &mut [u8], pos: &mut u8, value: usize) {
+        *pos = value as u8;
+    }
+
+    ghost few_wait = { Prim.search rules };
+}
+
+/// The number of bytes that wait, which the law of a kind says is at most one. Where its value
+/// isn't used, the call is there for that bound.
 #[inline(always)]
 pub(crate) fn waiting_of<K: BufferKind>() -> usize
     ensures value { result ≡ K.WAITING }

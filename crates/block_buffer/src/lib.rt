@@ -1,16 +1,48 @@
-//! Buffers that cut a stream of bytes into blocks: today the eager one, which hands a block out as
-//! soon as it is full. No call takes memory.
+//! Buffers that cut a stream of bytes into blocks, and a buffer for reading blocks as a stream.
+//!
+//! - [`EagerBuffer`] hands a block out as soon as it is full, [`LazyBuffer`] once more bytes come.
+//!   Blocks go to a [`BlockSink`], which may refuse them.
+//! - [`ReadBuffer`] reads the blocks of a [`BlockGen`] in any pieces.
+//! - [`SerializedBuffer`] is a buffer as an array of bytes.
+//!
+//! The buffers keep their bytes in places of their own, of which there are 255. Only the calls that
+//! are given an allocator take memory: those that answer an array.
+//!
+//! A sink that appends to an array of its own, and what two pieces make of it:
+//!
+//!     impl BlockSink<U4> for Recorder {
+//!         ghost state = { λ s. record { stands = λ m. ⊤; room = None } };
+//!         ghost refusals = { λ s. s.refusals };
+//!         fn take(&mut self, blocks: &Chunks<'_, u8, U4>) -> Result<(), Refused> { .. }
+//!     }
+//!
+//!     let mut buffer = EagerBuffer::<U4>::default();
+//!     buffer.digest_blocks(&[0, 1, 2, 3, 4, 5, 6, 7, 8, 9], &mut sink)?;
+//!     buffer.digest_blocks(&[10, 11, 12], &mut sink)?;
+//!     // The sink took 0 to 11, and the buffer holds 12.
+//!     let block = buffer.pad_with_zeros(alloc)?;    // 12, 0, 0, 0
 //!
 //! A port of the Rust crate `block-buffer` 0.12.1.
 #![tactic(auto)]
 
 mod buffer;
+mod generator;
 mod kind;
+pub mod laws;
 mod padding;
+mod read;
+#[cfg(test)]
+mod read_tests;
+mod serial;
+#[cfg(test)]
+mod serial_tests;
 mod sink;
 #[cfg(test)]
 mod tests;
 
-pub use buffer::{BlockBuffer, EagerBuffer, Error};
-pub use kind::{BufferKind, Eager};
+pub use buffer::{BlockBuffer, EagerBuffer, Error, LazyBuffer};
+pub use generator::BlockGen;
+pub use kind::{BufferKind, Eager, Lazy};
+pub use read::ReadBuffer;
+pub use serial::SerializedBuffer;
 pub use sink::{BlockSink, Refused};

@@ -2,7 +2,7 @@
 
 ghost use Rattle.std.specs.Prelude.{◌≡◌, ◌+◌, ◌*◌, ◌≤◌, [], ◌∷◌, ◌++◌, length, OnOk, OnErr};
 ghost use Rattle.std.specs.Int.{to_be_bytes, to_le_bytes, w64, w128};
-ghost use Rattle.block_buffer.specs.Sink.{HasRoom, Rose, Takes, TakesPart};
+ghost use Rattle.block_buffer.specs.Sink.{HandsOut, HasRoom, RefusedBy, Rose, Takes};
 ghost use Rattle.block_buffer.specs.Blocks.{filled, padded};
 
 use crate::buffer::{BlockBuffer, MAX_SIZE, hand_out};
@@ -26,12 +26,9 @@ impl<BS: ArraySize> BlockBuffer<BS, Eager> {
         requires suffix { length suffix.now ≤ BS.USIZE }
         requires room { HasRoom (S.state sink.old).room (2 * BS.USIZE) }
         ensures empty { self.new ≡ [] }
-        ensures ok { OnOk result (Takes (S.state sink.old) (S.state sink.new)
-            (padded BS.USIZE (self.old ++ delim ∷ []) suffix.now)) }
-        ensures refused { OnErr result (TakesPart BS.USIZE (S.state sink.old) (S.state sink.new)
-            (padded BS.USIZE (self.old ++ delim ∷ []) suffix.now)) }
-        ensures cause { OnErr result (Rose (S.refusals sink.old) (S.refusals sink.new)) }
-        ensures never_falls { S.refusals sink.old ≤ S.refusals sink.new }
+        ensures padded { HandsOut BS.USIZE result (S.state sink.old) (S.state sink.new)
+            (padded BS.USIZE (self.old ++ delim ∷ []) suffix.now) }
+        ensures cause { RefusedBy result (S.refusals sink.old) (S.refusals sink.new) }
     {
         self.size();
         let pos = self.get_pos();
@@ -53,12 +50,9 @@ impl<BS: ArraySize> BlockBuffer<BS, Eager> {
         requires size { 8 ≤ BS.USIZE }
         requires room { HasRoom (S.state sink.old).room (2 * BS.USIZE) }
         ensures empty { self.new ≡ [] }
-        ensures ok { OnOk result (Takes (S.state sink.old) (S.state sink.new)
-            (padded BS.USIZE (self.old ++ 0x80 ∷ []) (to_be_bytes w64 data_len))) }
-        ensures refused { OnErr result (TakesPart BS.USIZE (S.state sink.old) (S.state sink.new)
-            (padded BS.USIZE (self.old ++ 0x80 ∷ []) (to_be_bytes w64 data_len))) }
-        ensures cause { OnErr result (Rose (S.refusals sink.old) (S.refusals sink.new)) }
-        ensures never_falls { S.refusals sink.old ≤ S.refusals sink.new }
+        ensures padded { HandsOut BS.USIZE result (S.state sink.old) (S.state sink.new)
+            (padded BS.USIZE (self.old ++ 0x80 ∷ []) (to_be_bytes w64 data_len)) }
+        ensures cause { RefusedBy result (S.refusals sink.old) (S.refusals sink.new) }
     {
         self.digest_pad(MESSAGE_END, &data_len.to_be_bytes(), sink)
     }
@@ -74,12 +68,9 @@ impl<BS: ArraySize> BlockBuffer<BS, Eager> {
         requires size { 8 ≤ BS.USIZE }
         requires room { HasRoom (S.state sink.old).room (2 * BS.USIZE) }
         ensures empty { self.new ≡ [] }
-        ensures ok { OnOk result (Takes (S.state sink.old) (S.state sink.new)
-            (padded BS.USIZE (self.old ++ 0x80 ∷ []) (to_le_bytes w64 data_len))) }
-        ensures refused { OnErr result (TakesPart BS.USIZE (S.state sink.old) (S.state sink.new)
-            (padded BS.USIZE (self.old ++ 0x80 ∷ []) (to_le_bytes w64 data_len))) }
-        ensures cause { OnErr result (Rose (S.refusals sink.old) (S.refusals sink.new)) }
-        ensures never_falls { S.refusals sink.old ≤ S.refusals sink.new }
+        ensures padded { HandsOut BS.USIZE result (S.state sink.old) (S.state sink.new)
+            (padded BS.USIZE (self.old ++ 0x80 ∷ []) (to_le_bytes w64 data_len)) }
+        ensures cause { RefusedBy result (S.refusals sink.old) (S.refusals sink.new) }
     {
         self.digest_pad(MESSAGE_END, &data_len.to_le_bytes(), sink)
     }
@@ -95,12 +86,9 @@ impl<BS: ArraySize> BlockBuffer<BS, Eager> {
         requires size { 16 ≤ BS.USIZE }
         requires room { HasRoom (S.state sink.old).room (2 * BS.USIZE) }
         ensures empty { self.new ≡ [] }
-        ensures ok { OnOk result (Takes (S.state sink.old) (S.state sink.new)
-            (padded BS.USIZE (self.old ++ 0x80 ∷ []) (to_be_bytes w128 data_len))) }
-        ensures refused { OnErr result (TakesPart BS.USIZE (S.state sink.old) (S.state sink.new)
-            (padded BS.USIZE (self.old ++ 0x80 ∷ []) (to_be_bytes w128 data_len))) }
-        ensures cause { OnErr result (Rose (S.refusals sink.old) (S.refusals sink.new)) }
-        ensures never_falls { S.refusals sink.old ≤ S.refusals sink.new }
+        ensures padded { HandsOut BS.USIZE result (S.state sink.old) (S.state sink.new)
+            (padded BS.USIZE (self.old ++ 0x80 ∷ []) (to_be_bytes w128 data_len)) }
+        ensures cause { RefusedBy result (S.refusals sink.old) (S.refusals sink.new) }
     {
         self.digest_pad(MESSAGE_END, &data_len.to_be_bytes(), sink)
     }
@@ -117,12 +105,9 @@ fn hand_padded<BS: ArraySize, S: BlockSink<BS>>(
     requires head { length head.now ≤ BS.USIZE }
     requires suffix { length suffix.now ≤ BS.USIZE }
     requires room { HasRoom (S.state sink.old).room (2 * BS.USIZE) }
-    ensures ok { OnOk result (Takes (S.state sink.old) (S.state sink.new)
-        (padded BS.USIZE head.now suffix.now)) }
-    ensures refused { OnErr result (TakesPart BS.USIZE (S.state sink.old) (S.state sink.new)
-        (padded BS.USIZE head.now suffix.now)) }
-    ensures cause { OnErr result (Rose (S.refusals sink.old) (S.refusals sink.new)) }
-    ensures never_falls { S.refusals sink.old ≤ S.refusals sink.new }
+    ensures padded { HandsOut BS.USIZE result (S.state sink.old) (S.state sink.new)
+        (padded BS.USIZE head.now suffix.now) }
+    ensures cause { RefusedBy result (S.refusals sink.old) (S.refusals sink.new) }
 {
     if head.len() + suffix.len() <= BS::USIZE {
         return hand_filled::<BS, S>(head, suffix, sink);

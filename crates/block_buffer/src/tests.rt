@@ -2,9 +2,11 @@
 
 ghost use Rattle.std.specs.Prelude.{◌<◌, ◌≤◌, length};
 
-use crate::{BlockSink, EagerBuffer, Error, Refused};
+use crate::laws::unrefused_stream;
+use crate::{BlockSink, EagerBuffer, Error, LazyBuffer, Refused};
 use hybrid_array::sizes::{U4, U8, U16};
 use hybrid_array::{ArraySize, Chunks};
+use std::alloc::AllocError;
 
 // Records the first 64 bytes that it takes, and refuses from a given call on.
 #[derive(Drop)]
@@ -54,8 +56,9 @@ impl<BS: ArraySize> BlockSink<BS> for Recorder {
     }
 }
 
+// The blocks of the Rust crate's own example.
 #[test]
-fn two_pieces_make_three_blocks(rt: HostRuntime) {
+fn two_pieces_make_three_blocks(rt: HostRuntime) -> Result<(), AllocError> {
     let mut buffer = EagerBuffer::<U4>::default();
     let mut sink = refusing_from(9);
     let first = [0, 1, 2, 3, 4, 5, 6, 7, 8, 9];
@@ -68,15 +71,53 @@ fn two_pieces_make_three_blocks(rt: HostRuntime) {
         [0, 1, 2, 3, 4, 5, 6, 7, 8, 9, 10, 11].as_slice()
     );
     assert_eq!(rt; sink.calls, 2);
-    assert_eq!(rt; buffer.get_data(), [12].as_slice());
-    assert_eq!(rt;
-        (buffer.get_pos(), buffer.size(), buffer.remaining()),
-        (1, 4, 3)
-    );
     let copy = buffer.clone();
-    buffer.reset();
+    let block = buffer.pad_with_zeros(rt.alloc())?;
+    assert_eq!(rt; block.as_slice(), [12, 0, 0, 0].as_slice());
     assert_eq!(rt; buffer.get_pos(), 0);
     assert_eq!(rt; copy.get_data(), [12].as_slice());
+    assert_eq!(rt; (copy.get_pos(), copy.size(), copy.remaining()), (1, 4, 3));
+    Ok(())
+}
+
+#[test]
+fn a_lazy_buffer_keeps_a_full_block(rt: HostRuntime) -> Result<(), AllocError> {
+    let mut buffer = LazyBuffer::<U4>::default();
+    let mut sink = refusing_from(9);
+    assert_eq!(rt; buffer.digest_blocks(&[0, 1, 2, 3], &mut sink), Ok(()));
+    assert_eq!(rt; (sink.calls, buffer.remaining()), (0, 0));
+    assert_eq!(rt; buffer.digest_blocks(&[], &mut sink), Ok(()));
+    assert_eq!(rt; sink.calls, 0);
+    assert_eq!(rt; buffer.digest_blocks(&[4], &mut sink), Ok(()));
+    assert_eq!(rt; sink.taken(), [0, 1, 2, 3].as_slice());
+    assert_eq!(rt; buffer.get_data(), [4].as_slice());
+    let more = [5, 6, 7, 8, 9, 10, 11];
+    assert_eq!(rt; buffer.digest_blocks(&more, &mut sink), Ok(()));
+    assert_eq!(rt; sink.taken(), [0, 1, 2, 3, 4, 5, 6, 7].as_slice());
+    let block = buffer.pad_with_zeros(rt.alloc())?;
+    assert_eq!(rt; block.as_slice(), [8, 9, 10, 11].as_slice());
+    Ok(())
+}
+
+#[test]
+fn what_is_taken_and_what_is_held_are_the_stream(rt: HostRuntime) {
+    let mut buffer = LazyBuffer::<U4>::new(&[0, 1]);
+    let mut sink = refusing_from(9);
+    unrefused_stream(&mut buffer, &[2, 3, 4, 5, 6, 7, 8, 9], &mut sink);
+    assert_eq!(rt; sink.taken(), [0, 1, 2, 3, 4, 5, 6, 7].as_slice());
+    assert_eq!(rt; buffer.get_data(), [8, 9].as_slice());
+}
+
+#[test]
+fn a_lazy_buffer_holds_at_most_a_block(rt: HostRuntime) {
+    assert_eq!(rt;
+        LazyBuffer::<U4>::try_new(&[1, 2, 3, 4, 5]).err(),
+        Some(Error)
+    );
+    match LazyBuffer::<U4>::try_new(&[1, 2, 3, 4]) {
+        Ok(buffer) => assert_eq!(rt; buffer.get_data(), [1, 2, 3, 4].as_slice()),
+        Err(_) => assert!(rt; false, "four bytes fit"),
+    }
 }
 
 #[test]
@@ -154,26 +195,58 @@ fn paddings_by_lengths(rt: HostRuntime) {
     assert_eq!(rt; padded_long_be(0x0102).taken(), long_be.as_slice());
 }
 
+// In a stream of 9 bytes, the two bytes held make a first block, and a second one is of the input.
 #[test]
-fn a_refusal_leaves_an_empty_buffer(rt: HostRuntime) {
-    let mut buffer = EagerBuffer::<U4>::new(&[1, 2]);
-    let mut sink = refusing_from(0);
-    let rest = [3, 4, 5, 6, 7, 8, 9];
-    assert_eq!(rt; buffer.digest_blocks(&rest, &mut sink), Err(Refused));
-    assert_eq!(rt;
-        (sink.taken().len(), buffer.get_pos(), sink.refusals),
-        (0, 0, 1)
-    );
-
-    let mut buffer = EagerBuffer::<U4>::new(&[1, 2]);
-    let mut sink = refusing_from(1);
-    assert_eq!(rt; buffer.digest_blocks(&rest, &mut sink), Err(Refused));
-    assert_eq!(rt; sink.taken(), [1, 2, 3, 4].as_slice());
-    assert_eq!(rt; buffer.get_pos(), 0);
+fn what_a_refusing_sink_took_of_a_stream_is_whole_blocks(rt: HostRuntime) {
+    for (call, taken) in [(0, 0), (1, 4), (2, 8)] {
+        let mut buffer = EagerBuffer::<U4>::new(&[1, 2]);
+        let mut sink = refusing_from(call);
+        let result = buffer.digest_blocks(&[3, 4, 5, 6, 7, 8, 9], &mut sink);
+        assert_eq!(rt; sink.taken().len(), taken, "call {call}");
+        assert!(rt;
+            [1, 2, 3, 4, 5, 6, 7, 8].starts_with(sink.taken()),
+            "call {call}"
+        );
+        assert_eq!(rt; result.is_ok(), call == 2, "call {call}");
+        assert_eq!(rt;
+            buffer.get_pos(),
+            if call == 2 { 1 } else { 0 },
+            "call {call}"
+        );
+        assert_eq!(rt; sink.refusals, if call == 2 { 0 } else { 1 }, "call {call}");
+    }
 }
 
 #[test]
-fn the_error_has_a_text(rt: HostRuntime) -> Result<(), std::alloc::AllocError> {
+fn what_a_refusing_sink_took_of_a_padding_is_whole_blocks(rt: HostRuntime) {
+    for (call, taken) in [(0, 0), (1, 8), (2, 8)] {
+        let mut buffer = EagerBuffer::<U8>::new(&[1, 2]);
+        let mut sink = refusing_from(call);
+        let result = buffer.digest_pad(6, &[9], &mut sink);
+        assert_eq!(rt; sink.taken().len(), taken, "one block, call {call}");
+        assert!(rt;
+            [1, 2, 6, 0, 0, 0, 0, 9].starts_with(sink.taken()),
+            "one block, call {call}"
+        );
+        assert_eq!(rt; result.is_ok(), call > 0, "one block, call {call}");
+        assert_eq!(rt; buffer.get_pos(), 0, "one block, call {call}");
+    }
+    for (call, taken) in [(0, 0), (1, 4), (2, 8)] {
+        let mut buffer = EagerBuffer::<U4>::new(&[1, 2]);
+        let mut sink = refusing_from(call);
+        let result = buffer.digest_pad(6, &[8, 9], &mut sink);
+        assert_eq!(rt; sink.taken().len(), taken, "two blocks, call {call}");
+        assert!(rt;
+            [1, 2, 6, 0, 0, 0, 8, 9].starts_with(sink.taken()),
+            "two blocks, call {call}"
+        );
+        assert_eq!(rt; result.is_ok(), call == 2, "two blocks, call {call}");
+        assert_eq!(rt; buffer.get_pos(), 0, "two blocks, call {call}");
+    }
+}
+
+#[test]
+fn the_error_has_a_text(rt: HostRuntime) -> Result<(), AllocError> {
     assert_eq!(rt;
         format!(in rt.alloc(); "{Error}")?.as_str(),
         "Block buffer error"

@@ -1,1 +1,3 @@
+pub mod CallLemmas
 pub mod ChunkLemmas
+pub mod RunLemmas

@@ -1,1 +1,6 @@
+pub mod Calls
 pub mod Chunks
+pub mod Gives
+pub mod Lending
+pub mod Refusals
+pub mod Runs

@@ -3,7 +3,7 @@
 ghost use Rattle.std.specs.Prelude.{◌≡◌, ◌↔◌, ◌*◌, ◌≤◌, ◌<◌, length, take, drop, IsSome, IfSome};
 ghost use Rattle.hybrid_array.specs.Chunks.{IsWholeChunks, chunk_at, whole_count};
 
-use crate::{ArrayRef, ArraySize};
+use crate::{Array, ArrayRef, ArraySize};
 use std::marker::{Model, PhantomData};
 
 /// A borrowed slice that is cut into chunks of `U::USIZE` items, with none left over. Contracts see
@@ -25,27 +25,29 @@ impl<'a, T, U: ArraySize> Model for Chunks<'a, T, U> {
     ghost invariant = { λ a. IsWholeChunks U.USIZE (length a.items.now) };
 }
 
-/// The chunks of a slice, from its start, and the items that are left, fewer than a chunk.
-#[inline]
-pub fn slice_as_chunks<T, U: ArraySize>(buf: &[T]) -> (Chunks<'_, T, U>, &[T])
-    requires { 0 < U.USIZE }
-    ensures chunks { result.0 ≡ take (whole_count U.USIZE (length buf.now)) buf.now }
-    ensures rest { result.1.now ≡ drop (whole_count U.USIZE (length buf.now)) buf.now }
-    ensures short { length result.1.now < U.USIZE }
-{
-    let (whole, rest) = buf.split_at(buf.len() / U::USIZE * U::USIZE);
-    let chunks = Chunks {
-        items: whole,
-        size: PhantomData,
-    };
-    (chunks, rest)
+impl<T, U: ArraySize> Array<T, U> {
+    /// The chunks of a slice, from its start, and the items that are left, fewer than a chunk.
+    #[inline]
+    pub fn slice_as_chunks(buf: &[T]) -> (Chunks<'_, T, U>, &[T])
+        requires { 0 < U.USIZE }
+        ensures chunks { result.0 ≡ take (whole_count U.USIZE (length buf.now)) buf.now }
+        ensures rest { result.1.now ≡ drop (whole_count U.USIZE (length buf.now)) buf.now }
+        ensures short { length result.1.now < U.USIZE }
+    {
+        let (whole, rest) = buf.split_at(buf.len() / U::USIZE * U::USIZE);
+        let chunks = Chunks {
+            items: whole,
+            size: PhantomData,
+        };
+        (chunks, rest)
+    }
 }
 
 // Chunk `i` of `count` chunks of `size` items.
 #[inline]
 #[tactic(auto, using(crate::proofs::ChunkLemmas::chunk_fits))]
-fn chunk<T>(items: &[T], size: usize, count: usize, i: usize) -> &[T]
-    requires whole { count * size ≡ length items.now }
+pub(crate) fn chunk<T>(items: &[T], size: usize, count: usize, i: usize) -> &[T]
+    requires whole { count * size ≤ length items.now }
     requires below { i < count }
     ensures value { result.now ≡ chunk_at size items.now i }
     ensures len { length result.now ≡ size }

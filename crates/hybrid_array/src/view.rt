@@ -1,9 +1,12 @@
 //! A borrowed slice whose length a type gives.
 
-ghost use Rattle.std.specs.Prelude.{◌≡◌, ◌↔◌, ◌<◌, length, IsOk, IfOk, IsSome, slice_get};
+ghost use Rattle.std.specs.Prelude.{◌≡◌, ◌↔◌, ◌+◌, ◌<◌, [], ◌∷◌, length, take, drop, IsOk, IfOk, IsSome, IfSome, slice_get};
 ghost use Rattle.std.specs.Option.{option_copied};
+ghost use Rattle.std.specs.Mem.{FitsInMemory};
 
-use crate::{ArraySize, TryFromSliceError};
+use crate::sizes::U1;
+use crate::{Array, ArraySize, Size, TryFromSliceError};
+use std::alloc::{AllocError, Global};
 use std::marker::{Model, PhantomData};
 
 /// A borrowed slice of exactly `U::USIZE` items. Contracts see it as their list.
@@ -24,6 +27,18 @@ impl<'a, T, U: ArraySize> Model for ArrayRef<'a, T, U> {
 }
 
 impl<'a, T, U: ArraySize> ArrayRef<'a, T, U> {
+    // The view of a slice of this length.
+    #[inline]
+    pub(crate) fn of(slice: &'a [T]) -> Self
+        requires { length slice.now ≡ U.USIZE }
+        ensures { result ≡ slice.now }
+    {
+        ArrayRef {
+            items: slice,
+            size: PhantomData,
+        }
+    }
+
     /// A view of all of `slice`.
     #[inline]
     pub fn try_from(slice: &'a [T]) -> Result<Self, TryFromSliceError>
@@ -33,10 +48,7 @@ impl<'a, T, U: ArraySize> ArrayRef<'a, T, U> {
         if slice.len() != U::USIZE {
             return Err(TryFromSliceError);
         }
-        Ok(ArrayRef {
-            items: slice,
-            size: PhantomData,
-        })
+        Ok(ArrayRef::of(slice))
     }
 
     /// The items, for as long as the slice that was viewed.
@@ -55,5 +67,77 @@ impl<'a, T, U: ArraySize> ArrayRef<'a, T, U> {
         ensures some { IsSome result ↔ (i < U.USIZE) }
     {
         self.items.get(i)
+    }
+
+    /// An array of the items' clones.
+    pub fn to_array(&self, alloc: Global) -> Result<Array<T, U>, AllocError>
+    where
+        T: Clone + Drop,
+        requires { (x y : T) → T.is_clone x y → y ≡ x }
+        ensures { IfOk result (λ array. array ≡ self.now) }
+    {
+        Ok(Array::of(self.as_slice().to_vec(alloc)?))
+    }
+
+    /// Views of the first `N::USIZE` items and of the rest.
+    #[inline]
+    pub fn split_ref<N: ArraySize, R: ArraySize>(&self) -> (ArrayRef<'a, T, N>, ArrayRef<'a, T, R>)
+        requires { N.USIZE + R.USIZE ≡ U.USIZE }
+        ensures first { result.0 ≡ take N.USIZE self.now }
+        ensures rest { result.1 ≡ drop N.USIZE self.now }
+    {
+        let (first, rest) = self.items.split_at(N::USIZE);
+        (ArrayRef::of(first), ArrayRef::of(rest))
+    }
+}
+
+impl<T, U: ArraySize> Array<T, U> {
+    /// A view of all items.
+    #[inline]
+    pub fn as_array_ref(&self) -> ArrayRef<'_, T, U>
+        ensures { result ≡ self.now }
+    {
+        ArrayRef::of(self.as_slice())
+    }
+
+    /// Views of the first `N::USIZE` items and of the rest.
+    #[inline]
+    pub fn split_ref<N: ArraySize, R: ArraySize>(&self) -> (ArrayRef<'_, T, N>, ArrayRef<'_, T, R>)
+        requires { N.USIZE + R.USIZE ≡ U.USIZE }
+        ensures first { result.0 ≡ take N.USIZE self.now }
+        ensures rest { result.1 ≡ drop N.USIZE self.now }
+    {
+        let (first, rest) = self.as_slice().split_at(N::USIZE);
+        (ArrayRef::of(first), ArrayRef::of(rest))
+    }
+
+    /// A view of all of `slice`.
+    #[inline]
+    pub fn slice_as_array(slice: &[T]) -> Option<ArrayRef<'_, T, U>>
+        ensures some { IsSome result ↔ (length slice.now ≡ U.USIZE) }
+        ensures value { IfSome result (λ view. view ≡ slice.now) }
+    {
+        ArrayRef::try_from(slice).ok()
+    }
+}
+
+impl<T> Array<T, U1> {
+    /// A view of one item.
+    #[inline]
+    pub fn from_ref(r: &T) -> ArrayRef<'_, T, U1>
+        requires { FitsInMemory T.row }
+        ensures { result ≡ r.now ∷ [] }
+    {
+        ArrayRef::of(std::slice::from_ref(r))
+    }
+}
+
+impl<T, const N: usize> Array<T, Size<N>> {
+    /// A view of all items of the language's own array.
+    #[inline]
+    pub fn cast_from_core(array: &[T; N]) -> ArrayRef<'_, T, Size<N>>
+        ensures { result ≡ array.now }
+    {
+        ArrayRef::of(&array[..])
     }
 }

@@ -4,13 +4,11 @@ use Rattle.block_buffer.proofs.Streams.{part_first, takes_both}
 use Rattle.block_buffer.proofs.TwoBlocks.{length-filled, padded_twice}
 use Rattle.block_buffer.proofs.padding.hand_padded.Goals as goal
 
-pub returns-clause-ok : goal.returns-clause-ok
-returns-clause-ok g c =
-    let two = padded_twice g.BS.ArraySize.USIZE c.args.head.now c.args.suffix.now c.requires.head c.requires.suffix (omega arith) in
-    on_ok_weaker c.hand_filled-3.result (λ later. rw two (takes_both _ _ _ _ _ c.in_ok-hand_filled.ensures.ok later)) c.hand_filled-3.ensures.ok
-
-pub returns-clause-refused : goal.returns-clause-refused
-returns-clause-refused g c =
+pub returns-clause-padded : goal.returns-clause-padded
+returns-clause-padded g c =
     let two = padded_twice g.BS.ArraySize.USIZE c.args.head.now c.args.suffix.now c.requires.head c.requires.suffix (omega arith) in
     let full = length-filled g.BS.ArraySize.USIZE c.args.head.now c.requires.head in
-    on_err_weaker c.hand_filled-3.result (λ none. rw two (part_first _ _ _ _ _ _ full c.in_ok-hand_filled.ensures.ok none)) c.hand_filled-3.ensures.refused
+    record {
+      ok = on_ok_weaker c.hand_filled-3.result (λ later. rw two (takes_both _ _ _ _ _ c.in_ok-hand_filled.ensures.ok later)) c.hand_filled-3.ensures.ok;
+      refused = on_err_weaker c.hand_filled-3.result (λ none. rw two (part_first _ _ _ _ _ _ full c.in_ok-hand_filled.ensures.ok none)) c.hand_filled-3.ensures.refused;
+    }

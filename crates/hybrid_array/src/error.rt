@@ -1,0 +1,22 @@
+//! What keeps an array from being made.
+
+use crate::TryFromSliceError;
+use std::alloc::AllocError;
+
+/// What keeps an array of a slice's items from being made.
+#[derive(Debug, Drop)]
+pub enum SliceError {
+    /// The slice has another length.
+    Length(TryFromSliceError),
+    /// Memory is wanting.
+    Memory(AllocError),
+}
+
+/// What keeps an array of a closure's answers from being made.
+#[derive(Debug, Drop)]
+pub enum MakeError<E> {
+    /// The closure's own error.
+    Caller(E),
+    /// Memory is wanting.
+    Memory(AllocError),
+}

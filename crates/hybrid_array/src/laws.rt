@@ -1,0 +1,35 @@
+//! Laws of arrays, each the contract of a function that makes the calls that it speaks of.
+
+ghost use Rattle.std.specs.Prelude.{◌≡◌, ◌+◌, ◌*◌, ◌<◌, IfOk};
+
+use crate::{Array, ArraySize, Flatten, Unflatten};
+use std::alloc::{AllocError, Global};
+
+/// Two arrays that are joined and cut again, at the first one's size, are both given back.
+pub fn concat_then_split<T: Drop, N: ArraySize, R: ArraySize, S: ArraySize>(
+    alloc: Global,
+    first: Array<T, N>,
+    second: Array<T, R>,
+) -> Result<(Array<T, N>, Array<T, R>), AllocError>
+    requires { S.USIZE ≡ N.USIZE + R.USIZE }
+    ensures first { IfOk result (λ both. both.0 ≡ first) }
+    ensures second { IfOk result (λ both. both.1 ≡ second) }
+{
+    let both: Array<T, S> = first.concat(alloc, second)?;
+    both.split(alloc)
+}
+
+/// An array that is cut into runs, and these joined again, is given back.
+pub fn unflatten_then_flatten<T: Drop, N: ArraySize, M: ArraySize, Q: ArraySize>(
+    alloc: Global,
+    array: Array<T, N>,
+) -> Result<Array<T, N>, AllocError>
+    requires whole { N.USIZE ≡ M.USIZE * Q.USIZE }
+    requires some { 0 < M.USIZE }
+    ensures { IfOk result (λ back. back ≡ array) }
+{
+    let _items = array.as_slice();
+    let rows: Array<Array<T, Q>, M> = array.unflatten(alloc)?;
+    let back = rows.flatten(alloc)?;
+    Ok(back)
+}

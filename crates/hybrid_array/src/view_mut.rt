@@ -1,0 +1,191 @@
+//! A borrowed slice whose length a type gives, for writing.
+
+ghost use Rattle.std.specs.Prelude.{◌≡◌, ◌↔◌, ◌+◌, ◌<◌, [], ◌∷◌, length, take, drop, IsOk, IfOk, IsSome, IfSome, slice_set, slice_index_or};
+ghost use Rattle.std.specs.Borrow.{sem, follows, Array as Slots};
+ghost use Rattle.std.specs.Fn.{FnOnceReturnsAtMut};
+ghost use Rattle.std.specs.Mem.{FitsInMemory};
+
+use crate::sizes::U1;
+use crate::{Array, ArraySize, Size, TryFromSliceError};
+use std::marker::PhantomData;
+
+/// A borrowed slice of exactly `U::USIZE` items, for writing.
+///
+/// What is written through the view lands in the slice. The view has its reference in the field
+/// `items`, by which contracts follow it. A caller that has to know what the slice holds
+/// afterwards makes the view by `of`, or moves this field out and writes through it.
+#[derive(Drop)]
+pub struct ArrayMut<'a, T, U: ArraySize> {
+    pub items: &'a mut [T],
+    size: PhantomData<U>,
+    ghost sized: { length items.now ≡ U.USIZE },
+}
+
+impl<'a, T, U: ArraySize> ArrayMut<'a, T, U> {
+    /// The view of a slice of this length.
+    ///
+    /// Its caller knows what the slice holds once the view is gone.
+    #[inline]
+    pub fn of(slice: &'a mut [T]) -> Self
+        requires { length slice.old ≡ U.USIZE }
+        ensures same_reference { result.items.ghost_name ≡ slice.entry.ghost_name }
+        ensures value { result.items.now ≡ slice.old }
+    {
+        ArrayMut {
+            items: slice,
+            size: PhantomData,
+        }
+    }
+
+    /// A view of all of `slice`.
+    ///
+    /// A caller that has to know what the slice holds after a write makes its view of what
+    /// `whole_mut` lends.
+    #[inline]
+    pub fn try_from(slice: &'a mut [T]) -> Result<Self, TryFromSliceError>
+        ensures ok { IsOk result ↔ (length slice.old ≡ U.USIZE) }
+        ensures same_reference { IfOk result (λ view.
+            view.items.ghost_name ≡ slice.entry.ghost_name) }
+        ensures value { IfOk result (λ view. view.items.now ≡ slice.old) }
+    {
+        if slice.len() != U::USIZE {
+            return Err(TryFromSliceError);
+        }
+        Ok(ArrayMut::of(slice))
+    }
+
+    /// The items.
+    #[inline]
+    pub fn as_slice(&self) -> &[T]
+        ensures value { result.now ≡ self.now.items.now }
+        ensures len { length result.now ≡ U.USIZE }
+    {
+        self.items
+    }
+
+    /// Has a closure write the items.
+    ///
+    /// It stands in place of a call that lends them: contracts can't follow a slice that is lent
+    /// through a view, since its length is a fact of the view.
+    #[inline]
+    pub fn with_mut_slice<F: FnOnce(&mut [T])>(&mut self, f: F)
+        requires { F.IsAlwaysCallable f }
+        ensures same_reference { self.new.items.ghost_name ≡ self.old.items.ghost_name }
+        ensures value { FnOnceReturnsAtMut F.FnOnce f self.old.items.now tt self.new.items.now }
+    {
+        f(self.items);
+    }
+
+    /// The items for writing, for as long as the slice that was viewed.
+    ///
+    /// A caller that has to know what the slice holds after a write moves the field `items` out.
+    #[inline]
+    pub fn into_mut_slice(self) -> &'a mut [T]
+        ensures same_reference { result.ghost_name ≡ self.entry.items.ghost_name }
+        ensures value { result.now ≡ self.entry.items.now }
+        ensures len { length result.now ≡ U.USIZE }
+    {
+        self.items
+    }
+
+    /// Writes item `i`, counted from 0.
+    #[inline]
+    pub fn set(&mut self, i: usize, value: T)
+    where
+        T: Drop,
+        requires { i < U.USIZE }
+        ensures same_reference { self.new.items.ghost_name ≡ self.old.items.ghost_name }
+        ensures value { self.new.items.now ≡ slice_set self.old.items.now i value }
+    {
+        self.items[i] = value;
+    }
+
+    /// Writes all items.
+    #[inline]
+    pub fn copy_from_slice(&mut self, src: &[T])
+    where
+        T: Copy,
+        requires { length src.now ≡ U.USIZE }
+        ensures same_reference { self.new.items.ghost_name ≡ self.old.items.ghost_name }
+        ensures value { self.new.items.now ≡ src.now }
+    {
+        self.items.copy_from_slice(src);
+    }
+}
+
+impl<T, U: ArraySize> Array<T, U> {
+    ghost use Rattle.hybrid_array.specs.Lending.{LendsTo};
+
+    /// A view of all items, for writing.
+    ///
+    /// A caller that has to know what the array holds after a write moves the view's field `items`
+    /// out, and writes through it or makes a view of it by `ArrayMut::of`.
+    #[inline]
+    pub fn as_array_mut(&mut self) -> ArrayMut<'_, T, U>
+        ensures* writes_back { sem 𝓛 (LendsTo T.row U.row U.ArraySize self.entry
+            result.items.ghost_name) }
+        ensures value { result.items.now ≡ self.old }
+    {
+        ArrayMut::of(self.as_mut_slice())
+    }
+
+    /// Views of the first `N::USIZE` items and of the rest, for writing.
+    ///
+    /// A caller that has to know what the array holds after a write makes its views of what
+    /// `halves_mut` lends, at `as_mut_slice`.
+    #[inline]
+    pub fn split_ref_mut<N: ArraySize, R: ArraySize>(
+        &mut self,
+    ) -> (ArrayMut<'_, T, N>, ArrayMut<'_, T, R>)
+        requires { N.USIZE + R.USIZE ≡ U.USIZE }
+        ensures first { result.0.items.now ≡ take N.USIZE self.old }
+        ensures rest { result.1.items.now ≡ drop N.USIZE self.old }
+    {
+        let (first, rest) = self.as_mut_slice().split_at_mut(N::USIZE);
+        (ArrayMut::of(first), ArrayMut::of(rest))
+    }
+
+    /// A view of all of `slice`, for writing.
+    ///
+    /// A caller that has to know what the slice holds after a write makes its view of what
+    /// `whole_mut` lends.
+    #[inline]
+    pub fn slice_as_mut_array(slice: &mut [T]) -> Option<ArrayMut<'_, T, U>>
+        ensures some { IsSome result ↔ (length slice.old ≡ U.USIZE) }
+        ensures same_reference { IfSome result (λ view.
+            view.items.ghost_name ≡ slice.entry.ghost_name) }
+        ensures value { IfSome result (λ view. view.items.now ≡ slice.old) }
+    {
+        ArrayMut::try_from(slice).ok()
+    }
+}
+
+impl<T> Array<T, U1> {
+    /// A view of one item, for writing.
+    ///
+    /// A caller that has to know the item after a write goes on as after `as_array_mut`.
+    #[inline]
+    pub fn from_mut(r: &mut T) -> ArrayMut<'_, T, U1>
+        requires { FitsInMemory T.row }
+        ensures* writes_back { sem 𝓛 (follows T.row (Slots T.row 0) r.entry.ghost_name
+            result.items.ghost_name (λ items. slice_index_or items 0 r.old)) }
+        ensures value { result.items.now ≡ r.old ∷ [] }
+    {
+        ArrayMut::of(std::slice::from_mut(r))
+    }
+}
+
+impl<T, const N: usize> Array<T, Size<N>> {
+    /// A view of all items of the language's own array, for writing.
+    ///
+    /// A caller that has to know what the array holds after a write goes on as after
+    /// `as_array_mut`.
+    #[inline]
+    pub fn cast_from_core_mut(array: &mut [T; N]) -> ArrayMut<'_, T, Size<N>>
+        ensures* writes_back { sem 𝓛 (follows (Slots T.row 0) (Slots T.row 0)
+            array.entry.ghost_name result.items.ghost_name (λ items. items)) }
+        ensures value { result.items.now ≡ array.old }
+    {
+        ArrayMut::of(&mut array[..])
+    }
+}
