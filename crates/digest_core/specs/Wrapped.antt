@@ -6,8 +6,8 @@ pub record Wrapped (C : Type 0) : Type 0 where
   pub core : C
   pub held : List ℕ
 
--- A core has absorbed `count` bytes, in whole blocks, and so many after them fill no block: together
--- no more than the core may absorb.
+-- A core has absorbed `count` bytes, in whole blocks, and so many after them fill no block:
+-- together no more than the core may absorb.
 pub record IsWrapped (limit size count held : ℕ) : Type 0 where
   pub within : count + held ≤ limit
   pub whole : count % size ≡ 0

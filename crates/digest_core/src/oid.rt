@@ -1,7 +1,10 @@
 //! Object identifiers (X.660), as the octets of X.690, 8.19.
 
-ghost use Rattle.std.specs.Prelude.{◌≡◌, ℕ, ◌+◌, ◌*◌, ◌^◌, ◌≤◌, ◌<◌, ◌↔◌, List, [], ◌∷◌, ◌++◌, length, take, drop, IsOk, IfOk, IfErr, IfSome, IfNone, OnErr, Some, None, false};
-ghost use Rattle.digest_core.specs.Oid.{AllSmall, arcs_of, base_128, base_128_all, encoding, first_arc, numbers, second_arc};
+ghost use Rattle.std.specs.Prelude.{◌≡◌, ℕ, ◌+◌, ◌*◌, ◌^◌, ◌≤◌, ◌<◌, ◌↔◌, List, [], ◌∷◌, ◌++◌};
+ghost use Rattle.std.specs.Prelude.{length, take, drop, IsOk, IfOk, IfErr, IfSome, IfNone, OnErr};
+ghost use Rattle.std.specs.Prelude.{Some, None, false};
+ghost use Rattle.digest_core.specs.Oid.{AllSmall, arcs_of, base_128, base_128_all, encoding};
+ghost use Rattle.digest_core.specs.Oid.{first_arc, numbers, second_arc};
 ghost use Rattle.digest_core.specs.OidRefusals.{is_out_of_range, refusal};
 ghost use Rattle.digest_core.specs.declared.oid.OidError.TheVariants.{TooLong};
 
@@ -134,6 +137,17 @@ impl ObjectIdentifier {
         }
         let octets = octets_of(first, second, &arcs[2..])?;
         Ok(ObjectIdentifier { octets })
+    }
+
+    /// The identifier of SHA-512: joint-iso-itu-t(2) country(16) us(840) organization(1) gov(101)
+    /// csor(3) nistAlgorithm(4) hashAlgs(2) sha512(3).
+    pub fn sha512() -> Self
+        ensures { result ≡ encoding (2 ∷ 16 ∷ 840 ∷ 1 ∷ 101 ∷ 3 ∷ 4 ∷ 2 ∷ 3 ∷ []) }
+    {
+        match ObjectIdentifier::from_arcs(&[2, 16, 840, 1, 101, 3, 4, 2, 3]) {
+            Ok(id) => id,
+            Err(_) => unreachable!(),
+        }
     }
 
     /// The encoding.

@@ -125,6 +125,22 @@ fn sums_of_pieces(rt: HostRuntime) {
     assert_eq!(rt; out[0], 0);
 }
 
+// The example of the crate's first page.
+#[test]
+fn digests_on_the_way_and_after_a_reset(rt: HostRuntime) {
+    let mut hash = new_sum();
+    hash.update(&[1, 2, 3, 4, 5]);
+    hash.update(&[6]);
+    let mut digest = [0];
+    hash.finalize_with(&[9], &mut digest);
+    assert_eq!(rt; digest, [30]);
+    hash.finalize_into_reset(&mut digest);
+    assert_eq!(rt; digest, [21]);
+    hash.update(&[7]);
+    hash.finalize_into(&mut digest);
+    assert_eq!(rt; digest, [7]);
+}
+
 #[test]
 fn a_clone_goes_on_alone(rt: HostRuntime) {
     let mut out = [0u8];
@@ -173,6 +189,14 @@ fn has_arcs(arcs: &[u32]) -> bool {
 
 fn refusal_of(arcs: &[u32]) -> Option<OidError> {
     ObjectIdentifier::from_arcs(arcs).err()
+}
+
+#[test]
+fn object_identifier_of_sha512(rt: HostRuntime) {
+    let mut out = [0; 41];
+    let count = ObjectIdentifier::sha512().der(&mut out);
+    let expected = [6, 9, 0x60, 0x86, 0x48, 1, 0x65, 3, 4, 2, 3];
+    assert_eq!(rt; out[..count], expected[..]);
 }
 
 #[test]

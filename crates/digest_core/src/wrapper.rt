@@ -126,6 +126,7 @@ impl<C: FixedOutputCore + Drop> Absorb for CoreWrapper<C> {
     ghost digest = { C.digest };
 
     fn absorbed(&self) -> u64 {
+        // The limit is read so that the sum is known to fit.
         let _limit = C::MAX_BYTES;
         self.sink.core.absorbed() + self.buffer.get_pos() as u64
     }

@@ -4,3 +4,4 @@ pub mod Absorbing
 mod Vectors
 mod Keys
 pub mod Digest
+pub mod Expanding

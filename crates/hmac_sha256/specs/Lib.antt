@@ -3,4 +3,5 @@ pub mod Rounds
 pub mod Lanes
 pub mod Hash
 pub mod Hmac
+pub mod Hkdf
 pub mod Mac

@@ -1,5 +1,21 @@
-//! SHA-256 (FIPS 180-4) and HMAC with it (RFC 2104), on messages that come piece by piece. No call
-//! takes memory.
+//! SHA-256 (FIPS 180-4) and HMAC with it (RFC 2104), on messages that come piece by piece, and HKDF
+//! (RFC 5869). No call takes memory.
+//!
+//! - [`Hash`] and [`HMAC`] take a message by `update`, and have calls for a message in one piece.
+//! - [`HKDF`] derives keys from keying material.
+//! - [`WrappedHash`] is SHA-256 by the traits of `digest_core`.
+//!
+//! A key from a secret, a code of a message under it, and the message's digest:
+//!
+//!     let prk = HKDF::extract(b"salt", b"secret");
+//!     let mut key = [0; 32];
+//!     HKDF::expand(&mut key, &prk, b"key of codes");
+//!     let mut mac = HMAC::new(&key);
+//!     mac.update(b"a message ");
+//!     mac.update(b"in two pieces");
+//!     let code = mac.finalize();
+//!     HMAC::verify(b"a message in two pieces", &key, &code)     // true
+//!     let digest = Hash::hash(b"a message in two pieces");
 //!
 //! A port of the Rust crate `hmac-sha256` 1.1.15.
 #![tactic(auto)]
@@ -7,6 +23,9 @@
 mod comparison;
 mod compression;
 mod hashing;
+mod hkdf;
+#[cfg(test)]
+mod hkdf_tests;
 pub mod laws;
 mod mac;
 #[cfg(test)]
@@ -17,5 +36,6 @@ mod wrapped;
 mod wrapped_tests;
 
 pub use hashing::{BLOCK_BYTES, Hash, MAX_BYTES, MAX_TAIL};
+pub use hkdf::HKDF;
 pub use mac::HMAC;
 pub use wrapped::WrappedHash;

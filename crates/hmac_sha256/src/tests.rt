@@ -194,6 +194,7 @@ fn expected_codes(rt: HostRuntime) {
     let code = HMAC::mac(&[0x45; 250], &[0x2a; 50]);
     assert!(rt; HMAC::verify(&[0x45; 250], &[0x2a; 50], &code));
     assert!(rt; !HMAC::verify(&[0x45; 251], &[0x2a; 50], &code));
+    assert!(rt; !HMAC::verify(&[0x45; 250], &[0x2b; 50], &code));
     let mut mac = HMAC::new(&[0x2a; 50]);
     mac.update(&[0x45; 250]);
     assert!(rt; mac.copy().finalize_verify(&code));
