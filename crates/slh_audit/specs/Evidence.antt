@@ -5,7 +5,7 @@
 use Rattle.std.specs.Prelude.{◌≡◌, ℕ, zero, suc, ◌+◌, ◌-◌, ◌*◌, ◌/◌, ◌%◌, ◌^◌, ◌<◌, ◌≤◌, ◌==◌}
 use Rattle.std.specs.Prelude.{if◌then◌else◌}
 use Rattle.std.specs.Prelude.{Bool, not, ◌&&◌, nat_lt, nat_le}
-use Rattle.std.specs.Prelude.{List, ◌++◌, take, drop, slice_index, slice_range}
+use Rattle.std.specs.Prelude.{List, ◌++◌, take, drop, slice_index}
 use Rattle.std.specs.Str.{bytes_eq}
 use Rattle.slh_audit.specs.declared.evidence.Evidence.{Evidence}
 use Rattle.slh_audit.specs.declared.evidence.Evidence.TheVariants.{ForsNode, ForsRoots}
@@ -16,7 +16,7 @@ use Rattle.slh_core.specs.Digits.{digits, wots_digits}
 use Rattle.slh_core.specs.Parameters.{Scheme, chain_count}
 use Rattle.slh_core.specs.Suite.{Seeded, seeded}
 use Rattle.slh_trees.specs.Checking.{fors_pk_from_sig, checked_fors_node, checked_message}
-use Rattle.slh_trees.specs.Checking.{checked_node, forest_size}
+use Rattle.slh_trees.specs.Checking.{checked_node, forest_of, layers_of}
 use Rattle.slh_trees.specs.Fors.{fors_pk, fors_sig, fors_leaf, fors_node, fors_place}
 use Rattle.slh_trees.specs.Fors.{fors_secret, leaf_index}
 use Rattle.slh_trees.specs.Hypertree.{ht_sig, layer_message, layer_signature, layer_size}
@@ -218,15 +218,14 @@ dispute_on Z x = record {
 abbrev pub dispute : Scheme → List ℕ → List ℕ → List ℕ → List ℕ → Dispute
 dispute Z s sk digest sig =
     let parts = split_digest Z digest in
-    let upper = Z.n + forest_size Z.n Z.k Z.a in
     dispute_on Z record {
       seed = s;
       sk = sk;
       t = parts.tree;
       l = parts.leaf;
       md = parts.md;
-      forest = slice_range sig Z.n upper;
-      layers = drop upper sig;
+      forest = forest_of Z sig;
+      layers = layers_of Z sig;
     }
 
 -- a signing key against the bytes of a signature of a message

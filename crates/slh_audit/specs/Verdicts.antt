@@ -64,6 +64,22 @@ abbrev pub unless_refused : {T : Type 0} → Option AuditError → Result T Audi
 unless_refused None answer = answer
 unless_refused (Some refusal) answer = Err refusal
 
+-- the refusals where the signed message is given whole, which are those of the lengths of the key
+-- and of the signature
+abbrev pub length_refusals : Scheme → List ℕ → List ℕ → Option AuditError
+length_refusals Z key sig = first_refusal
+    (length_refusal Length (4 * Z.n) (length key)
+    ∷ length_refusal Length (signature_size Z) (length sig) ∷ [])
+
+abbrev pub framed_audit_answer : Scheme → List ℕ → List ℕ → List ℕ → Result Verdict AuditError
+framed_audit_answer Z key message sig =
+    unless_refused (length_refusals Z key sig) (message_audit Z key message sig)
+
+abbrev pub framed_check_answer : Scheme → List ℕ → List ℕ → List ℕ → Evidence
+    → Result Bool AuditError
+framed_check_answer Z key message sig e =
+    unless_refused (length_refusals Z key sig) (Ok (shows (dispute_of Z key message sig) e))
+
 abbrev pub audit_answer : Scheme → List ℕ → List ℕ → List ℕ → List ℕ → Result Verdict AuditError
 audit_answer Z key context message sig =
     unless_refused (size_refusal Z key context message sig)

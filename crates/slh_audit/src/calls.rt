@@ -1,26 +1,27 @@
 //! Audits: whether a key made the bytes that lead to its root.
-ghost use Rattle.std.specs.Prelude.{◌≡◌, ◌≤◌, ◌*◌, ◌+◌, ◌++◌, length, take, drop, slice_range};
+ghost use Rattle.std.specs.Prelude.{◌≡◌, ◌≤◌, ◌*◌, ◌+◌, ◌++◌, length, take};
 ghost use Rattle.std.specs.Prelude.{◌↔◌, IsTrue};
 ghost use Rattle.slh_audit.specs.Evidence.{dispute, dispute_of, shows};
 ghost use Rattle.slh_audit.specs.Verdicts.{audit_answer, check_answer, message_audit};
+ghost use Rattle.slh_audit.specs.Verdicts.{framed_audit_answer, framed_check_answer};
 ghost use Rattle.slh_audit.specs.Verdicts.{digest_verdict as spec_digest_verdict};
 ghost use Rattle.slh_audit.specs.Verdicts.{foreign_by as spec_foreign_by};
 ghost use Rattle.slh_core.specs.Bytes.{part};
 ghost use Rattle.slh_core.specs.Steps.{IsFresh};
-ghost use Rattle.slh_trees.specs.Checking.{forest_size, signature_size};
+ghost use Rattle.slh_trees.specs.Checking.{forest_of, layers_of, signature_size};
 ghost use Rattle.slh_trees.specs.MessageDigest.{split_digest as spec_split_digest};
 
 use crate::dispute::Dispute;
 use crate::evidence::{AuditError, Evidence, Verdict};
 use crate::layer::same;
-use crate::sizes::check_sizes;
+use crate::sizes::{check_lengths, check_sizes};
 use hybrid_array::ArraySize;
 use slh_core::nbytes::NBytes;
-use slh_core::params::{ForsParams, MAX_DIGEST_LEN, MAX_MESSAGE_LEN, forest_sizes, layer_sizes};
+use slh_core::params::{ForsParams, MAX_DIGEST_LEN, MAX_MESSAGE_LEN, forest_sizes};
 use slh_core::parts::part_of;
 use slh_core::steps::Steps;
 use slh_trees::sizes::frame_head;
-use slh_trees::{check_root, split_digest, top_root};
+use slh_trees::{SigView, check_root, split_digest, top_root};
 use std::marker::Brand;
 use std::sync::ledger::{Blank, Ledger};
 
@@ -29,26 +30,21 @@ fn set_against<'a, P: ForsParams>(
     sk_seed: &NBytes<P::N>,
     pk_seed: &NBytes<P::N>,
     digest: &'a [u8],
-    sig: &'a [u8],
+    sig: &SigView<'a, P>,
 ) -> Dispute<'a, P>
-    requires digest { length digest.now ≡ P.M.USIZE }
-    requires whole { length sig.now ≡ signature_size P.scheme }
-    ensures { let upper = P.N.USIZE + forest_size P.N.USIZE P.K.USIZE P.A.USIZE in
-        let parts = spec_split_digest P.scheme digest.now in
+    requires { length digest.now ≡ P.M.USIZE }
+    ensures whole { length sig.now ≡ signature_size P.scheme }
+    ensures value { let parts = spec_split_digest P.scheme digest.now in
         result ≡ record {
           seed = pk_seed.now;
           sk = sk_seed.now;
           t = parts.tree;
           l = parts.leaf;
           md = parts.md;
-          forest = slice_range sig.now P.N.USIZE upper;
-          layers = drop upper sig.now;
+          forest = forest_of P.scheme sig.now;
+          layers = layers_of P.scheme sig.now;
         } }
 {
-    layer_sizes::<P>();
-    forest_sizes::<P>();
-    let n = P::N::USIZE;
-    let upper = n + P::K::USIZE * ((1 + P::A::USIZE) * n);
     let (md, tree, leaf) = split_digest::<P>(digest);
     Dispute {
         sk_seed: sk_seed.copy(),
@@ -57,8 +53,8 @@ fn set_against<'a, P: ForsParams>(
         tree,
         leaf,
         md,
-        forest: &sig[n..upper],
-        layers: &sig[upper..],
+        forest: sig.fors(),
+        layers: sig.layers(),
     }
 }
 
@@ -85,11 +81,10 @@ fn digest_verdict<P: ForsParams, L: Ledger>(
     sk_seed: &NBytes<P::N>,
     pk_seed: &NBytes<P::N>,
     digest: &[u8],
-    sig: &[u8],
+    sig: &SigView<'_, P>,
     steps: &mut Steps<L>,
 ) -> Verdict
-    requires digest { length digest.now ≡ P.M.USIZE }
-    requires whole { length sig.now ≡ signature_size P.scheme }
+    requires { length digest.now ≡ P.M.USIZE }
     ensures { result ≡ spec_digest_verdict P.scheme pk_seed.now sk_seed.now digest.now sig.now }
 {
     let dispute = set_against::<P>(sk_seed, pk_seed, digest, sig);
@@ -106,12 +101,11 @@ fn digest_shows<P: ForsParams, L: Ledger>(
     sk_seed: &NBytes<P::N>,
     pk_seed: &NBytes<P::N>,
     digest: &[u8],
-    sig: &[u8],
+    sig: &SigView<'_, P>,
     evidence: Evidence,
     steps: &mut Steps<L>,
 ) -> bool
-    requires digest { length digest.now ≡ P.M.USIZE }
-    requires whole { length sig.now ≡ signature_size P.scheme }
+    requires { length digest.now ≡ P.M.USIZE }
     ensures { let D = dispute P.scheme pk_seed.now sk_seed.now digest.now sig.now in
         result ≡ shows D evidence }
 {
@@ -126,12 +120,11 @@ fn write_digest<P: ForsParams>(
     head: &[u8],
     ctx: &[u8],
     msg: &[u8],
-    sig: &[u8],
+    sig: &SigView<'_, P>,
     out: &mut [u8],
 )
     requires key { length key.now ≡ 4 * P.N.USIZE }
     requires message { length head.now + length ctx.now + length msg.now ≤ MAX_MESSAGE_LEN }
-    requires whole { length sig.now ≡ signature_size P.scheme }
     requires room { length out.old ≡ P.M.USIZE }
     ensures { let Z = P.scheme in
         let message = head.now ++ ctx.now ++ msg.now in
@@ -139,7 +132,7 @@ fn write_digest<P: ForsParams>(
         out.new ≡ Z.suite.h_msg rand (part Z.n key.now 2) (part Z.n key.now 3) message }
 {
     forest_sizes::<P>();
-    let rand = NBytes::<P::N>::exact(&sig[..P::N::USIZE]);
+    let rand = NBytes::<P::N>::from_view(sig.randomizer());
     let pk_seed = part_of::<P::N>(key, 2);
     let pk_root = part_of::<P::N>(key, 3);
     P::h_msg(&rand, &pk_seed, &pk_root, head, ctx, msg, out);
@@ -152,13 +145,12 @@ fn audit_message<P: ForsParams, L: Ledger>(
     head: &[u8],
     ctx: &[u8],
     msg: &[u8],
-    sig: &[u8],
+    sig: &SigView<'_, P>,
     blank: Blank,
 ) -> Result<Verdict, AuditError>
     requires fresh { IsFresh blank L.name L.parts }
     requires key { length key.now ≡ 4 * P.N.USIZE }
     requires message { length head.now + length ctx.now + length msg.now ≤ MAX_MESSAGE_LEN }
-    requires whole { length sig.now ≡ signature_size P.scheme }
     ensures { let message = head.now ++ ctx.now ++ msg.now in
         result ≡ message_audit P.scheme key.now message sig.now }
 {
@@ -188,14 +180,13 @@ fn check_message<P: ForsParams, L: Ledger>(
     head: &[u8],
     ctx: &[u8],
     msg: &[u8],
-    sig: &[u8],
+    sig: &SigView<'_, P>,
     evidence: Evidence,
     blank: Blank,
 ) -> bool
     requires fresh { IsFresh blank L.name L.parts }
     requires key { length key.now ≡ 4 * P.N.USIZE }
     requires message { length head.now + length ctx.now + length msg.now ≤ MAX_MESSAGE_LEN }
-    requires whole { length sig.now ≡ signature_size P.scheme }
     ensures { let message = head.now ++ ctx.now ++ msg.now in
         result ≡ shows (dispute_of P.scheme key.now message sig.now) evidence }
 {
@@ -223,9 +214,9 @@ pub fn audit<P: ForsParams>(
     ensures { result ≡ audit_answer P.scheme key.now ctx.now msg.now sig.now }
 {
     match check_sizes::<P>(key, ctx, msg, sig) {
-        Ok(()) => {
+        Ok(sig) => {
             let head = frame_head(ctx);
-            audit_message::<P, Brand>(key, &head, ctx, msg, sig, Blank::new(1))
+            audit_message::<P, Brand>(key, &head, ctx, msg, &sig, Blank::new(1))
         }
         Err(refusal) => Err(refusal),
     }
@@ -244,10 +235,52 @@ pub fn check_evidence<P: ForsParams>(
     ensures { result ≡ check_answer P.scheme key.now ctx.now msg.now sig.now evidence.now }
 {
     match check_sizes::<P>(key, ctx, msg, sig) {
-        Ok(()) => {
+        Ok(sig) => {
             let head = frame_head(ctx);
             let place = *evidence;
-            Ok(check_message::<P, Brand>(key, &head, ctx, msg, sig, place, Blank::new(1)))
+            Ok(check_message::<P, Brand>(key, &head, ctx, msg, &sig, place, Blank::new(1)))
+        }
+        Err(refusal) => Err(refusal),
+    }
+}
+
+/// As `audit`, of a signature of the message that `head`, `ctx` and `msg` joined are, as
+/// `slh_dsa`'s frames have them. `Length`, `KeyMismatch`, `Invalid`.
+pub fn audit_framed<P: ForsParams>(
+    key: &[u8],
+    head: &[u8],
+    ctx: &[u8],
+    msg: &[u8],
+    sig: &[u8],
+) -> Result<Verdict, AuditError>
+    requires { length head.now + length ctx.now + length msg.now ≤ MAX_MESSAGE_LEN }
+    ensures { let message = head.now ++ ctx.now ++ msg.now in
+        result ≡ framed_audit_answer P.scheme key.now message sig.now }
+{
+    match check_lengths::<P>(key, sig) {
+        Ok(sig) => audit_message::<P, Brand>(key, head, ctx, msg, &sig, Blank::new(1)),
+        Err(refusal) => Err(refusal),
+    }
+}
+
+/// As `check_evidence`, of a signature of the message that `head`, `ctx` and `msg` joined are, as
+/// `slh_dsa`'s frames have them. `Length`.
+pub fn check_evidence_framed<P: ForsParams>(
+    key: &[u8],
+    head: &[u8],
+    ctx: &[u8],
+    msg: &[u8],
+    sig: &[u8],
+    evidence: &Evidence,
+) -> Result<bool, AuditError>
+    requires { length head.now + length ctx.now + length msg.now ≤ MAX_MESSAGE_LEN }
+    ensures { let message = head.now ++ ctx.now ++ msg.now in
+        result ≡ framed_check_answer P.scheme key.now message sig.now evidence.now }
+{
+    match check_lengths::<P>(key, sig) {
+        Ok(sig) => {
+            let place = *evidence;
+            Ok(check_message::<P, Brand>(key, head, ctx, msg, &sig, place, Blank::new(1)))
         }
         Err(refusal) => Err(refusal),
     }

@@ -15,10 +15,12 @@ pub mod laws;
 mod layer;
 mod made;
 mod places;
+#[cfg(test)]
+mod places_tests;
 mod search;
 mod sizes;
 #[cfg(test)]
 mod tests;
 
-pub use calls::{audit, check_evidence};
+pub use calls::{audit, audit_framed, check_evidence, check_evidence_framed};
 pub use evidence::{AuditError, Evidence, Verdict};

@@ -7,17 +7,17 @@ use crate::{AuditError, Evidence, Verdict, audit, check_evidence};
 use hybrid_array::sizes::U1;
 use slh_core::nbytes::NBytes;
 use slh_core::steps::Steps;
-use slh_trees::check_root;
 use slh_trees::toy::Toy;
+use slh_trees::{SigView, check_root};
 use std::marker::Brand;
 use std::sync::ledger::{Blank, Ledger};
 use std::test::Fail;
 
-const MESSAGE: [u8; 1] = [0x48];
+pub(crate) const MESSAGE: [u8; 1] = [0x48];
 
-const KEY: [u8; 4] = [5, 7, 3, 225];
+pub(crate) const KEY: [u8; 4] = [5, 7, 3, 225];
 
-const SIGNATURE: [u8; 21] = [
+pub(crate) const SIGNATURE: [u8; 21] = [
     0x52, 0x52, 0x34, 0x89, 0x73, 0x3b, 0x15, 0x14, 0x1a, 0x49, 0x2b, 0x57, 0xa3, 0x3e, 0x1e, 0x17,
     0x2f, 0x36, 0x20, 0xa3, 0x3e,
 ];
@@ -28,7 +28,8 @@ fn root_of<L: Ledger>(sig: &[u8; 21], blank: Blank) -> u8
 {
     let mut steps = Steps::<L>::new(blank);
     let (seed, root) = (NBytes::<U1>::exact(&[3]), NBytes::<U1>::exact(&[225]));
-    check_root::<Toy, L>(&seed, &root, &[0, 0], &[], &MESSAGE, sig, &mut steps).as_slice()[0]
+    let sig = SigView::<Toy>::new(sig).unwrap();
+    check_root::<Toy, L>(&seed, &root, &[0, 0], &[], &MESSAGE, &sig, &mut steps).as_slice()[0]
 }
 
 fn root(sig: &[u8; 21]) -> u8 {
@@ -54,23 +55,23 @@ fn shown(sig: &[u8], evidence: Evidence) -> bool {
     check_evidence::<Toy>(&KEY, &[], &MESSAGE, sig, &evidence) == Ok(true)
 }
 
-fn fors_node(tree: u32, height: u32) -> Evidence {
+pub(crate) fn fors_node(tree: u32, height: u32) -> Evidence {
     Evidence::ForsNode { tree, height }
 }
 
-fn tree_node(layer: u32, height: u32) -> Evidence {
+pub(crate) fn tree_node(layer: u32, height: u32) -> Evidence {
     Evidence::TreeNode { layer, height }
 }
 
-fn chain_step(layer: u32, chain: u32, step: u32) -> Evidence {
+pub(crate) fn chain_step(layer: u32, chain: u32, step: u32) -> Evidence {
     Evidence::ChainStep { layer, chain, step }
 }
 
-fn early(layer: u32, chain: u32) -> Evidence {
+pub(crate) fn early(layer: u32, chain: u32) -> Evidence {
     Evidence::Early { layer, chain }
 }
 
-fn leaf(layer: u32) -> Evidence {
+pub(crate) fn leaf(layer: u32) -> Evidence {
     Evidence::Leaf { layer }
 }
 

@@ -2,6 +2,8 @@
 #![tactic(auto)]
 
 mod standard;
+#[cfg(test)]
+mod standard_tests;
 
 use slh_run::{Words, serve};
 use standard::{StdSink, StdSource};

@@ -1,7 +1,7 @@
 //! Byte strings whose length a type gives.
 ghost use Rattle.std.specs.Prelude.{◌≡◌, ◌↔◌, ℕ, ◌≤◌, length, take, IsOk, IfOk};
 
-use hybrid_array::{ArraySize, TryFromSliceError};
+use hybrid_array::{ArrayRef, ArraySize, TryFromSliceError};
 use std::alloc::AllocError;
 use std::marker::{Model, PhantomData};
 
@@ -33,6 +33,15 @@ impl<N: ArraySize> NBytes<N> {
             return Err(TryFromSliceError);
         }
         Ok(Self::exact(slice))
+    }
+
+    /// The bytes of a view, which has the length by its type.
+    #[inline]
+    pub fn from_view(view: ArrayRef<'_, u8, N>) -> Self
+        requires { N.USIZE ≤ 32 }
+        ensures { result ≡ view.entry }
+    {
+        Self::exact(view.as_slice())
     }
 
     /// The bytes of a slice that is known to have the length.

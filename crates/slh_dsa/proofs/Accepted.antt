@@ -9,10 +9,11 @@ use Rattle.slh_core.specs.Bytes.{part}
 use Rattle.slh_core.specs.Parameters.{Scheme}
 use Rattle.slh_core.specs.Suite.{HasLength}
 use Rattle.slh_dsa.proofs.KeyParts.{part_first, part_later, part_only, key_parts}
-use Rattle.slh_dsa.specs.Calls.{verify_error}
+use Rattle.slh_dsa.specs.Calls.{hash_verify_error}
+use Rattle.slh_dsa.specs.Frames.{mode_frame}
+use Rattle.slh_dsa.specs.declared.frame.Mode.{Mode}
 use Rattle.slh_trees.proofs.Signatures.{checked_root-signature, length-digest_signature}
 use Rattle.slh_trees.specs.Checking.{checked_root, signature_size}
-use Rattle.slh_trees.specs.Frame.{frame}
 use Rattle.slh_trees.specs.Keys.{IsTrueKey, top_root}
 use Rattle.slh_trees.specs.Signing.{signature_of}
 
@@ -38,11 +39,11 @@ halves n key a b c d is_key la lb lc ld =
       last = (key_parts n key a b c d (sym is_key) la lb lc ld).p3;
     }
 
-pub accepted_message : (Z : Scheme) (key context message : List ℕ) (opt_rand : Option (List ℕ))
+pub accepted_message : (Z : Scheme) (mode : Mode) (key context message : List ℕ) (opt_rand : Option (List ℕ))
     → HasLength Z.suite Z.n → 1 ≤ Z.d → IsTrueKey Z key → length key ≡ 4 * Z.n → length context ≤ 255 → length message ≤ 2 ^ 60
-    → verify_error Z (drop (2 * Z.n) key) context message (signature_of Z key opt_rand (frame context message)) ≡ None
-accepted_message Z key context message opt_rand law layers true_key size few short =
-    let framed = frame context message in
+    → hash_verify_error Z mode (drop (2 * Z.n) key) context message (signature_of Z key opt_rand (mode_frame mode context message)) ≡ None
+accepted_message Z mode key context message opt_rand law layers true_key size few short =
+    let framed = mode_frame mode context message in
     let sk = part Z.n key 0 in
     let prf = part Z.n key 1 in
     let s = part Z.n key 2 in

@@ -3,7 +3,6 @@ use Rattle.std.proofs.Common.{◌≡◌, ℕ, suc, ◌+◌, ◌-◌, ◌*◌, Li
 use Rattle.std.proofs.Math.Seq.{take-append_seam, drop-append-add}
 use Rattle.slh_core.specs.Bytes.{part}
 use Rattle.slh_core.specs.Parameters.{Scheme}
-use Rattle.slh_trees.specs.Frame.{frame, frame_head}
 use Rattle.slh_trees.specs.Signing.{digest_signature, signature_of}
 
 -- the first part
@@ -44,12 +43,12 @@ key_parts n key a b c d is_key la lb lc ld =
 -- What is signed by the parts of a key is signed by the key.
 pub signature_by_parts : (Z : Scheme) (n : ℕ) (key a b c d : List ℕ) (given : Option (List ℕ)) (opt_rand head ctx msg out : List ℕ)
     → Z.n ≡ n → a ++ b ++ c ++ d ≡ key → length a ≡ n → length b ≡ n → length c ≡ n → length d ≡ n
-    → opt_rand ≡ unwrap_or given (part n key 2) → head ≡ frame_head ctx
+    → opt_rand ≡ unwrap_or given (part n key 2)
     → (let message = head ++ ctx ++ msg in
     let rand = Z.suite.prf_msg b opt_rand message in
     out ≡ digest_signature Z c a rand (Z.suite.h_msg rand c d message))
-    → out ≡ signature_of Z key given (frame ctx msg)
-signature_by_parts Z n key a b c d given opt_rand head ctx msg out size is_key la lb lc ld is_opt_rand is_head is_out =
+    → out ≡ signature_of Z key given (head ++ ctx ++ msg)
+signature_by_parts Z n key a b c d given opt_rand head ctx msg out size is_key la lb lc ld is_opt_rand is_out =
     let near = key_parts n key a b c d is_key la lb lc ld in
     let parts = key_parts Z.n key a b c d is_key (la ∙ sym size) (lb ∙ sym size) (lc ∙ sym size) (ld ∙ sym size) in
-    rw (parts.p0, parts.p1, parts.p2, parts.p3) (rw (is_head, is_opt_rand, near.p2) at is_out)
+    rw (parts.p0, parts.p1, parts.p2, parts.p3) (rw (is_opt_rand, near.p2) at is_out)

@@ -1,2 +1,3 @@
 mod KeyParts
 mod Accepted
+mod FrameParts

@@ -1,19 +1,22 @@
 -- What the calls on keys answer (FIPS 205, sections 9 and 10). Z is the scheme, of values of n
 -- bytes.
 use Rattle.std.specs.Prelude.{◌≡◌, ◌==◌, ℕ, ◌*◌, ◌^◌, ◌≤◌, List, [], ◌∷◌, length, Bool}
-use Rattle.std.specs.Prelude.{Option, None, Some, Result, IfOk, if◌then◌else◌}
+use Rattle.std.specs.Prelude.{Option, None, Some, Result, IfOk, MatchResult, if◌then◌else◌}
+use Rattle.std.specs.Prelude.{unwrap_or}
 use Rattle.std.specs.Option.{ForSome}
 use Rattle.std.specs.Str.{bytes_eq}
 use Rattle.slh_core.specs.Bytes.{part}
 use Rattle.slh_core.specs.Parameters.{Scheme}
 use Rattle.slh_trees.specs.Checking.{checked_root, signature_size}
-use Rattle.slh_trees.specs.Frame.{frame}
 use Rattle.slh_trees.specs.Keys.{IsTrueKey, signing_key_bytes}
 use Rattle.slh_trees.specs.Sizes.{RefusedExactly, context_refusal, first_refusal, length_refusal}
 use Rattle.slh_trees.specs.Sizes.{message_refusal}
+use Rattle.slh_dsa.specs.Frames.{mode_frame}
 use Rattle.slh_dsa.specs.declared.error.Error.{Error}
 use Rattle.slh_dsa.specs.declared.error.Error.TheVariants.{Length, ContextTooLong, RandomizerLength}
-use Rattle.slh_dsa.specs.declared.error.Error.TheVariants.{MessageTooLong, Invalid}
+use Rattle.slh_dsa.specs.declared.error.Error.TheVariants.{MessageTooLong, Invalid, Memory}
+use Rattle.slh_dsa.specs.declared.frame.Mode.{Mode}
+use Rattle.slh_dsa.specs.declared.frame.Mode.TheVariants.{Pure}
 
 -- opt_rand has n bytes where it is given
 abbrev pub opt_rand_refusal : Scheme → Option (List ℕ) → Option Error
@@ -54,17 +57,45 @@ verify_refusal Z context message sig = first_refusal
     (signature_refusal Z (length sig) ∷ context_refusal ContextTooLong context
     ∷ message_refusal MessageTooLong message ∷ [])
 
--- whether a signature leads to the root of a verifying key
-abbrev pub is_valid : Scheme → List ℕ → List ℕ → List ℕ → List ℕ → Bool
-is_valid Z key context message sig =
+-- whether a signature of a message leads to the root of a verifying key
+abbrev pub leads_to_root : Scheme → List ℕ → List ℕ → List ℕ → Bool
+leads_to_root Z key message sig =
     let root = part Z.n key 1 in
-    bytes_eq (checked_root Z (part Z.n key 0) root (frame context message) sig) root
+    bytes_eq (checked_root Z (part Z.n key 0) root message sig) root
+
+-- why a signature is refused that has been looked at
+abbrev pub root_refusal : Scheme → List ℕ → List ℕ → List ℕ → Option Error
+root_refusal Z key message sig = if leads_to_root Z key message sig then None else Some Invalid
+
+-- whether a signature of a message with a context, signed in a mode, leads there
+abbrev pub is_valid : Scheme → Mode → List ℕ → List ℕ → List ℕ → List ℕ → Bool
+is_valid Z mode key context message sig =
+    leads_to_root Z key (mode_frame mode context message) sig
 
 -- what verifying answers: the first refusal, or `Invalid`, or none
-abbrev pub verify_error : Scheme → List ℕ → List ℕ → List ℕ → List ℕ → Option Error
-verify_error Z key context message sig = first_refusal
+abbrev pub hash_verify_error : Scheme → Mode → List ℕ → List ℕ → List ℕ → List ℕ → Option Error
+hash_verify_error Z mode key context message sig = first_refusal
     (verify_refusal Z context message sig
-    ∷ (if is_valid Z key context message sig then None else Some Invalid) ∷ [])
+    ∷ root_refusal Z key (mode_frame mode context message) sig ∷ [])
+
+-- the same where the message is signed as it is
+abbrev pub verify_error : Scheme → List ℕ → List ℕ → List ℕ → List ℕ → Option Error
+verify_error Z = hash_verify_error Z Pure
+
+-- why signing a message as it stands, without a context, is refused
+abbrev pub sign_internal_refusal : Scheme → Option (List ℕ) → List ℕ → Option Error
+sign_internal_refusal Z opt_rand message = first_refusal
+    (opt_rand_refusal Z opt_rand ∷ message_refusal MessageTooLong message ∷ [])
+
+-- what verifying a signature of a message as it stands answers
+abbrev pub verify_internal_error : Scheme → List ℕ → List ℕ → List ℕ → Option Error
+verify_internal_error Z key message sig = first_refusal
+    (message_refusal MessageTooLong message ∷ root_refusal Z key message sig ∷ [])
+
+-- the call is refused for exactly this cause. Where there is none it may still find no memory.
+abbrev pub RefusedOrNoMemory : {T : Type 0} → Result T Error → Option Error → Type 0
+RefusedOrNoMemory result refusal =
+    MatchResult result (λ _. refusal ≡ None) (λ e. e ≡ unwrap_or refusal Memory)
 
 -- what is to be signed has sizes that signing takes, for values of n bytes
 pub record IsSignable (n : ℕ) (context : List ℕ) (opt_rand : Option (List ℕ)) (message : List ℕ)

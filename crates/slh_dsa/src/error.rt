@@ -1,5 +1,7 @@
 //! Why a call was refused.
 
+use std::alloc::AllocError;
+
 /// Why a call was refused. Each call names those that it may answer; where several causes stand
 /// together, it answers the first in this order.
 #[derive(Clone, Copy, Debug, PartialEq, Eq)]
@@ -17,4 +19,15 @@ pub enum Error {
     Invalid,
     /// There was no memory.
     Memory,
+}
+
+impl From<AllocError> for Error {
+    ghost use Rattle.std.specs.Prelude.{◌≡◌};
+    ghost use Rattle.slh_dsa.specs.declared.error.Error.TheVariants.{Memory};
+
+    ghost from_gives = { λ _ e. e ≡ Memory };
+
+    fn from(_error: AllocError) -> Self {
+        Error::Memory
+    }
 }

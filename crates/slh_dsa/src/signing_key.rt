@@ -1,5 +1,6 @@
 //! Signing keys (FIPS 205, section 9.1).
-ghost use Rattle.std.specs.Prelude.{◌≡◌, ◌+◌, ◌*◌, length, drop, unwrap_or, IfOk, OnOk, OnErr};
+ghost use Rattle.std.specs.Prelude.{◌≡◌, ◌+◌, ◌*◌, ◌≤◌, ◌++◌, length, drop, unwrap_or};
+ghost use Rattle.std.specs.Prelude.{IfOk, IfErr, OnOk, OnErr};
 ghost use Rattle.std.specs.Option.{option_copied, ForSome};
 ghost use Rattle.slh_core.specs.Bytes.{part};
 ghost use Rattle.slh_core.specs.Costs.{slh_keygen_cost, slh_sign_cost};
@@ -8,21 +9,25 @@ ghost use Rattle.slh_trees.specs.Checking.{signature_size};
 ghost use Rattle.slh_trees.specs.Frame.{frame};
 ghost use Rattle.slh_trees.specs.Signing.{signature_of};
 ghost use Rattle.slh_trees.specs.Sizes.{RefusedExactly};
-ghost use Rattle.slh_dsa.specs.Calls.{IsKeygenAnswer, IsSignable};
-ghost use Rattle.slh_dsa.specs.Calls.{sign_input_refusal, sign_refusal, signing_key_refusal};
+ghost use Rattle.slh_dsa.specs.Calls.{IsKeygenAnswer, IsSignable, RefusedOrNoMemory};
+ghost use Rattle.slh_dsa.specs.Calls.{sign_input_refusal, sign_internal_refusal, sign_refusal};
+ghost use Rattle.slh_dsa.specs.Calls.{signing_key_refusal};
+ghost use Rattle.slh_dsa.specs.Frames.{mode_frame};
+ghost use Rattle.slh_dsa.specs.declared.error.Error.TheVariants.{Memory};
 
 use crate::error::Error;
+use crate::frame::{Frame, Mode};
 use crate::parameter_set::ParameterSet;
+use crate::signature::Signature;
 use crate::signing::sign_message;
-use crate::sizes::{check_context, check_message, check_opt_rand, check_signature};
+use crate::sizes::{check_context, check_message, check_opt_rand, check_signature, zeros};
 use crate::verifying_key::VerifyingKey;
-use hybrid_array::ArraySize;
+use hybrid_array::{Array, ArraySize};
 use slh_core::nbytes::NBytes;
-use slh_core::params::chain_sizes;
+use slh_core::params::{MAX_MESSAGE_LEN, chain_sizes};
 use slh_core::steps::Steps;
-use slh_trees::sizes::frame_head;
 use slh_trees::top_root;
-use std::alloc::AllocError;
+use std::alloc::{AllocError, Global};
 use std::marker::{Brand, Model};
 use std::sync::ledger::{Blank, Ledger};
 
@@ -119,15 +124,39 @@ impl<P: ParameterSet> SigningKey<P> {
         ensures cost { OnOk result (steps.new ≡ steps.old + slh_sign_cost P.scheme) }
         ensures free { OnErr result (steps.new ≡ steps.old) }
     {
+        self.hash_sign_counted(Mode::Pure, msg, ctx, opt_rand, out, steps)
+    }
+
+    /// As `slh_sign_counted`, of the message or of its digest, as the mode says (FIPS 205,
+    /// algorithms 22 and 23).
+    pub fn hash_sign_counted<L: Ledger>(
+        &self,
+        mode: Mode,
+        msg: &[u8],
+        ctx: &[u8],
+        opt_rand: Option<&[u8]>,
+        out: &mut [u8],
+        steps: &mut Steps<L>,
+    ) -> Result<(), Error>
+        ensures refusal { let opt_rand = option_copied opt_rand.entry in
+            RefusedExactly result
+            (sign_refusal P.scheme ctx.now opt_rand msg.now (length out.old)) }
+        ensures value { let opt_rand = option_copied opt_rand.entry in
+            let message = mode_frame mode ctx.now msg.now in
+            OnOk result (out.new ≡ signature_of P.scheme self.now opt_rand message) }
+        ensures same { OnErr result (out.new ≡ out.old) }
+        ensures cost { OnOk result (steps.new ≡ steps.old + slh_sign_cost P.scheme) }
+        ensures free { OnErr result (steps.new ≡ steps.old) }
+    {
         check_signature::<P>(out.len())?;
         Self::check_sign(msg, ctx, opt_rand)?;
-        self.slh_sign_checked(msg, ctx, opt_rand, out, steps);
+        self.hash_sign_checked(mode, msg, ctx, opt_rand, out, steps);
         Ok(())
     }
 
-    /// The refusals of signing but those of its output: `ContextTooLong`, `RandomizerLength`,
-    /// `MessageTooLong`. A caller that takes memory for a signature asks this first, and then calls
-    /// [`SigningKey::slh_sign_checked`].
+    /// The refusals of signing, in every mode, but those of its output: `ContextTooLong`,
+    /// `RandomizerLength`, `MessageTooLong`. A caller that takes memory for a signature asks this
+    /// first, and then calls [`SigningKey::hash_sign_checked`].
     pub fn check_sign(msg: &[u8], ctx: &[u8], opt_rand: Option<&[u8]>) -> Result<(), Error>
         ensures refusal { let opt_rand = option_copied opt_rand.entry in
             RefusedExactly result (sign_input_refusal P.scheme ctx.now opt_rand msg.now) }
@@ -139,10 +168,11 @@ impl<P: ParameterSet> SigningKey<P> {
         check_message(msg)
     }
 
-    /// As `slh_sign_counted`, of what [`SigningKey::check_sign`] doesn't refuse, into the bytes of
+    /// As `hash_sign_counted`, of what [`SigningKey::check_sign`] doesn't refuse, into the bytes of
     /// a signature.
-    pub fn slh_sign_checked<L: Ledger>(
+    pub fn hash_sign_checked<L: Ledger>(
         &self,
+        mode: Mode,
         msg: &[u8],
         ctx: &[u8],
         opt_rand: Option<&[u8]>,
@@ -152,7 +182,36 @@ impl<P: ParameterSet> SigningKey<P> {
         requires fits { IsSignable P.N.USIZE ctx.now (option_copied opt_rand) msg.now }
         requires room { length out.old ≡ signature_size P.scheme }
         ensures value { let opt_rand = option_copied opt_rand.entry in
-            let message = frame ctx.now msg.now in
+            let message = mode_frame mode ctx.now msg.now in
+            out.new ≡ signature_of P.scheme self.now opt_rand message }
+        ensures cost { steps.new ≡ steps.old + slh_sign_cost P.scheme }
+    {
+        let frame = Frame::new(mode, ctx, msg);
+        self.sign_slices(
+            frame.head(),
+            frame.ctx(),
+            frame.tail(),
+            opt_rand,
+            out,
+            steps,
+        );
+    }
+
+    // Writes the signature of the message that the three slices joined are.
+    fn sign_slices<L: Ledger>(
+        &self,
+        head: &[u8],
+        ctx: &[u8],
+        msg: &[u8],
+        opt_rand: Option<&[u8]>,
+        out: &mut [u8],
+        steps: &mut Steps<L>,
+    )
+        requires message { length head.now + length ctx.now + length msg.now ≤ MAX_MESSAGE_LEN }
+        requires opt_rand { ForSome (option_copied opt_rand) (λ bytes. length bytes ≡ P.N.USIZE) }
+        requires room { length out.old ≡ signature_size P.scheme }
+        ensures value { let opt_rand = option_copied opt_rand.entry in
+            let message = head.now ++ ctx.now ++ msg.now in
             out.new ≡ signature_of P.scheme self.now opt_rand message }
         ensures cost { steps.new ≡ steps.old + slh_sign_cost P.scheme }
     {
@@ -163,12 +222,96 @@ impl<P: ParameterSet> SigningKey<P> {
             &self.pk_seed,
             &self.pk_root,
             &opt_rand,
-            &frame_head(ctx),
+            head,
             ctx,
             msg,
             out,
             steps,
         );
+    }
+
+    // The same in new memory, on a counter that is made here. `Memory`.
+    fn sign_new<L: Ledger>(
+        &self,
+        alloc: Global,
+        head: &[u8],
+        ctx: &[u8],
+        msg: &[u8],
+        opt_rand: Option<&[u8]>,
+        blank: Blank,
+    ) -> Result<Signature<P>, Error>
+        requires message { length head.now + length ctx.now + length msg.now ≤ MAX_MESSAGE_LEN }
+        requires opt_rand { ForSome (option_copied opt_rand) (λ bytes. length bytes ≡ P.N.USIZE) }
+        requires fresh { IsFresh blank L.name L.parts }
+        ensures memory { IfErr result (λ e. e ≡ Memory) }
+        ensures value { let opt_rand = option_copied opt_rand.entry in
+            let message = head.now ++ ctx.now ++ msg.now in
+            IfOk result (λ sig. sig ≡ signature_of P.scheme self.now opt_rand message) }
+    {
+        let mut bytes = zeros::<P::SigLen>(alloc)?;
+        let mut steps = Steps::<L>::new(blank);
+        self.sign_slices(head, ctx, msg, opt_rand, bytes.as_mut_slice(), &mut steps);
+        Ok(Signature::from_array(bytes))
+    }
+
+    /// The signature of a message as it stands, without a context (FIPS 205, algorithm 19). Where
+    /// no `opt_rand` is given the public seed stands for it. `RandomizerLength`, `MessageTooLong`,
+    /// `Memory`.
+    pub fn slh_sign_internal(
+        &self,
+        alloc: Global,
+        msg: &[u8],
+        opt_rand: Option<&[u8]>,
+    ) -> Result<Signature<P>, Error>
+        ensures refusal { let opt_rand = option_copied opt_rand.entry in
+            RefusedOrNoMemory result (sign_internal_refusal P.scheme opt_rand msg.now) }
+        ensures value { let opt_rand = option_copied opt_rand.entry in
+            IfOk result (λ sig. sig ≡ signature_of P.scheme self.now opt_rand msg.now) }
+    {
+        check_opt_rand::<P>(opt_rand)?;
+        check_message(msg)?;
+        self.sign_new::<Brand>(alloc, &[], &[], msg, opt_rand, Blank::new(1))
+    }
+
+    /// The signature of a message with a context (FIPS 205, algorithm 22). Where no `opt_rand` is
+    /// given the public seed stands for it. `ContextTooLong`, `RandomizerLength`, `MessageTooLong`,
+    /// `Memory`.
+    pub fn try_sign_with_context(
+        &self,
+        alloc: Global,
+        msg: &[u8],
+        ctx: &[u8],
+        opt_rand: Option<&[u8]>,
+    ) -> Result<Signature<P>, Error>
+        ensures refusal { let opt_rand = option_copied opt_rand.entry in
+            RefusedOrNoMemory result (sign_input_refusal P.scheme ctx.now opt_rand msg.now) }
+        ensures value { let opt_rand = option_copied opt_rand.entry in
+            let message = frame ctx.now msg.now in
+            IfOk result (λ sig. sig ≡ signature_of P.scheme self.now opt_rand message) }
+    {
+        self.hash_sign_with_context(alloc, Mode::Pure, msg, ctx, opt_rand)
+    }
+
+    /// As `try_sign_with_context`, of the message or of its digest, as the mode says (FIPS 205,
+    /// algorithms 22 and 23). The message is the message itself in every mode.
+    pub fn hash_sign_with_context(
+        &self,
+        alloc: Global,
+        mode: Mode,
+        msg: &[u8],
+        ctx: &[u8],
+        opt_rand: Option<&[u8]>,
+    ) -> Result<Signature<P>, Error>
+        ensures refusal { let opt_rand = option_copied opt_rand.entry in
+            RefusedOrNoMemory result (sign_input_refusal P.scheme ctx.now opt_rand msg.now) }
+        ensures value { let opt_rand = option_copied opt_rand.entry in
+            let message = mode_frame mode ctx.now msg.now in
+            IfOk result (λ sig. sig ≡ signature_of P.scheme self.now opt_rand message) }
+    {
+        Self::check_sign(msg, ctx, opt_rand)?;
+        let frame = Frame::new(mode, ctx, msg);
+        let (head, ctx, tail) = (frame.head(), frame.ctx(), frame.tail());
+        self.sign_new::<Brand>(alloc, head, ctx, tail, opt_rand, Blank::new(1))
     }
 
     // The bytes of `opt_rand`, or the public seed where none are given (FIPS 205, algorithm 19).
@@ -218,6 +361,22 @@ impl<P: ParameterSet> SigningKey<P> {
         sk_prf.copy_from_slice(self.sk_prf.as_slice());
         pk_seed.copy_from_slice(self.pk_seed.as_slice());
         pk_root.copy_from_slice(self.pk_root.as_slice());
+    }
+
+    /// The key's 4n bytes, as an array.
+    pub fn to_bytes(&self, alloc: Global) -> Result<Array<u8, P::SkLen>, AllocError>
+        ensures { IfOk result (λ bytes. bytes ≡ self.now) }
+    {
+        let mut bytes = zeros::<P::SkLen>(alloc)?;
+        self.write_to(bytes.as_mut_slice());
+        Ok(bytes)
+    }
+
+    /// The key's 4n bytes, as a vector.
+    pub fn to_vec(&self, alloc: Global) -> Result<Vec<u8>, AllocError>
+        ensures { IfOk result (λ bytes. bytes.items ≡ self.now) }
+    {
+        Ok(self.to_bytes(alloc)?.into_vec())
     }
 
     /// The verifying key: the key's last 2n bytes.

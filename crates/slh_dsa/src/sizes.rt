@@ -8,9 +8,10 @@ ghost use Rattle.slh_dsa.specs.declared.error.Error.TheVariants.{ContextTooLong,
 
 use crate::error::Error;
 use crate::parameter_set::ParameterSet;
-use hybrid_array::ArraySize;
+use hybrid_array::{Array, ArraySize};
 use slh_core::params::chain_sizes;
 use slh_trees::sizes::{MAX_CONTEXT, MAX_MESSAGE};
+use std::alloc::{AllocError, Global};
 
 /// `ContextTooLong` for a context of more than 255 bytes.
 pub(crate) fn check_context(ctx: &[u8]) -> Result<(), Error>
@@ -58,4 +59,9 @@ pub(crate) fn check_opt_rand<P: ParameterSet>(opt_rand: Option<&[u8]>) -> Result
         return Err(Error::RandomizerLength);
     }
     Ok(())
+}
+
+/// So many zeros in new memory, to be written over.
+pub(crate) fn zeros<U: ArraySize>(alloc: Global) -> Result<Array<u8, U>, AllocError> {
+    Array::from_fn(alloc, |_| 0)
 }

@@ -1,22 +1,27 @@
 //! Verifying keys (FIPS 205, section 9.1).
-ghost use Rattle.std.specs.Prelude.{◌≡◌, ◌≢◌, ◌≤◌, ◌+◌, ◌*◌, length, IfOk, IfErr};
+ghost use Rattle.std.specs.Prelude.{◌≡◌, ◌≢◌, ◌≤◌, ◌+◌, ◌*◌, ◌^◌, ◌++◌, length, IfOk, IfErr, OnOk};
 ghost use Rattle.slh_core.specs.Costs.{slh_verify_bound};
-ghost use Rattle.slh_dsa.specs.Calls.{verify_error, verifying_key_refusal};
+ghost use Rattle.slh_core.specs.Steps.{IsFresh};
+ghost use Rattle.slh_dsa.specs.Calls.{hash_verify_error, root_refusal, verify_error};
+ghost use Rattle.slh_dsa.specs.Calls.{verify_internal_error, verify_refusal};
+ghost use Rattle.slh_dsa.specs.Calls.{verifying_key_refusal};
+ghost use Rattle.slh_trees.specs.Checking.{signature_size};
 ghost use Rattle.slh_trees.specs.Sizes.{RefusedExactly};
 ghost use Rattle.slh_dsa.specs.declared.error.Error.TheVariants.{Invalid};
 
 use crate::error::Error;
+use crate::frame::{Frame, Mode};
 use crate::parameter_set::ParameterSet;
-use crate::sizes::{check_context, check_message, check_signature};
-use hybrid_array::ArraySize;
+use crate::signature::Signature;
+use crate::sizes::{check_context, check_message, check_signature, zeros};
+use hybrid_array::{Array, ArraySize};
 use slh_core::nbytes::NBytes;
-use slh_core::params::chain_sizes;
+use slh_core::params::{MAX_MESSAGE_LEN, chain_sizes};
 use slh_core::steps::Steps;
-use slh_trees::check::check_root;
-use slh_trees::sizes::frame_head;
-use std::alloc::AllocError;
-use std::marker::Model;
-use std::sync::ledger::Ledger;
+use slh_trees::{SigView, check_root};
+use std::alloc::{AllocError, Global};
+use std::marker::{Brand, Model};
+use std::sync::ledger::{Blank, Ledger};
 
 /// A verifying key: the public seed and the root of the top tree, of n bytes each. Clauses see it
 /// as these 2n bytes.
@@ -69,15 +74,150 @@ impl<P: ParameterSet> VerifyingKey<P> {
         ensures bound { steps.new ≤ steps.old + slh_verify_bound P.scheme }
         ensures free { IfErr result (λ e. e ≢ Invalid → steps.new ≡ steps.old) }
     {
+        self.hash_verify_counted(Mode::Pure, msg, ctx, sig, steps)
+    }
+
+    /// As `slh_verify_counted`, where the message or its digest was signed, as the mode says
+    /// (FIPS 205, algorithms 24 and 25).
+    pub fn hash_verify_counted<L: Ledger>(
+        &self,
+        mode: Mode,
+        msg: &[u8],
+        ctx: &[u8],
+        sig: &[u8],
+        steps: &mut Steps<L>,
+    ) -> Result<(), Error>
+        ensures value { RefusedExactly result
+            (hash_verify_error P.scheme mode self.now ctx.now msg.now sig.now) }
+        ensures bound { steps.new ≤ steps.old + slh_verify_bound P.scheme }
+        ensures free { IfErr result (λ e. e ≢ Invalid → steps.new ≡ steps.old) }
+    {
+        Self::check_verify(msg, ctx, sig)?;
+        let frame = Frame::new(mode, ctx, msg);
+        let sig = SigView::exact(sig);
+        self.verify_slices(frame.head(), frame.ctx(), frame.tail(), &sig, steps)
+    }
+
+    /// The refusals of verifying, in every mode, but `Invalid`: `Length`, `ContextTooLong`,
+    /// `MessageTooLong`.
+    pub fn check_verify(msg: &[u8], ctx: &[u8], sig: &[u8]) -> Result<(), Error>
+        ensures refusal { RefusedExactly result
+            (verify_refusal P.scheme ctx.now msg.now sig.now) }
+        ensures sig { OnOk result (length sig.now ≡ signature_size P.scheme) }
+        ensures ctx { OnOk result (length ctx.now ≤ 255) }
+        ensures msg { OnOk result (length msg.now ≤ 2 ^ 60) }
+    {
         check_signature::<P>(sig.len())?;
         check_context(ctx)?;
-        check_message(msg)?;
-        let head = frame_head(ctx);
-        let root = check_root::<P, L>(&self.pk_seed, &self.pk_root, &head, ctx, msg, sig, steps);
+        check_message(msg)
+    }
+
+    // Verifies a signature of the message that the three slices joined are. `Invalid`.
+    fn verify_slices<L: Ledger>(
+        &self,
+        head: &[u8],
+        ctx: &[u8],
+        msg: &[u8],
+        sig: &SigView<'_, P>,
+        steps: &mut Steps<L>,
+    ) -> Result<(), Error>
+        requires { length head.now + length ctx.now + length msg.now ≤ MAX_MESSAGE_LEN }
+        ensures value { let message = head.now ++ ctx.now ++ msg.now in
+            RefusedExactly result (root_refusal P.scheme self.now message sig.now) }
+        ensures only { IfErr result (λ e. e ≡ Invalid) }
+        ensures bound { steps.new ≤ steps.old + slh_verify_bound P.scheme }
+    {
+        let root = check_root::<P, L>(&self.pk_seed, &self.pk_root, head, ctx, msg, sig, steps);
         if root.as_slice() != self.pk_root.as_slice() {
             return Err(Error::Invalid);
         }
         Ok(())
+    }
+
+    // The same on a counter that is made here.
+    fn verify_new<L: Ledger>(
+        &self,
+        head: &[u8],
+        ctx: &[u8],
+        msg: &[u8],
+        signature: &Signature<P>,
+        blank: Blank,
+    ) -> Result<(), Error>
+        requires message { length head.now + length ctx.now + length msg.now ≤ MAX_MESSAGE_LEN }
+        requires fresh { IsFresh blank L.name L.parts }
+        ensures { let message = head.now ++ ctx.now ++ msg.now in
+            RefusedExactly result (root_refusal P.scheme self.now message signature.now) }
+    {
+        let mut steps = Steps::<L>::new(blank);
+        self.verify_slices(head, ctx, msg, &signature.view(), &mut steps)
+    }
+
+    /// Verifies a signature of a message as it stands, without a context (FIPS 205, algorithm 20).
+    /// `MessageTooLong`; `Invalid`: the signature doesn't lead to the key's root.
+    pub fn slh_verify_internal(&self, msg: &[u8], signature: &Signature<P>) -> Result<(), Error>
+        ensures { RefusedExactly result
+            (verify_internal_error P.scheme self.now msg.now signature.now) }
+    {
+        check_message(msg)?;
+        self.verify_new::<Brand>(&[], &[], msg, signature, Blank::new(1))
+    }
+
+    /// Verifies a signature of a message with a context (FIPS 205, algorithm 24).
+    /// `ContextTooLong`, `MessageTooLong`; `Invalid`: the signature doesn't lead to the key's root.
+    pub fn try_verify_with_context(
+        &self,
+        msg: &[u8],
+        ctx: &[u8],
+        signature: &Signature<P>,
+    ) -> Result<(), Error>
+        ensures { RefusedExactly result
+            (verify_error P.scheme self.now ctx.now msg.now signature.now) }
+    {
+        self.hash_verify_with_context(Mode::Pure, msg, ctx, signature)
+    }
+
+    /// As `try_verify_with_context`, where the message or its digest was signed, as the mode says
+    /// (FIPS 205, algorithms 24 and 25). The message is the message itself in every mode.
+    pub fn hash_verify_with_context(
+        &self,
+        mode: Mode,
+        msg: &[u8],
+        ctx: &[u8],
+        signature: &Signature<P>,
+    ) -> Result<(), Error>
+        ensures { RefusedExactly result
+            (hash_verify_error P.scheme mode self.now ctx.now msg.now signature.now) }
+    {
+        Self::check_verify(msg, ctx, signature.as_slice())?;
+        let frame = Frame::new(mode, ctx, msg);
+        let (head, ctx, tail) = (frame.head(), frame.ctx(), frame.tail());
+        self.verify_new::<Brand>(head, ctx, tail, signature, Blank::new(1))
+    }
+
+    /// The key of the 2n bytes of an array.
+    pub fn from_array(bytes: &Array<u8, P::VkLen>) -> Self
+        ensures { result ≡ bytes.now }
+    {
+        match Self::try_from(bytes.as_slice()) {
+            Ok(key) => key,
+            Err(_) => unreachable!(),
+        }
+    }
+
+    /// The key's 2n bytes, as an array.
+    pub fn to_bytes(&self, alloc: Global) -> Result<Array<u8, P::VkLen>, AllocError>
+        ensures { IfOk result (λ bytes. bytes ≡ self.now) }
+    {
+        let mut bytes = zeros::<P::VkLen>(alloc)?;
+        self.write_to(bytes.as_mut_slice());
+        Ok(bytes)
+    }
+
+    /// The key's 2n bytes, as a vector.
+    pub fn to_vec(&self, alloc: Global) -> Result<Vec<u8>, AllocError>
+        ensures { IfOk result (λ bytes. bytes.items ≡ self.now) }
+    {
+        Ok(self.to_bytes(alloc)?.into_vec())
     }
 
     /// Writes the key's 2n bytes.

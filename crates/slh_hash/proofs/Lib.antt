@@ -1,3 +1,4 @@
 mod Grouped
 mod Pieces
 mod Started
+mod CountedHashes

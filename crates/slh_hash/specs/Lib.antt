@@ -1,3 +1,4 @@
+pub mod Counted
 pub mod HmacSha512
 pub mod Sha2
 pub mod Lengths

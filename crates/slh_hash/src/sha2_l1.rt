@@ -11,7 +11,8 @@ use crate::keyed::Sha2Keyed;
 use crate::mgf1::mgf1_256;
 use crate::rows::{hash_each, hash_pairs, repeat};
 use crate::tweaked::{long_hash, short_hash, start};
-use hmac_sha256::{HMAC, Hash};
+use digest_core::{FixedOutput, Update};
+use hmac_sha256::{HMAC, Hash, WrappedHash};
 use hybrid_array::ArraySize;
 use slh_core::address::{Address, RowAddress};
 use slh_core::nbytes::NBytes;
@@ -177,12 +178,14 @@ fn message_hash<N: ArraySize>(
     ensures { result ≡ sha256 (rand.now ++ pk_seed.now ++ pk_root.now
         ++ (head.now ++ ctx.now ++ msg.now)) }
 {
-    let mut hash = Hash::new();
+    let mut hash = WrappedHash::from_core(Hash::new());
     hash.update(rand.as_slice());
     hash.update(pk_seed.as_slice());
     hash.update(pk_root.as_slice());
     hash.update(head);
     hash.update(ctx);
     hash.update(msg);
-    hash.finalize()
+    let mut digest = [0u8; 32];
+    hash.finalize_into(&mut digest);
+    digest
 }

@@ -40,21 +40,21 @@ kept_evidence fields =
 kept_job : (command : Command) (fields : List (List ℕ)) → job_of command (take 11 fields) ≡ job_of command fields
 kept_job Keygen fields =
     rw (kept_field fields 2 (omega arith), kept_field fields 3 (omega arith), kept_field fields 4 (omega arith)) refl
-kept_job Sign fields =
+kept_job (Sign mode) fields =
     rw (kept_field fields 2 (omega arith), kept_field fields 3 (omega arith), kept_field fields 4 (omega arith), kept_field fields 5 (omega arith)) refl
-kept_job Verify fields =
+kept_job (Verify mode) fields =
     rw (kept_field fields 2 (omega arith), kept_field fields 3 (omega arith), kept_field fields 4 (omega arith), kept_field fields 5 (omega arith)) refl
-kept_job Audit fields =
+kept_job (Audit mode) fields =
     rw (kept_field fields 2 (omega arith), kept_field fields 3 (omega arith), kept_field fields 4 (omega arith), kept_field fields 5 (omega arith)) refl
-kept_job Check fields =
+kept_job (Check mode) fields =
     rw (kept_evidence fields, kept_field fields 2 (omega arith), kept_field fields 3 (omega arith), kept_field fields 4 (omega arith), kept_field fields 5 (omega arith)) refl
 
 kept_fits : (command : Command) (fields : List (List ℕ)) → has_fields command (length (take 11 fields)) ≡ has_fields command (length fields)
 kept_fits Keygen fields = kept_count fields 5 (omega arith)
-kept_fits Sign fields = kept_count fields 6 (omega arith)
-kept_fits Verify fields = kept_count fields 6 (omega arith)
-kept_fits Audit fields = kept_count fields 6 (omega arith)
-kept_fits Check fields = refl
+kept_fits (Sign mode) fields = kept_count fields 6 (omega arith)
+kept_fits (Verify mode) fields = kept_count fields 6 (omega arith)
+kept_fits (Audit mode) fields = kept_count fields 6 (omega arith)
+kept_fits (Check mode) fields = refl
 
 kept_job_for : (command : Option Command) (fields : List (List ℕ)) → job_for command (take 11 fields) ≡ job_for command fields
 kept_job_for None fields = refl

@@ -1,3 +1,6 @@
 mod Kept
+pub mod Accepting
 pub mod Audits
 pub mod Digits
+pub mod Reports
+pub mod Signing

@@ -1,8 +1,9 @@
 -- How evidence stands on a line (README, "Lines").
-use Rattle.std.specs.Prelude.{◌==◌, ℕ, ◌+◌, ◌-◌, ◌*◌, ◌^◌, List, [], ◌∷◌, ◌++◌, length, slice_get}
-use Rattle.std.specs.Prelude.{unwrap_or, Option, None, Some, Bool, ◌&&◌, nat_le, nat_lt}
+use Rattle.std.specs.Prelude.{◌==◌, ℕ, ◌^◌, List, [], ◌++◌, length, slice_get}
+use Rattle.std.specs.Prelude.{unwrap_or, Option, None, Some, ◌&&◌, nat_le}
 use Rattle.std.specs.Prelude.{codes, decimal, if◌then◌else◌}
 use Rattle.std.specs.Str.{bytes_eq}
+use Rattle.slh_run.specs.Decimals.{read_digits}
 use Rattle.slh_audit.specs.declared.evidence.Evidence.{Evidence}
 use Rattle.slh_audit.specs.declared.evidence.Evidence.TheVariants.{ForsNode, ForsRoots}
 use Rattle.slh_audit.specs.declared.evidence.Evidence.TheVariants.{ChainStep, Leaf, TreeNode, Early}
@@ -11,23 +12,10 @@ use Rattle.slh_audit.specs.declared.evidence.Evidence.TheVariants.{ChainStep, Le
 abbrev pub field_at : List (List ℕ) → ℕ → List ℕ
 field_at fields i = unwrap_or (slice_get fields i) []
 
--- a decimal digit
-abbrev pub is_digit : ℕ → Bool
-is_digit c = nat_le 48 c && nat_le c 57
-
--- the number that digits go on to from a number, while it stays below 2^32
-abbrev pub read_digits : ℕ → List ℕ → Option ℕ
-read_digits number [] = Some number
-read_digits number (c ∷ later) =
-    if is_digit c then
-    if nat_lt (number * 10 + (c - 48)) (2 ^ 32)
-    then read_digits (number * 10 + (c - 48)) later else None
-    else None
-
 -- a number is 1 to 10 decimal digits with a value below 2^32
 abbrev pub number_value : List ℕ → Option ℕ
 number_value text =
-    if nat_le 1 (length text) && nat_le (length text) 10 then read_digits 0 text else None
+    if nat_le 1 (length text) && nat_le (length text) 10 then read_digits (2 ^ 32) 0 text else None
 
 abbrev pub for_some : {A B : Type 0} → Option A → (A → Option B) → Option B
 for_some None next = None

@@ -1,7 +1,9 @@
 pub mod Sets
 pub mod Judgement
 pub mod Errors
+pub mod Decimals
 pub mod EvidenceFields
 pub mod Requests
 pub mod Reply
 pub mod Usage
+pub mod Bench

@@ -3,6 +3,7 @@ use Rattle.std.specs.Prelude.{◌==◌, ℕ, List, length, Bool, true, Option, N
 use Rattle.std.specs.Prelude.{Result, Ok, Err, codes, if◌then◌else◌}
 use Rattle.std.specs.Str.{bytes_eq}
 use Rattle.line_serve.specs.Fields.{hex_value}
+use Rattle.slh_dsa.specs.declared.frame.Mode.TheVariants.{Pure, Sha256, Sha512}
 use Rattle.slh_run.specs.EvidenceFields.{evidence_at, field_at}
 use Rattle.slh_run.specs.Sets.{set_named}
 use Rattle.slh_run.specs.declared.job.Job.{Job}
@@ -14,14 +15,23 @@ use Rattle.slh_run.specs.declared.request.Fault.{Fault}
 use Rattle.slh_run.specs.declared.request.Fault.TheVariants as fault
 use Rattle.slh_run.specs.declared.request.Request.{Request}
 
--- the commands, by their names
+-- The commands, by their names. All but keygen may end with the hash function by whose digest the
+-- message is signed
 abbrev pub command_named : List ℕ → Option Command
 command_named name =
     if bytes_eq name (codes "keygen") then Some Keygen
-    else if bytes_eq name (codes "sign") then Some Sign
-    else if bytes_eq name (codes "verify") then Some Verify
-    else if bytes_eq name (codes "audit") then Some Audit
-    else if bytes_eq name (codes "check") then Some Check
+    else if bytes_eq name (codes "sign") then Some (Sign Pure)
+    else if bytes_eq name (codes "sign-sha256") then Some (Sign Sha256)
+    else if bytes_eq name (codes "sign-sha512") then Some (Sign Sha512)
+    else if bytes_eq name (codes "verify") then Some (Verify Pure)
+    else if bytes_eq name (codes "verify-sha256") then Some (Verify Sha256)
+    else if bytes_eq name (codes "verify-sha512") then Some (Verify Sha512)
+    else if bytes_eq name (codes "audit") then Some (Audit Pure)
+    else if bytes_eq name (codes "audit-sha256") then Some (Audit Sha256)
+    else if bytes_eq name (codes "audit-sha512") then Some (Audit Sha512)
+    else if bytes_eq name (codes "check") then Some (Check Pure)
+    else if bytes_eq name (codes "check-sha256") then Some (Check Sha256)
+    else if bytes_eq name (codes "check-sha512") then Some (Check Sha512)
     else None
 
 -- how many fields the line of a command has
@@ -29,14 +39,14 @@ command_named name =
 --   SET sign KEY CTX MSG RAND
 --   SET verify VK CTX MSG SIG
 --   SET audit KEY CTX MSG SIG
--- and whether it has them. That of check, SET check KEY CTX MSG SIG KIND NUMBERS, has as many as
+-- and whether it has them, in every mode. That of check, SET check KEY CTX MSG SIG KIND NUMBERS, has as many as
 -- its kind of evidence asks for, which are judged with the kind itself
 abbrev pub has_fields : Command → ℕ → Bool
 has_fields Keygen count = count == 5
-has_fields Sign count = count == 6
-has_fields Verify count = count == 6
-has_fields Audit count = count == 6
-has_fields Check count = true
+has_fields (Sign mode) count = count == 6
+has_fields (Verify mode) count = count == 6
+has_fields (Audit mode) count = count == 6
+has_fields (Check mode) count = true
 
 abbrev pub and_then : {A B : Type 0} → Result A Fault → (A → Result B Fault) → Result B Fault
 and_then (Err found) next = Err found
@@ -71,31 +81,31 @@ job_of Keygen fields =
     and_then (bytes_at fields 3) (λ sk_prf.
     and_then (bytes_at fields 4) (λ pk_seed.
     Ok (job.Keygen sk_seed sk_prf pk_seed))))
-job_of Sign fields =
+job_of (Sign mode) fields =
     and_then (bytes_at fields 2) (λ key.
     and_then (bytes_at fields 3) (λ context.
     and_then (bytes_at fields 4) (λ message.
     and_then (randomizer_at fields 5) (λ randomizer.
-    Ok (job.Sign key context message randomizer)))))
-job_of Verify fields =
+    Ok (job.Sign mode key context message randomizer)))))
+job_of (Verify mode) fields =
     and_then (bytes_at fields 2) (λ key.
     and_then (bytes_at fields 3) (λ context.
     and_then (bytes_at fields 4) (λ message.
     and_then (bytes_at fields 5) (λ signature.
-    Ok (job.Verify key context message signature)))))
-job_of Audit fields =
+    Ok (job.Verify mode key context message signature)))))
+job_of (Audit mode) fields =
     and_then (bytes_at fields 2) (λ key.
     and_then (bytes_at fields 3) (λ context.
     and_then (bytes_at fields 4) (λ message.
     and_then (bytes_at fields 5) (λ signature.
-    Ok (job.Audit key context message signature)))))
-job_of Check fields =
+    Ok (job.Audit mode key context message signature)))))
+job_of (Check mode) fields =
     and_then (some_or_fields (evidence_at fields)) (λ evidence.
     and_then (bytes_at fields 2) (λ key.
     and_then (bytes_at fields 3) (λ context.
     and_then (bytes_at fields 4) (λ message.
     and_then (bytes_at fields 5) (λ signature.
-    Ok (job.Check key context message signature evidence))))))
+    Ok (job.Check mode key context message signature evidence))))))
 
 -- the job of a line whose second field was found to name a command, or to name none
 abbrev pub job_for : Option Command → List (List ℕ) → Result Job Fault

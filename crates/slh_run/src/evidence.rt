@@ -6,8 +6,8 @@ ghost use Rattle.slh_audit.specs.declared.evidence.Evidence.TheVariants.{Leaf, T
 ghost use Rattle.slh_run.specs.EvidenceFields.{evidence_at, evidence_text, number_value, spaced};
 ghost use Rattle.slh_run.specs.EvidenceFields.{one_number, two_numbers, three_numbers};
 ghost use Rattle.slh_run.specs.EvidenceFields.{field_at as spec_field_at};
-ghost use Rattle.slh_run.specs.EvidenceFields.{read_digits as spec_read_digits};
 
+use crate::decimals::read_digits;
 use itoa::Buffer;
 use line_serve::ByteString;
 use slh_audit::Evidence;
@@ -23,25 +23,6 @@ pub(crate) fn field_at<'a>(fields: &[&'a [u8]], i: usize) -> &'a [u8]
     }
 }
 
-// The number that all bytes stand for as decimal digits.
-#[tactic(auto, using(crate::proofs::Digits::goes_on, crate::proofs::Digits::below_digits, crate::proofs::Digits::above_digits, crate::proofs::Digits::too_big, crate::proofs::Digits::all_read))]
-fn read_digits(text: &[u8]) -> Option<u32>
-    ensures { result ≡ spec_read_digits 0 text.now }
-{
-    let mut number = 0u32;
-    for byte in text {
-        if *byte < 48 || *byte > 57 {
-            return None;
-        }
-        let next = u64::from(number) * 10 + u64::from(*byte - 48);
-        if next >= 1 << 32 {
-            return None;
-        }
-        number = next as u32;
-    }
-    Some(number)
-}
-
 // The number that the field at an index stands for.
 fn number_at(fields: &[&[u8]], i: usize) -> Option<u32>
     ensures { result ≡ number_value (spec_field_at (contents fields.now) i) }
@@ -50,7 +31,8 @@ fn number_at(fields: &[&[u8]], i: usize) -> Option<u32>
     if text.is_empty() || text.len() > 10 {
         return None;
     }
-    read_digits(text)
+    let number = read_digits(text, u64::from(u32::MAX))?;
+    Some(number as u32)
 }
 
 fn read_fors_node(fields: &[&[u8]]) -> Option<Evidence>

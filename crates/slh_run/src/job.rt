@@ -1,6 +1,7 @@
 //! Jobs, and what is answered to them.
 use line_serve::ByteString;
 use slh_audit::{Evidence, Verdict};
+use slh_dsa::Mode;
 
 /// What is asked for. Its byte strings may have any length; `run` refuses those that don't fit.
 #[derive(Drop)]
@@ -16,11 +17,13 @@ pub enum Job {
     },
     /// A signature of a message with a context.
     Sign {
+        /// Whether the message or its digest is signed.
+        mode: Mode,
         /// The signing key, 4n bytes.
         key: ByteString,
         /// The context, at most 255 bytes.
         context: ByteString,
-        /// The message, at most 2^60 bytes.
+        /// The message itself, in every mode, at most 2^60 bytes.
         message: ByteString,
         /// The bytes that the randomizer is made from, n of them. Without any the public seed
         /// stands in their place.
@@ -28,33 +31,39 @@ pub enum Job {
     },
     /// Whether a signature is one of a message with a context.
     Verify {
+        /// Whether the message or its digest is signed.
+        mode: Mode,
         /// The verifying key, 2n bytes.
         key: ByteString,
         /// The context, at most 255 bytes.
         context: ByteString,
-        /// The message, at most 2^60 bytes.
+        /// The message itself, in every mode, at most 2^60 bytes.
         message: ByteString,
         /// The signature, as many bytes as the set's signatures have.
         signature: ByteString,
     },
     /// Whether the holder of a key made a signature of a message with a context.
     Audit {
+        /// Whether the message or its digest is signed.
+        mode: Mode,
         /// The signing key, 4n bytes.
         key: ByteString,
         /// The context, at most 255 bytes.
         context: ByteString,
-        /// The message, at most 2^60 bytes.
+        /// The message itself, in every mode, at most 2^60 bytes.
         message: ByteString,
         /// The signature, as many bytes as the set's signatures have.
         signature: ByteString,
     },
     /// Whether evidence shows against a signature of a message with a context.
     Check {
+        /// Whether the message or its digest is signed.
+        mode: Mode,
         /// The signing key, 4n bytes.
         key: ByteString,
         /// The context, at most 255 bytes.
         context: ByteString,
-        /// The message, at most 2^60 bytes.
+        /// The message itself, in every mode, at most 2^60 bytes.
         message: ByteString,
         /// The signature, as many bytes as the set's signatures have.
         signature: ByteString,

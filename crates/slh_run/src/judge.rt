@@ -1,20 +1,22 @@
 //! Answers single jobs.
-ghost use Rattle.std.specs.Prelude.{◌≡◌};
+ghost use Rattle.std.specs.Prelude.{◌≡◌, ◌≤◌, ◌*◌, ◌^◌, length, OnOk};
 ghost use Rattle.std.specs.Option.{option_copied};
 ghost use Rattle.slh_core.specs.Steps.{IsFresh};
 ghost use Rattle.slh_run.specs.Errors.{audit_error_of, error_of};
-ghost use Rattle.slh_run.specs.Judgement.{IsJudged, judgement};
+ghost use Rattle.slh_run.specs.Judgement.{IsJudged, audit_refusal, judgement};
 ghost use Rattle.slh_run.specs.Sets.{scheme_for};
+ghost use Rattle.slh_trees.specs.Checking.{signature_size};
+ghost use Rattle.slh_trees.specs.Sizes.{RefusedExactly};
 ghost use Rattle.slh_run.specs.declared.job.Job.TheVariants.{Keygen, Sign, Verify, Audit, Check};
 
 use crate::job::{Answer, Error, Job};
 use crate::set::Set;
 use hybrid_array::ArraySize;
 use line_serve::ByteString;
-use slh_audit::{AuditError, Evidence, audit, check_evidence};
+use slh_audit::{AuditError, Evidence, audit_framed, check_evidence_framed};
 use slh_core::params::chain_sizes;
 use slh_core::steps::Steps;
-use slh_dsa::{ParameterSet, SigningKey, VerifyingKey};
+use slh_dsa::{Frame, Mode, ParameterSet, SigningKey, VerifyingKey};
 use slh_hash::{Sha2_128f, Sha2_128s, Sha2_192f, Sha2_192s, Sha2_256f, Sha2_256s};
 use std::alloc::{AllocError, Global};
 use std::marker::Brand;
@@ -79,6 +81,7 @@ fn keygen<P: ParameterSet, L: Ledger>(
 // A signature. Its bytes are taken after all checks, and nothing after that can fail.
 fn sign<P: ParameterSet, L: Ledger>(
     alloc: Global,
+    mode: Mode,
     key: &[u8],
     ctx: &[u8],
     msg: &[u8],
@@ -86,55 +89,84 @@ fn sign<P: ParameterSet, L: Ledger>(
     steps: &mut Steps<L>,
 ) -> Result<Answer, Error>
     ensures { let opt = option_copied randomizer.entry in
-        IsJudged P.scheme (Sign key.now ctx.now msg.now opt) result }
+        IsJudged P.scheme (Sign mode key.now ctx.now msg.now opt) result }
 {
     let key = SigningKey::<P>::try_from(key)?;
     SigningKey::<P>::check_sign(msg, ctx, randomizer)?;
     let mut bytes = ByteString::zeroed(alloc, P::SigLen::USIZE)?;
-    key.slh_sign_checked(msg, ctx, randomizer, bytes.as_mut_slice(), steps);
+    key.hash_sign_checked(mode, msg, ctx, randomizer, bytes.as_mut_slice(), steps);
     Ok(Answer::Signature(bytes))
 }
 
 // Whether a signature is accepted. It takes no memory.
 fn verify<P: ParameterSet, L: Ledger>(
+    mode: Mode,
     key: &[u8],
     ctx: &[u8],
     msg: &[u8],
     signature: &[u8],
     steps: &mut Steps<L>,
 ) -> Result<Answer, Error>
-    ensures { IsJudged P.scheme (Verify key.now ctx.now msg.now signature.now) result }
+    ensures { IsJudged P.scheme (Verify mode key.now ctx.now msg.now signature.now) result }
 {
     let key = VerifyingKey::<P>::try_from(key)?;
-    key.slh_verify_counted(msg, ctx, signature, steps)?;
+    key.hash_verify_counted(mode, msg, ctx, signature, steps)?;
     Ok(Answer::Accepted)
+}
+
+// The refusals of an audit and of a check by size.
+fn check_audit<P: ParameterSet>(
+    key: &[u8],
+    ctx: &[u8],
+    msg: &[u8],
+    signature: &[u8],
+) -> Result<(), slh_dsa::Error>
+    ensures refusal { RefusedExactly result
+        (audit_refusal P.scheme key.now ctx.now msg.now signature.now) }
+    ensures key { OnOk result (length key.now ≡ 4 * P.N.USIZE) }
+    ensures sig { OnOk result (length signature.now ≡ signature_size P.scheme) }
+    ensures ctx { OnOk result (length ctx.now ≤ 255) }
+    ensures msg { OnOk result (length msg.now ≤ 2 ^ 60) }
+{
+    chain_sizes::<P>();
+    if key.len() != 4 * P::N::USIZE {
+        return Err(slh_dsa::Error::Length);
+    }
+    VerifyingKey::<P>::check_verify(msg, ctx, signature)
 }
 
 // Whether a key made a signature. It takes no memory.
 fn judge_audit<P: ParameterSet>(
+    mode: Mode,
     key: &[u8],
     ctx: &[u8],
     msg: &[u8],
     signature: &[u8],
 ) -> Result<Answer, Error>
-    ensures { result ≡ judgement P.scheme (Audit key.now ctx.now msg.now signature.now) }
+    ensures { result ≡ judgement P.scheme (Audit mode key.now ctx.now msg.now signature.now) }
 {
-    let verdict = audit::<P>(key, ctx, msg, signature)?;
+    check_audit::<P>(key, ctx, msg, signature)?;
+    let frame = Frame::new(mode, ctx, msg);
+    let verdict = audit_framed::<P>(key, frame.head(), frame.ctx(), frame.tail(), signature)?;
     Ok(Answer::Verdict(verdict))
 }
 
 // Whether evidence shows. It takes no memory.
 fn judge_check<P: ParameterSet>(
+    mode: Mode,
     key: &[u8],
     ctx: &[u8],
     msg: &[u8],
     signature: &[u8],
     evidence: &Evidence,
 ) -> Result<Answer, Error>
-    ensures { let job = Check key.now ctx.now msg.now signature.now evidence.now in
+    ensures { let job = Check mode key.now ctx.now msg.now signature.now evidence.now in
         result ≡ judgement P.scheme job }
 {
-    let shown = check_evidence::<P>(key, ctx, msg, signature, evidence)?;
+    check_audit::<P>(key, ctx, msg, signature)?;
+    let frame = Frame::new(mode, ctx, msg);
+    let (head, ctx, tail) = (frame.head(), frame.ctx(), frame.tail());
+    let shown = check_evidence_framed::<P>(key, head, ctx, tail, signature, evidence)?;
     Ok(Answer::Shown(shown))
 }
 
@@ -161,12 +193,14 @@ fn run_in<P: ParameterSet, L: Ledger>(
             &mut steps,
         ),
         Job::Sign {
+            mode,
             key,
             context,
             message,
             randomizer,
         } => sign::<P, L>(
             alloc,
+            *mode,
             key.as_slice(),
             context.as_slice(),
             message.as_slice(),
@@ -174,11 +208,13 @@ fn run_in<P: ParameterSet, L: Ledger>(
             &mut steps,
         ),
         Job::Verify {
+            mode,
             key,
             context,
             message,
             signature,
         } => verify::<P, L>(
+            *mode,
             key.as_slice(),
             context.as_slice(),
             message.as_slice(),
@@ -186,23 +222,27 @@ fn run_in<P: ParameterSet, L: Ledger>(
             &mut steps,
         ),
         Job::Audit {
+            mode,
             key,
             context,
             message,
             signature,
         } => judge_audit::<P>(
+            *mode,
             key.as_slice(),
             context.as_slice(),
             message.as_slice(),
             signature.as_slice(),
         ),
         Job::Check {
+            mode,
             key,
             context,
             message,
             signature,
             evidence,
         } => judge_check::<P>(
+            *mode,
             key.as_slice(),
             context.as_slice(),
             message.as_slice(),

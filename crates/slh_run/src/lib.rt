@@ -6,15 +6,26 @@
 
 #[cfg(test)]
 mod audit_tests;
+mod bench;
+#[cfg(test)]
+mod bench_tests;
+mod decimals;
 mod evidence;
+#[cfg(test)]
+mod fault_tests;
+#[cfg(test)]
+mod hash_tests;
 mod job;
 mod judge;
+pub mod laws;
 mod program;
 mod reply;
 mod request;
 mod set;
 #[cfg(test)]
 mod set_tests;
+#[cfg(test)]
+mod size_tests;
 #[cfg(test)]
 mod tests;
 
@@ -27,3 +38,4 @@ pub use line_serve::{
 pub use program::serve;
 pub use set::Set;
 pub use slh_audit::{Evidence, Verdict};
+pub use slh_dsa::Mode;

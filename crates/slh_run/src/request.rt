@@ -11,6 +11,7 @@ use crate::evidence::{field_at, read_evidence};
 use crate::job::Job;
 use crate::set::Set;
 use line_serve::{ByteString, hex_field};
+use slh_dsa::Mode;
 use std::alloc::{AllocError, Global};
 
 /// How many fields of a line are kept: one more than a line of any command has, so that a line of
@@ -46,10 +47,10 @@ impl From<AllocError> for Fault {
 #[derive(Clone, Copy, Debug, PartialEq, Eq)]
 pub(crate) enum Command {
     Keygen,
-    Sign,
-    Verify,
-    Audit,
-    Check,
+    Sign(Mode),
+    Verify(Mode),
+    Audit(Mode),
+    Check(Mode),
 }
 
 impl Command {
@@ -59,13 +60,29 @@ impl Command {
         if name == b"keygen".as_slice() {
             Some(Command::Keygen)
         } else if name == b"sign".as_slice() {
-            Some(Command::Sign)
+            Some(Command::Sign(Mode::Pure))
+        } else if name == b"sign-sha256".as_slice() {
+            Some(Command::Sign(Mode::Sha256))
+        } else if name == b"sign-sha512".as_slice() {
+            Some(Command::Sign(Mode::Sha512))
         } else if name == b"verify".as_slice() {
-            Some(Command::Verify)
+            Some(Command::Verify(Mode::Pure))
+        } else if name == b"verify-sha256".as_slice() {
+            Some(Command::Verify(Mode::Sha256))
+        } else if name == b"verify-sha512".as_slice() {
+            Some(Command::Verify(Mode::Sha512))
         } else if name == b"audit".as_slice() {
-            Some(Command::Audit)
+            Some(Command::Audit(Mode::Pure))
+        } else if name == b"audit-sha256".as_slice() {
+            Some(Command::Audit(Mode::Sha256))
+        } else if name == b"audit-sha512".as_slice() {
+            Some(Command::Audit(Mode::Sha512))
         } else if name == b"check".as_slice() {
-            Some(Command::Check)
+            Some(Command::Check(Mode::Pure))
+        } else if name == b"check-sha256".as_slice() {
+            Some(Command::Check(Mode::Sha256))
+        } else if name == b"check-sha512".as_slice() {
+            Some(Command::Check(Mode::Sha512))
         } else {
             None
         }
@@ -107,14 +124,15 @@ fn read_keygen(alloc: Global, fields: &[&[u8]]) -> Result<Job, Fault>
     })
 }
 
-fn read_sign(alloc: Global, fields: &[&[u8]]) -> Result<Job, Fault>
-    ensures { (result ≡ job_of Sign (contents fields.now)) ⊎ (result ≡ Err Memory) }
+fn read_sign(alloc: Global, mode: Mode, fields: &[&[u8]]) -> Result<Job, Fault>
+    ensures { (result ≡ job_of (Sign mode) (contents fields.now)) ⊎ (result ≡ Err Memory) }
 {
     let key = bytes_at(alloc, fields, 2)?;
     let context = bytes_at(alloc, fields, 3)?;
     let message = bytes_at(alloc, fields, 4)?;
     let randomizer = randomizer_at(alloc, fields, 5)?;
     Ok(Job::Sign {
+        mode,
         key,
         context,
         message,
@@ -122,14 +140,15 @@ fn read_sign(alloc: Global, fields: &[&[u8]]) -> Result<Job, Fault>
     })
 }
 
-fn read_verify(alloc: Global, fields: &[&[u8]]) -> Result<Job, Fault>
-    ensures { (result ≡ job_of Verify (contents fields.now)) ⊎ (result ≡ Err Memory) }
+fn read_verify(alloc: Global, mode: Mode, fields: &[&[u8]]) -> Result<Job, Fault>
+    ensures { (result ≡ job_of (Verify mode) (contents fields.now)) ⊎ (result ≡ Err Memory) }
 {
     let key = bytes_at(alloc, fields, 2)?;
     let context = bytes_at(alloc, fields, 3)?;
     let message = bytes_at(alloc, fields, 4)?;
     let signature = bytes_at(alloc, fields, 5)?;
     Ok(Job::Verify {
+        mode,
         key,
         context,
         message,
@@ -137,14 +156,15 @@ fn read_verify(alloc: Global, fields: &[&[u8]]) -> Result<Job, Fault>
     })
 }
 
-fn read_audit(alloc: Global, fields: &[&[u8]]) -> Result<Job, Fault>
-    ensures { (result ≡ job_of Audit (contents fields.now)) ⊎ (result ≡ Err Memory) }
+fn read_audit(alloc: Global, mode: Mode, fields: &[&[u8]]) -> Result<Job, Fault>
+    ensures { (result ≡ job_of (Audit mode) (contents fields.now)) ⊎ (result ≡ Err Memory) }
 {
     let key = bytes_at(alloc, fields, 2)?;
     let context = bytes_at(alloc, fields, 3)?;
     let message = bytes_at(alloc, fields, 4)?;
     let signature = bytes_at(alloc, fields, 5)?;
     Ok(Job::Audit {
+        mode,
         key,
         context,
         message,
@@ -152,8 +172,8 @@ fn read_audit(alloc: Global, fields: &[&[u8]]) -> Result<Job, Fault>
     })
 }
 
-fn read_check(alloc: Global, fields: &[&[u8]]) -> Result<Job, Fault>
-    ensures { (result ≡ job_of Check (contents fields.now)) ⊎ (result ≡ Err Memory) }
+fn read_check(alloc: Global, mode: Mode, fields: &[&[u8]]) -> Result<Job, Fault>
+    ensures { (result ≡ job_of (Check mode) (contents fields.now)) ⊎ (result ≡ Err Memory) }
 {
     let Some(evidence) = read_evidence(fields) else {
         return Err(Fault::Fields);
@@ -163,6 +183,7 @@ fn read_check(alloc: Global, fields: &[&[u8]]) -> Result<Job, Fault>
     let message = bytes_at(alloc, fields, 4)?;
     let signature = bytes_at(alloc, fields, 5)?;
     Ok(Job::Check {
+        mode,
         key,
         context,
         message,
@@ -181,10 +202,10 @@ fn read_job(alloc: Global, fields: &[&[u8]]) -> Result<Job, Fault>
     };
     match command {
         Command::Keygen if fields.len() == 5 => read_keygen(alloc, fields),
-        Command::Sign if fields.len() == 6 => read_sign(alloc, fields),
-        Command::Verify if fields.len() == 6 => read_verify(alloc, fields),
-        Command::Audit if fields.len() == 6 => read_audit(alloc, fields),
-        Command::Check => read_check(alloc, fields),
+        Command::Sign(mode) if fields.len() == 6 => read_sign(alloc, mode, fields),
+        Command::Verify(mode) if fields.len() == 6 => read_verify(alloc, mode, fields),
+        Command::Audit(mode) if fields.len() == 6 => read_audit(alloc, mode, fields),
+        Command::Check(mode) => read_check(alloc, mode, fields),
         _ => Err(Fault::Fields),
     }
 }

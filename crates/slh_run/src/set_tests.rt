@@ -2,7 +2,7 @@
 //! those of the Rust crate `slh-dsa` 0.1.0.
 ghost use Rattle.std.specs.Prelude.{◌≤◌, ◌^◌};
 
-use crate::{Answer, ByteString, Job, Set, run};
+use crate::{Answer, ByteString, Job, Mode, Set, run};
 use hmac_sha256::Hash;
 use std::alloc::Global;
 use std::process::Abort;
@@ -42,6 +42,7 @@ fn made_key(alloc: Global, set: Set, n: usize) -> Result<ByteString, Fail>
 // Its signature of the message, without context and randomizer.
 fn made_signature(alloc: Global, set: Set, key: ByteString) -> Result<ByteString, Fail> {
     let job = Job::Sign {
+        mode: Mode::Pure,
         key,
         context: ByteString::new(alloc),
         message: ByteString::from_slice(alloc, MESSAGE)?,
@@ -61,6 +62,7 @@ fn is_accepted(
     signature: ByteString,
 ) -> Result<bool, Fail> {
     let job = Job::Verify {
+        mode: Mode::Pure,
         key,
         context: ByteString::new(alloc),
         message: ByteString::from_slice(alloc, MESSAGE)?,

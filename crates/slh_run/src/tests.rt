@@ -1,7 +1,7 @@
 //! Job lines and jobs from end to end, against values that the Rust crate and FIPS 205's own
 //! algorithms give, and against the line format as the README has it.
 use crate::{
-    Answer, ByteString, Error, Job, MemSink, MemSource, QuietSource, Set, Words, run, serve,
+    Answer, ByteString, Error, Job, MemSink, MemSource, Mode, QuietSource, Set, Words, run, serve,
 };
 use hmac_sha256::Hash;
 use std::alloc::{AllocError, Global};
@@ -9,15 +9,16 @@ use std::process::Abort;
 use std::test::Fail;
 
 // A job line with three seeds, and the key that they give.
-const KEYGEN: &[u8] =
+pub(crate) const KEYGEN: &[u8] =
     b"SLH-DSA-SHA2-128f keygen 01010101010101010101010101010101 02020202020202020202020202020202 03030303030303030303030303030303\n";
 
 pub(crate) const KEY: &[u8] =
     b"0101010101010101010101010101010102020202020202020202020202020202030303030303030303030303030303034052e0733e69e78739d6e67c77f9a37d";
 
-const PUBLIC: &[u8] = b"030303030303030303030303030303034052e0733e69e78739d6e67c77f9a37d";
+pub(crate) const PUBLIC: &[u8] =
+    b"030303030303030303030303030303034052e0733e69e78739d6e67c77f9a37d";
 
-const KEY_REPLY: &[u8] =
+pub(crate) const KEY_REPLY: &[u8] =
     b"key 0101010101010101010101010101010102020202020202020202020202020202030303030303030303030303030303034052e0733e69e78739d6e67c77f9a37d 030303030303030303030303030303034052e0733e69e78739d6e67c77f9a37d\n";
 
 // What `serve` writes where its source gives these bytes, and its status.
@@ -287,6 +288,7 @@ fn sign_job(
         None => None,
     };
     Ok(Job::Sign {
+        mode: Mode::Pure,
         key: decoded(alloc, key)?,
         context: ByteString::from_slice(alloc, context)?,
         message: ByteString::from_slice(alloc, message)?,
@@ -325,6 +327,7 @@ fn verify_job(
     signature: &[u8],
 ) -> Result<Job, Fail> {
     Ok(Job::Verify {
+        mode: Mode::Pure,
         key: decoded(alloc, PUBLIC)?,
         context: ByteString::from_slice(alloc, context)?,
         message: ByteString::from_slice(alloc, message)?,

@@ -4,6 +4,7 @@ pub mod Hypertree
 pub mod Fors
 pub mod MessageDigest
 pub mod Checking
+pub mod SignatureParts
 pub mod Treehash
 pub mod ToySuite
 pub mod Keys

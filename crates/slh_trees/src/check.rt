@@ -1,11 +1,12 @@
 //! What a signature leads to.
 ghost use Rattle.std.specs.Prelude.{◌≡◌, ◌+◌, ◌≤◌, ◌++◌, length};
 ghost use Rattle.slh_core.specs.Costs.{slh_verify_bound};
-ghost use Rattle.slh_trees.specs.Checking.{checked_root, digest_root, signature_size};
+ghost use Rattle.slh_trees.specs.Checking.{checked_root, digest_root};
 
 use crate::digest::split_digest;
 use crate::fors::fors_pk_from_sig;
 use crate::hypertree::ht_root;
+use crate::sig_view::SigView;
 use hybrid_array::ArraySize;
 use slh_core::address::ForsTree;
 use slh_core::nbytes::NBytes;
@@ -18,23 +19,20 @@ use std::sync::ledger::Ledger;
 fn root_for_digest<P: ForsParams, L: Ledger>(
     pk_seed: &NBytes<P::N>,
     digest: &[u8],
-    sig: &[u8],
+    sig: &SigView<'_, P>,
     steps: &mut Steps<L>,
 ) -> NBytes<P::N>
-    requires digest { length digest.now ≡ P.M.USIZE }
-    requires whole { length sig.now ≡ signature_size P.scheme }
+    requires { length digest.now ≡ P.M.USIZE }
     ensures value { result ≡ digest_root P.scheme pk_seed.now digest.now sig.now }
     ensures bound { steps.new ≤ steps.old + slh_verify_bound P.scheme }
 {
     layer_sizes::<P>();
     forest_sizes::<P>();
-    let n = P::N::USIZE;
-    let upper = n + P::K::USIZE * ((1 + P::A::USIZE) * n);
     let (md, tree, leaf) = split_digest::<P>(digest);
     let keyed = P::keyed(pk_seed);
     let adrs = ForsTree::new(tree, leaf);
-    let key = fors_pk_from_sig::<P, L>(&sig[n..upper], md, &keyed, &adrs, steps);
-    ht_root::<P, L>(&key, &sig[upper..], &keyed, tree, leaf, steps)
+    let key = fors_pk_from_sig::<P, L>(sig.fors(), md, &keyed, &adrs, steps);
+    ht_root::<P, L>(&key, sig.layers(), &keyed, tree, leaf, steps)
 }
 
 /// The root that the bytes of a signature lead to, for the message that the three slices joined are
@@ -45,17 +43,16 @@ pub fn check_root<P: ForsParams, L: Ledger>(
     head: &[u8],
     ctx: &[u8],
     msg: &[u8],
-    sig: &[u8],
+    sig: &SigView<'_, P>,
     steps: &mut Steps<L>,
 ) -> NBytes<P::N>
-    requires message { length head.now + length ctx.now + length msg.now ≤ MAX_MESSAGE_LEN }
-    requires whole { length sig.now ≡ signature_size P.scheme }
+    requires { length head.now + length ctx.now + length msg.now ≤ MAX_MESSAGE_LEN }
     ensures value { let message = head.now ++ ctx.now ++ msg.now in
         result ≡ checked_root P.scheme pk_seed.now pk_root.now message sig.now }
     ensures bound { steps.new ≤ steps.old + slh_verify_bound P.scheme }
 {
     forest_sizes::<P>();
-    let rand = NBytes::<P::N>::exact(&sig[..P::N::USIZE]);
+    let rand = NBytes::<P::N>::from_view(sig.randomizer());
     let mut store = [0u8; MAX_DIGEST_LEN];
     let digest = &mut store[..P::M::USIZE];
     P::h_msg(&rand, pk_seed, pk_root, head, ctx, msg, digest);

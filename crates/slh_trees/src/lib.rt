@@ -16,6 +16,7 @@ pub mod laws;
 mod leaves;
 pub mod node;
 pub mod root;
+pub mod sig_view;
 pub mod sizes;
 mod subtree;
 #[cfg(test)]
@@ -29,6 +30,7 @@ pub use digest::split_digest;
 pub use fors::{fors_node, fors_pk_from_sig, fors_sign, fors_sign_root, fors_sk_gen};
 pub use hypertree::{ht_sign, ht_verify};
 pub use root::top_root;
+pub use sig_view::SigView;
 pub use slh_core::address::{
     Address, ForsPrf, ForsRoots, ForsTree, HashTree, WotsHash, WotsPk, WotsPrf,
 };

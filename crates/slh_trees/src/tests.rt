@@ -8,6 +8,7 @@ use crate::check::check_root;
 use crate::digest::split_digest;
 use crate::fors::{fors_pk_from_sig, fors_sign};
 use crate::hypertree::{ht_sign, ht_verify};
+use crate::sig_view::SigView;
 use crate::toy::Toy;
 use crate::xmss::xmss_node;
 use hybrid_array::sizes::U1;
@@ -110,7 +111,16 @@ fn root_for<L: Ledger>(sig: &[u8], blank: Blank) -> NBytes<U1>
     requires fresh { IsFresh blank L.name L.parts }
 {
     let mut steps = Steps::<L>::new(blank);
-    check_root::<Toy, L>(&byte(3), &byte(225), &[0, 0], &[], &[0x48], sig, &mut steps)
+    let sig = SigView::<Toy>::new(sig).unwrap();
+    check_root::<Toy, L>(
+        &byte(3),
+        &byte(225),
+        &[0, 0],
+        &[],
+        &[0x48],
+        &sig,
+        &mut steps,
+    )
 }
 
 // The signature, changes of it whose hashes meet those of the signature, and one whose hashes
@@ -136,5 +146,47 @@ fn roots_of_changed_bytes(rt: HostRuntime) {
         }
         let root = root_for::<Brand>(&sig, Blank::new(1));
         assert_eq!(rt; root.as_slice(), [want].as_slice(), "after {changes:?}");
+    }
+}
+
+#[test]
+fn values_of_the_forest_by_their_places(rt: HostRuntime) {
+    let sig = SigView::<Toy>::new(&SIGNATURE).unwrap();
+    assert_eq!(rt; sig.randomizer().as_slice(), [0x52].as_slice());
+    assert_eq!(rt; sig.fors(), [0x52, 0x34, 0x89, 0x73, 0x3b, 0x15].as_slice());
+    let rows: [[u8; 3]; 2] = [[0x52, 0x34, 0x89], [0x73, 0x3b, 0x15]];
+    for i in 0..2 {
+        let [secret, low, high] = rows[i];
+        assert_eq!(rt; sig.fors_secret(i).as_slice(), [secret].as_slice());
+        assert_eq!(rt; sig.fors_auth(i, 0).as_slice(), [low].as_slice());
+        assert_eq!(rt; sig.fors_auth(i, 1).as_slice(), [high].as_slice());
+    }
+}
+
+#[test]
+fn values_of_the_layers_by_their_places(rt: HostRuntime) {
+    let sig = SigView::<Toy>::new(&SIGNATURE).unwrap();
+    let rows: [[u8; 7]; 2] = [
+        [0x14, 0x1a, 0x49, 0x2b, 0x57, 0xa3, 0x3e],
+        [0x1e, 0x17, 0x2f, 0x36, 0x20, 0xa3, 0x3e],
+    ];
+    for j in 0..2 {
+        assert_eq!(rt; sig.xmss(j), rows[j].as_slice());
+        for c in 0..5 {
+            assert_eq!(rt; sig.chain(j, c).as_slice(), [rows[j][c]].as_slice());
+        }
+        for z in 0..2 {
+            assert_eq!(rt; sig.auth(j, z).as_slice(), [rows[j][5 + z]].as_slice());
+        }
+    }
+}
+
+#[test]
+fn no_view_of_another_number_of_bytes(rt: HostRuntime) {
+    for len in [0, 1, 20, 22] {
+        assert!(rt;
+            SigView::<Toy>::new(&[0; 22][..len]).is_none(),
+            "of {len} bytes"
+        );
     }
 }

@@ -1,0 +1,137 @@
+//! What is signed for a message with a context (FIPS 205, algorithms 22 and 23).
+ghost use Rattle.std.specs.Prelude.{◌≡◌, ℕ, ◌+◌, ◌≤◌, ◌^◌, List, [], ◌∷◌, ◌++◌, length, take};
+ghost use Rattle.slh_dsa.specs.Frames.{head_of, kept_tail, tail_of};
+
+use digest_core::{AssociatedOid, ObjectIdentifier};
+use hmac_sha256::Hash;
+use sha2::{Digest, Sha512};
+use slh_core::params::MAX_MESSAGE_LEN;
+use std::marker::Model;
+
+/// The bytes of an identifier of a hash function.
+const IDENTIFIER_LEN: usize = 11;
+
+/// The bytes of an identifier and a digest of SHA-256, and of SHA-512.
+const SHA256_LEN: usize = IDENTIFIER_LEN + 32;
+
+const SHA512_LEN: usize = IDENTIFIER_LEN + 64;
+
+/// Whether a message is signed as it is, or by its digest and by which (FIPS 205, section 10.2).
+#[derive(Clone, Copy, Debug, PartialEq, Eq)]
+pub enum Mode {
+    /// The message as it is.
+    Pure,
+    /// Its SHA-256 digest, of 32 bytes.
+    Sha256,
+    /// Its SHA-512 digest, of 64 bytes.
+    Sha512,
+}
+
+impl Mode {
+    // The first byte of what is signed: whether it has a digest.
+    fn number(self) -> u8
+        ensures { (context : List ℕ) → head_of self context ≡ result ∷ length context ∷ [] }
+    {
+        match self {
+            Mode::Pure => 0,
+            Mode::Sha256 | Mode::Sha512 => 1,
+        }
+    }
+}
+
+// Puts an identifier of `IDENTIFIER_LEN` bytes and a digest at the front of `out`.
+fn put_digest(id: &ObjectIdentifier, digest: &[u8], out: &mut [u8; SHA512_LEN])
+    requires id { length id.now ≡ 9 }
+    requires digest { length digest.now ≤ 64 }
+    ensures { take (11 + length digest.now) out.new ≡ (0x06 ∷ 9 ∷ id.now) ++ digest.now }
+{
+    let mut der = [0u8; 41];
+    id.der(&mut der);
+    let (front, back) = out.split_at_mut(IDENTIFIER_LEN);
+    front.copy_from_slice(&der[..IDENTIFIER_LEN]);
+    back[..digest.len()].copy_from_slice(digest);
+}
+
+// An identifier and a digest of a message, where the mode has one.
+fn hashed(mode: Mode, msg: &[u8]) -> [u8; SHA512_LEN]
+    requires { length msg.now ≤ 2 ^ 60 }
+    ensures value { kept_tail mode msg.now result ≡ tail_of mode msg.now }
+    ensures short { length (kept_tail mode msg.now result) ≤ 2 ^ 60 }
+{
+    let mut out = [0u8; SHA512_LEN];
+    match mode {
+        Mode::Pure => {}
+        Mode::Sha256 => put_digest(&Hash::oid(), &Hash::hash(msg), &mut out),
+        Mode::Sha512 => put_digest(&ObjectIdentifier::sha512(), &Sha512::digest(msg), &mut out),
+    }
+    out
+}
+
+/// What is signed for a message with a context: a head of two bytes, the context, and the message or
+/// an identifier and a digest. It takes no memory.
+#[derive(Drop)]
+pub struct Frame<'a> {
+    head: [u8; 2],
+    ctx: &'a [u8],
+    msg: &'a [u8],
+    hashed: [u8; SHA512_LEN],
+    mode: Mode,
+}
+
+impl<'a> Model for Frame<'a> {
+    ghost use Rattle.slh_dsa.specs.Frames.{Framed, kept_tail};
+
+    ghost Value = { Framed };
+
+    ghost view = { λ f. record {
+      head = f.head;
+      ctx = f.ctx.now;
+      tail = kept_tail f.mode f.msg.now f.hashed;
+    } };
+}
+
+impl<'a> Frame<'a> {
+    /// What is signed for a message of at most 2^60 bytes with a context of at most 255.
+    pub fn new(mode: Mode, ctx: &'a [u8], msg: &'a [u8]) -> Self
+        requires ctx { length ctx.now ≤ 255 }
+        requires msg { length msg.now ≤ 2 ^ 60 }
+        ensures head { result.head ≡ head_of mode ctx.now }
+        ensures ctx { result.ctx ≡ ctx.now }
+        ensures tail { result.tail ≡ tail_of mode msg.now }
+        ensures fits { length result.head + length result.ctx + length result.tail
+            ≤ MAX_MESSAGE_LEN }
+    {
+        Frame {
+            head: [mode.number(), ctx.len() as u8],
+            ctx,
+            msg,
+            hashed: hashed(mode, msg),
+            mode,
+        }
+    }
+
+    /// Whether a digest is signed, and the length of the context.
+    pub fn head(&self) -> &[u8]
+        ensures { result.now ≡ self.now.head }
+    {
+        &self.head
+    }
+
+    /// The context.
+    pub fn ctx(&self) -> &[u8]
+        ensures { result.now ≡ self.now.ctx }
+    {
+        self.ctx
+    }
+
+    /// The message, or the identifier of a hash function and the message's digest.
+    pub fn tail(&self) -> &[u8]
+        ensures { result.now ≡ self.now.tail }
+    {
+        match self.mode {
+            Mode::Pure => self.msg,
+            Mode::Sha256 => &self.hashed[..SHA256_LEN],
+            Mode::Sha512 => &self.hashed,
+        }
+    }
+}

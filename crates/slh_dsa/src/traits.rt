@@ -1,0 +1,157 @@
+//! Keys of random bytes (FIPS 205, algorithm 21), and keys and signatures by the traits of
+//! `signature_core`.
+ghost use Rattle.std.specs.Prelude.{◌≡◌, ◌*◌, ◌^◌, ◌≤◌, [], None, Some, length, drop, unwrap_or};
+ghost use Rattle.rand_core.specs.Stream.{fill_bytes};
+ghost use Rattle.slh_core.specs.Steps.{IsFresh};
+ghost use Rattle.slh_trees.specs.Frame.{frame};
+ghost use Rattle.slh_trees.specs.Keys.{IsTrueKey, signing_key_bytes};
+ghost use Rattle.slh_trees.specs.Signing.{signature_of};
+ghost use Rattle.slh_trees.specs.Sizes.{message_refusal};
+ghost use Rattle.slh_dsa.specs.Calls.{verify_error};
+ghost use Rattle.slh_dsa.specs.declared.error.Error.TheVariants.{Memory, MessageTooLong};
+
+use crate::error::Error;
+use crate::frame::Mode;
+use crate::parameter_set::ParameterSet;
+use crate::signature::Signature;
+use crate::signing_key::SigningKey;
+use crate::sizes::{check_message, zeros};
+use crate::verifying_key::VerifyingKey;
+use hybrid_array::{Array, ArraySize};
+use rand_core::Rng;
+use signature_core::{KeypairRef, RandomizedSigner, SignatureEncoding, Signer, Verifier};
+use slh_core::params::{MAX_N, chain_sizes};
+use slh_core::steps::Steps;
+use std::alloc::{AllocError, Global};
+use std::marker::Brand;
+use std::sync::ledger::{Blank, Ledger};
+
+impl<P: ParameterSet> SigningKey<P> {
+    /// A key of random bytes: a generator fills n bytes for the secret seed, n for the PRF key and n
+    /// for the public seed.
+    pub fn new<R: Rng>(rng: &mut R) -> Self
+        ensures key { let n = P.N.USIZE in
+            let sk_seed = fill_bytes n (R.stream rng.old) in
+            let sk_prf = fill_bytes n sk_seed.1 in
+            let pk_seed = fill_bytes n sk_prf.1 in
+            result ≡ signing_key_bytes P.scheme sk_seed.0 sk_prf.0 pk_seed.0 }
+        ensures drawn { let n = P.N.USIZE in
+            let sk_seed = fill_bytes n (R.stream rng.old) in
+            let sk_prf = fill_bytes n sk_seed.1 in
+            R.stream rng.new ≡ (fill_bytes n sk_prf.1).1 }
+        ensures true_key { IsTrueKey P.scheme result }
+        ensures len { length result ≡ 4 * P.N.USIZE }
+    {
+        chain_sizes::<P>();
+        let n = P::N::USIZE;
+        let (mut sk_seed, mut sk_prf, mut pk_seed) = ([0; MAX_N], [0; MAX_N], [0; MAX_N]);
+        rng.fill_bytes(&mut sk_seed[..n]);
+        rng.fill_bytes(&mut sk_prf[..n]);
+        rng.fill_bytes(&mut pk_seed[..n]);
+        SigningKey::slh_keygen_internal(&sk_seed[..n], &sk_prf[..n], &pk_seed[..n]).unwrap()
+    }
+
+    // The signature of a message in these bytes, by n random ones, on a counter that is made here.
+    fn sign_drawn<R: Rng, L: Ledger>(
+        &self,
+        rng: &mut R,
+        msg: &[u8],
+        mut bytes: Array<u8, P::SigLen>,
+        blank: Blank,
+    ) -> Signature<P>
+        requires message { length msg.now ≤ 2 ^ 60 }
+        requires fresh { IsFresh blank L.name L.parts }
+        ensures value { let drawn = fill_bytes P.N.USIZE (R.stream rng.old) in
+            result ≡ signature_of P.scheme self.now (Some drawn.0) (frame [] msg.now) }
+        ensures drawn { R.stream rng.new ≡ (fill_bytes P.N.USIZE (R.stream rng.old)).1 }
+    {
+        chain_sizes::<P>();
+        let mut store = [0; MAX_N];
+        let opt_rand = &mut store[..P::N::USIZE];
+        rng.fill_bytes(opt_rand);
+        let mut steps = Steps::<L>::new(blank);
+        let out = bytes.as_mut_slice();
+        self.hash_sign_checked(Mode::Pure, msg, b"", Some(opt_rand), out, &mut steps);
+        Signature::from_array(bytes)
+    }
+}
+
+/// Signs with an empty context, and without random bytes.
+impl<P: ParameterSet> Signer<Signature<P>> for SigningKey<P> {
+    type Error = Error;
+
+    ghost signs = { λ _ msg. length msg ≤ 2 ^ 60 };
+
+    ghost signature = { λ key msg. signature_of P.scheme key None (frame [] msg) };
+
+    ghost may_refuse = { λ _ msg e. e ≡ unwrap_or (message_refusal MessageTooLong msg) Memory };
+
+    fn try_sign(&self, alloc: Global, msg: &[u8]) -> Result<Signature<P>, Error> {
+        self.try_sign_with_context(alloc, msg, b"", None)
+    }
+}
+
+/// Signs with an empty context, and with n random bytes.
+impl<P: ParameterSet> RandomizedSigner<Signature<P>> for SigningKey<P> {
+    type Error = Error;
+
+    ghost signs = { λ _ msg. length msg ≤ 2 ^ 60 };
+
+    ghost draws = { λ _ _ stream. fill_bytes P.N.USIZE stream };
+
+    ghost signature = { λ key msg drawn. signature_of P.scheme key (Some drawn) (frame [] msg) };
+
+    ghost may_refuse = { λ _ msg e. e ≡ unwrap_or (message_refusal MessageTooLong msg) Memory };
+
+    fn try_sign_with_rng<R: Rng>(
+        &self,
+        alloc: Global,
+        rng: &mut R,
+        msg: &[u8],
+    ) -> Result<Signature<P>, Error> {
+        check_message(msg)?;
+        let bytes = zeros::<P::SigLen>(alloc)?;
+        Ok(self.sign_drawn::<R, Brand>(rng, msg, bytes, Blank::new(1)))
+    }
+}
+
+impl<P: ParameterSet> KeypairRef for SigningKey<P> {
+    type VerifyingKey = VerifyingKey<P>;
+
+    ghost verifying_key = { λ key. drop (2 * P.N.USIZE) key };
+
+    fn verifying_key(&self) -> VerifyingKey<P> {
+        SigningKey::verifying_key(self)
+    }
+}
+
+/// Verifies with an empty context.
+impl<P: ParameterSet> Verifier<Signature<P>> for VerifyingKey<P> {
+    type Error = Error;
+
+    ghost accepts = { λ key msg sig. verify_error P.scheme key [] msg sig ≡ None };
+
+    ghost may_refuse = { λ key msg sig e. verify_error P.scheme key [] msg sig ≡ Some e };
+
+    fn verify(&self, msg: &[u8], signature: &Signature<P>) -> Result<(), Error> {
+        self.try_verify_with_context(msg, b"", signature)
+    }
+}
+
+impl<P: ParameterSet> SignatureEncoding for Signature<P> {
+    type Size = P::SigLen;
+
+    ghost encoding = { λ sig. sig };
+
+    fn to_bytes(&self, alloc: Global) -> Result<Array<u8, P::SigLen>, AllocError> {
+        Signature::to_bytes(self, alloc)
+    }
+
+    fn to_vec(&self, alloc: Global) -> Result<Vec<u8>, AllocError> {
+        Signature::to_vec(self, alloc)
+    }
+
+    fn encoded_len(&self) -> usize {
+        self.as_slice().len()
+    }
+}

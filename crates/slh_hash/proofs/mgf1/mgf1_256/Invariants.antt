@@ -1,8 +1,0 @@
-use Rattle.std.proofs.Common.{◌≡◌, ◌++◌, ◌*◌, take}
-use Rattle.hmac_sha256.specs.Sha256.{sha256}
-use Rattle.slh_core.specs.Bytes.{big_endian, joined}
-use Rattle.slh_hash.proofs.mgf1.mgf1_256.Given as goal
-
--- the first i hashes stand at the front of the blocks
-abbrev pub invariant-loop-i : goal.invariant-loop-i
-invariant-loop-i l = take (l.i * 32) l.blocks ≡ joined (λ i. sha256 (l.seed ++ big_endian i 4)) l.i

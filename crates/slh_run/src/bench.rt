@@ -1,0 +1,367 @@
+//! The words of a bench, and its report (README, "Bench").
+ghost use Rattle.std.specs.Prelude.{◌≡◌, ◌+◌, ◌*◌, ◌^◌, ◌++◌, ◌<◌, ◌≤◌, length, decimal};
+ghost use Rattle.std.specs.Prelude.{IfOk, IfSome, OnOk, IsErrOf};
+ghost use Rattle.hmac_sha256.specs.Sha256.{sha256};
+ghost use Rattle.line_serve.specs.Causes.{Rose};
+ghost use Rattle.line_serve.specs.Engine.{Takes};
+ghost use Rattle.slh_core.specs.Steps.{IsFresh};
+ghost use Rattle.slh_run.specs.Bench.{TellsBench, accepted_count, bench_accepts, bench_count};
+ghost use Rattle.slh_run.specs.Bench.{bench_key as spec_bench_key, bench_message, bench_number};
+ghost use Rattle.slh_run.specs.Bench.{bench_of, bench_prk as spec_bench_prk, bench_signature};
+ghost use Rattle.slh_run.specs.Bench.{bench_signatures, counts_line, digest_line, head_line};
+ghost use Rattle.slh_run.specs.Bench.{bench_report, message_size, outcome_lines, report_in};
+ghost use Rattle.slh_run.specs.EvidenceFields.{field_at};
+ghost use Rattle.slh_run.specs.declared.bench.Stop.TheVariants.{NoMemory, SinkFault};
+ghost use Rattle.slh_trees.specs.Checking.{signature_size};
+
+use crate::decimals::read_digits;
+use crate::set::Set;
+use hmac_sha256::{HKDF, Hash};
+use hybrid_array::ArraySize;
+use itoa::Buffer;
+use line_serve::{ByteString, Failed, Sink, Words, write_all};
+use slh_core::params::{chain_sizes, forest_sizes, layer_sizes};
+use slh_core::steps::Steps;
+use slh_dsa::{Mode, ParameterSet, SigningKey};
+use slh_hash::{Sha2_128f, Sha2_128s, Sha2_192f, Sha2_192s, Sha2_256f, Sha2_256s};
+use std::alloc::{AllocError, Global};
+use std::marker::Brand;
+use std::sync::ledger::{Blank, Ledger};
+
+// How many bytes the longest message has.
+const MAX_MESSAGE: usize = 128;
+
+// How many bytes the three seeds of the largest set have.
+const MAX_SEEDS: usize = 96;
+
+/// What the words of a bench ask for.
+#[derive(Clone, Copy, Debug, PartialEq, Eq)]
+pub(crate) struct Bench {
+    pub(crate) set: Set,
+    pub(crate) number: u64,
+    pub(crate) count: u32,
+}
+
+// Why a report wasn't written to its end.
+#[derive(Clone, Copy, Debug, PartialEq, Eq)]
+enum Stop {
+    SinkFault,
+    NoMemory,
+}
+
+impl From<Failed> for Stop {
+    ghost from_gives = { λ _ e. e ≡ SinkFault };
+
+    fn from(_: Failed) -> Self {
+        Stop::SinkFault
+    }
+}
+
+impl From<AllocError> for Stop {
+    ghost from_gives = { λ _ e. e ≡ NoMemory };
+
+    fn from(_: AllocError) -> Self {
+        Stop::NoMemory
+    }
+}
+
+// The word at an index, with no bytes where there are not so many.
+fn word_at(words: &Words, i: usize) -> &[u8]
+    ensures { result.now ≡ field_at words.now i }
+{
+    match words.get(i) {
+        Some(found) => found,
+        None => &[],
+    }
+}
+
+fn read_number(word: &[u8]) -> Option<u64>
+    ensures { result ≡ bench_number word.now }
+{
+    if word.is_empty() || word.len() > 20 {
+        return None;
+    }
+    read_digits(word, u64::MAX)
+}
+
+fn read_count(word: &[u8]) -> Option<u32>
+    ensures value { result ≡ bench_count word.now }
+    ensures few { IfSome result (λ count. count ≤ 64) }
+{
+    if word.is_empty() || word.len() > 2 {
+        return None;
+    }
+    let count = read_digits(word, 64)?;
+    if count == 0 {
+        return None;
+    }
+    Some(count as u32)
+}
+
+/// What the words ask for, where they are those of a bench.
+pub(crate) fn read_bench(words: &Words) -> Option<Bench>
+    ensures value { result ≡ bench_of words.now }
+    ensures few { IfSome result (λ bench. bench.count ≤ 64) }
+{
+    if words.len() != 4 || word_at(words, 0) != b"bench".as_slice() {
+        return None;
+    }
+    let set = Set::from_name(word_at(words, 1))?;
+    let number = read_number(word_at(words, 2))?;
+    let count = read_count(word_at(words, 3))?;
+    Some(Bench { set, number, count })
+}
+
+// The key that all bytes of the bench are derived from.
+#[tactic(auto, unfolding(crate::specs::Bench::bench_prk))]
+fn bench_prk(number: u64) -> [u8; 32]
+    ensures { result ≡ spec_bench_prk number }
+{
+    HKDF::extract(b"slh-bench", &number.to_be_bytes())
+}
+
+fn bench_key<P: ParameterSet, L: Ledger>(prk: &[u8; 32], steps: &mut Steps<L>) -> SigningKey<P>
+    ensures { result ≡ spec_bench_key P.scheme prk.now }
+{
+    chain_sizes::<P>();
+    let n = P::N::USIZE;
+    let mut store = [0u8; MAX_SEEDS];
+    let seeds = &mut store[..3 * n];
+    HKDF::expand(seeds, prk, b"seeds");
+    let (sk_seed, rest) = seeds.split_at(n);
+    let (sk_prf, pk_seed) = rest.split_at(n);
+    SigningKey::slh_keygen_counted(sk_seed, sk_prf, pk_seed, steps).unwrap()
+}
+
+// Writes message i.
+fn write_message(prk: &[u8; 32], i: u32, msg: &mut [u8])
+    requires { length msg.old ≡ message_size i }
+    ensures { msg.new ≡ bench_message prk.now i }
+{
+    let mut info = *b"message\0\0\0\0";
+    info[7..].copy_from_slice(&i.to_be_bytes());
+    HKDF::expand(msg, prk, &info);
+}
+
+// Writes the signature of message i, and says whether it is accepted.
+fn sign_one<P: ParameterSet, L: Ledger>(
+    key: &SigningKey<P>,
+    prk: &[u8; 32],
+    i: u32,
+    signature: &mut [u8],
+    steps: &mut Steps<L>,
+) -> bool
+    requires few { i < 64 }
+    requires key { key.now ≡ spec_bench_key P.scheme prk.now }
+    requires room { length signature.old ≡ signature_size P.scheme }
+    ensures signature { signature.new ≡ bench_signature P.scheme prk.now i }
+    ensures accepted { result ≡ bench_accepts P.scheme prk.now i }
+{
+    let mut store = [0u8; MAX_MESSAGE];
+    let msg = &mut store[..32 + 61 * i as usize % 97];
+    write_message(prk, i, msg);
+    key.hash_sign_checked(Mode::Pure, msg, b"", None, signature, steps);
+    let public = key.verifying_key();
+    let verdict = public.slh_verify_counted(msg, b"", signature, steps);
+    verdict.is_ok()
+}
+
+// No signature has more bytes.
+fn signature_bound<P: ParameterSet>()
+    ensures { signature_size P.scheme ≤ 2 ^ 18 }
+{
+    layer_sizes::<P>();
+    forest_sizes::<P>();
+}
+
+// The digest of all signatures, and how many of them are accepted.
+#[derive(Drop)]
+struct Outcome {
+    digest: [u8; 32],
+    accepted: u32,
+}
+
+// Signs and verifies the messages, one after the other. The bytes of one signature are kept.
+fn sign_all<P: ParameterSet, L: Ledger>(
+    prk: &[u8; 32],
+    count: u32,
+    signature: &mut [u8],
+    steps: &mut Steps<L>,
+) -> Outcome
+    requires few { count ≤ 64 }
+    requires room { length signature.old ≡ signature_size P.scheme }
+    ensures digest { result.digest ≡ sha256 (bench_signatures P.scheme prk.now count) }
+    ensures accepted { result.accepted ≡ accepted_count P.scheme prk.now count }
+{
+    signature_bound::<P>();
+    let key = bench_key::<P, L>(prk, steps);
+    let mut hash = Hash::new();
+    let mut accepted = 0u32;
+    for i in 0..count {
+        if sign_one::<P, L>(&key, prk, i, signature, steps) {
+            accepted += 1;
+        }
+        hash.update(signature);
+    }
+    Outcome {
+        digest: hash.finalize(),
+        accepted,
+    }
+}
+
+// Puts a number at the end.
+fn push_number(text: &mut ByteString, number: u64) -> Result<(), AllocError>
+    ensures { OnOk result (text.new ≡ text.old ++ decimal number) }
+{
+    let mut buffer = Buffer::new();
+    text.push_slice(buffer.format(number).as_bytes())
+}
+
+// Puts the first line at the end.
+#[tactic(auto, unfolding(crate::specs::Bench::head_line))]
+fn push_head_line(text: &mut ByteString, bench: Bench) -> Result<(), AllocError>
+    ensures { OnOk result (text.new ≡ text.old ++ head_line bench) }
+{
+    text.push_slice(b"bench ")?;
+    text.push_slice(bench.set.name().as_bytes())?;
+    text.push_slice(b" ")?;
+    push_number(text, bench.number)?;
+    text.push_slice(b" ")?;
+    push_number(text, u64::from(bench.count))?;
+    text.push_slice(b"\n")
+}
+
+// Puts the line of the digest at the end.
+fn push_digest_line(text: &mut ByteString, digest: &[u8; 32]) -> Result<(), AllocError>
+    ensures { OnOk result (text.new ≡ text.old ++ digest_line digest.now) }
+{
+    let mut digits = [0u8; 64];
+    hex::encode_to_slice(digest, &mut digits).unwrap();
+    text.push_slice(b"digest ")?;
+    text.push_slice(&digits)?;
+    text.push_slice(b"\n")
+}
+
+// Puts the last line at the end.
+fn push_counts_line(text: &mut ByteString, signed: u32, accepted: u32) -> Result<(), AllocError>
+    ensures { OnOk result (text.new ≡ text.old ++ counts_line signed accepted) }
+{
+    text.push_slice(b"signed ")?;
+    push_number(text, u64::from(signed))?;
+    text.push_slice(b" accepted ")?;
+    push_number(text, u64::from(accepted))?;
+    text.push_slice(b"\n")
+}
+
+fn head_text(alloc: Global, bench: Bench) -> Result<ByteString, AllocError>
+    ensures { IfOk result (λ text. text ≡ head_line bench) }
+{
+    let mut text = ByteString::new(alloc);
+    push_head_line(&mut text, bench)?;
+    Ok(text)
+}
+
+fn outcome_text(alloc: Global, count: u32, outcome: &Outcome) -> Result<ByteString, AllocError>
+    ensures { IfOk result (λ text. text
+        ≡ digest_line outcome.now.digest ++ counts_line count outcome.now.accepted) }
+{
+    let mut text = ByteString::new(alloc);
+    push_digest_line(&mut text, &outcome.digest)?;
+    push_counts_line(&mut text, count, outcome.accepted)?;
+    Ok(text)
+}
+
+fn write_head<K: Sink>(alloc: Global, bench: Bench, sink: &mut K) -> Result<(), Stop>
+    ensures bytes { Takes (K.taken sink.old) (K.taken sink.new) result (head_line bench) }
+    ensures later { K.faults sink.old ≤ K.faults sink.new }
+    ensures cause { IsErrOf result SinkFault → Rose (K.faults sink.old) (K.faults sink.new) }
+{
+    let text = head_text(alloc, bench)?;
+    write_all(sink, text.as_slice())?;
+    Ok(())
+}
+
+// Signs and verifies, and writes the lines after the first.
+#[tactic(auto, unfolding(crate::specs::Bench::outcome_lines))]
+fn write_outcome<P: ParameterSet, L: Ledger, K: Sink>(
+    alloc: Global,
+    bench: Bench,
+    sink: &mut K,
+    signature: &mut [u8],
+    steps: &mut Steps<L>,
+) -> Result<(), Stop>
+    requires few { bench.count ≤ 64 }
+    requires room { length signature.old ≡ signature_size P.scheme }
+    ensures bytes { Takes (K.taken sink.old) (K.taken sink.new) result
+        (outcome_lines P.scheme (spec_bench_prk bench.number) bench.count) }
+    ensures later { K.faults sink.old ≤ K.faults sink.new }
+    ensures cause { IsErrOf result SinkFault → Rose (K.faults sink.old) (K.faults sink.new) }
+{
+    let prk = bench_prk(bench.number);
+    let outcome = sign_all::<P, L>(&prk, bench.count, signature, steps);
+    let text = outcome_text(alloc, bench.count, &outcome)?;
+    write_all(sink, text.as_slice())?;
+    Ok(())
+}
+
+// Writes the report, the first line before anything is signed.
+fn write_report<P: ParameterSet, L: Ledger, K: Sink>(
+    alloc: Global,
+    bench: Bench,
+    sink: &mut K,
+    blank: Blank,
+) -> Result<(), Stop>
+    requires few { bench.count ≤ 64 }
+    requires fresh { IsFresh blank L.name L.parts }
+    ensures bytes { Takes (K.taken sink.old) (K.taken sink.new) result
+        (report_in P.scheme bench) }
+    ensures cause { IsErrOf result SinkFault → Rose (K.faults sink.old) (K.faults sink.new) }
+{
+    let mut steps = Steps::<L>::new(blank);
+    let mut signature = ByteString::zeroed(alloc, P::SigLen::USIZE)?;
+    write_head(alloc, bench, sink)?;
+    write_outcome::<P, L, K>(alloc, bench, sink, signature.as_mut_slice(), &mut steps)
+}
+
+fn report_on<P: ParameterSet, K: Sink>(
+    alloc: Global,
+    bench: Bench,
+    sink: &mut K,
+) -> Result<(), Stop>
+    requires few { bench.count ≤ 64 }
+    ensures bytes { Takes (K.taken sink.old) (K.taken sink.new) result
+        (report_in P.scheme bench) }
+    ensures cause { IsErrOf result SinkFault → Rose (K.faults sink.old) (K.faults sink.new) }
+{
+    write_report::<P, Brand, K>(alloc, bench, sink, Blank::new(1))
+}
+
+// Writes the report of the set that is asked for.
+fn report_on_set<K: Sink>(alloc: Global, bench: Bench, sink: &mut K) -> Result<(), Stop>
+    requires few { bench.count ≤ 64 }
+    ensures bytes { Takes (K.taken sink.old) (K.taken sink.new) result (bench_report bench) }
+    ensures cause { IsErrOf result SinkFault → Rose (K.faults sink.old) (K.faults sink.new) }
+{
+    match bench.set {
+        Set::Sha2_128s => report_on::<Sha2_128s, K>(alloc, bench, sink),
+        Set::Sha2_128f => report_on::<Sha2_128f, K>(alloc, bench, sink),
+        Set::Sha2_192s => report_on::<Sha2_192s, K>(alloc, bench, sink),
+        Set::Sha2_192f => report_on::<Sha2_192f, K>(alloc, bench, sink),
+        Set::Sha2_256s => report_on::<Sha2_256s, K>(alloc, bench, sink),
+        Set::Sha2_256f => report_on::<Sha2_256f, K>(alloc, bench, sink),
+    }
+}
+
+/// Writes the report of a bench, and answers the status of the program: 0 where it was written, 4
+/// where the sink failed, and 6 where there was no memory.
+pub(crate) fn run_bench<K: Sink>(alloc: Global, bench: Bench, sink: &mut K) -> u8
+    requires few { bench.count ≤ 64 }
+    ensures told { TellsBench (K.taken sink.old) (K.taken sink.new) result bench }
+    ensures cause { result ≡ 4 → Rose (K.faults sink.old) (K.faults sink.new) }
+{
+    match report_on_set(alloc, bench, sink) {
+        Ok(()) => 0,
+        Err(Stop::SinkFault) => 4,
+        Err(Stop::NoMemory) => 6,
+    }
+}
