@@ -167,6 +167,7 @@ impl Source for MemSource {
             then source_faults self.old else one_more (source_faults self.old)) }
         ensures number { source_number self.new ≡ min (source_number self.old + 1) (2 ^ 64) }
         ensures fails { source_fails self.new ≡ source_fails self.old }
+        ensures same { OnErr result (buf.new ≡ buf.old) }
     {
         if self.script.next_fails() {
             return Err(Failed);

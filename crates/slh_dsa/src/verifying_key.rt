@@ -72,6 +72,7 @@ impl<P: ParameterSet> VerifyingKey<P> {
         ensures value { RefusedExactly result
             (verify_error P.scheme self.now ctx.now msg.now sig.now) }
         ensures bound { steps.new ≤ steps.old + slh_verify_bound P.scheme }
+        ensures rises { steps.old ≤ steps.new }
         ensures free { IfErr result (λ e. e ≢ Invalid → steps.new ≡ steps.old) }
     {
         self.hash_verify_counted(Mode::Pure, msg, ctx, sig, steps)
@@ -90,6 +91,7 @@ impl<P: ParameterSet> VerifyingKey<P> {
         ensures value { RefusedExactly result
             (hash_verify_error P.scheme mode self.now ctx.now msg.now sig.now) }
         ensures bound { steps.new ≤ steps.old + slh_verify_bound P.scheme }
+        ensures rises { steps.old ≤ steps.new }
         ensures free { IfErr result (λ e. e ≢ Invalid → steps.new ≡ steps.old) }
     {
         Self::check_verify(msg, ctx, sig)?;
@@ -126,6 +128,7 @@ impl<P: ParameterSet> VerifyingKey<P> {
             RefusedExactly result (root_refusal P.scheme self.now message sig.now) }
         ensures only { IfErr result (λ e. e ≡ Invalid) }
         ensures bound { steps.new ≤ steps.old + slh_verify_bound P.scheme }
+        ensures rises { steps.old ≤ steps.new }
     {
         let root = check_root::<P, L>(&self.pk_seed, &self.pk_root, head, ctx, msg, sig, steps);
         if root.as_slice() != self.pk_root.as_slice() {

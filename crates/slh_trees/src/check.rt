@@ -25,6 +25,7 @@ fn root_for_digest<P: ForsParams, L: Ledger>(
     requires { length digest.now ≡ P.M.USIZE }
     ensures value { result ≡ digest_root P.scheme pk_seed.now digest.now sig.now }
     ensures bound { steps.new ≤ steps.old + slh_verify_bound P.scheme }
+    ensures rises { steps.old ≤ steps.new }
 {
     layer_sizes::<P>();
     forest_sizes::<P>();
@@ -50,6 +51,7 @@ pub fn check_root<P: ForsParams, L: Ledger>(
     ensures value { let message = head.now ++ ctx.now ++ msg.now in
         result ≡ checked_root P.scheme pk_seed.now pk_root.now message sig.now }
     ensures bound { steps.new ≤ steps.old + slh_verify_bound P.scheme }
+    ensures rises { steps.old ≤ steps.new }
 {
     forest_sizes::<P>();
     let rand = NBytes::<P::N>::from_view(sig.randomizer());

@@ -102,6 +102,7 @@ pub(crate) fn ht_root<P: HypertreeParams, L: Ledger>(
         result ≡ checked_message K hp idx_tree idx_leaf sig.now m.now P.D.USIZE }
     ensures bound { let hp = P.HPrime.USIZE in
         steps.new ≤ steps.old + ht_verify_bound P.WotsSigLen.USIZE hp P.D.USIZE }
+    ensures rises { steps.old ≤ steps.new }
 {
     layer_sizes::<P>();
     let height = P::HPrime::USIZE;
@@ -137,6 +138,7 @@ pub fn ht_verify<P: HypertreeParams, L: Ledger>(
         IsTrue result ↔ (root ≡ pk_root.now) }
     ensures bound { let hp = P.HPrime.USIZE in
         steps.new ≤ steps.old + ht_verify_bound P.WotsSigLen.USIZE hp P.D.USIZE }
+    ensures rises { steps.old ≤ steps.new }
 {
     let root = ht_root::<P, L>(m, sig, keyed, idx_tree, idx_leaf, steps);
     root.as_slice() == pk_root.as_slice()

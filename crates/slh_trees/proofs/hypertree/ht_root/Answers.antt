@@ -13,6 +13,7 @@ loop-j-init g c =
       below = c.requires.leaf;
       message = c.copy-message.ensures;
       cost = omega arith;
+      rises = omega arith;
     }
 
 pub loop-j-preserved : goal.loop-j-preserved
@@ -27,4 +28,5 @@ loop-j-preserved g c =
       below = rw (← c.USIZE-height.ensures) c.next_place.ensures.below;
       message = rw (c.xmss_pk_from_sig-message.ensures.value, c.tree_adrs_of-at.ensures, i.tree, i.leaf, i.message, c.layer_len-size.ensures.value, ← size) (checked_message-more K hp c.args.idx_tree c.args.idx_leaf c.args.sig.now c.args.m.now c.loop-j.j);
       cost = grind (arith, common_steps);
+      rises = grind (arith, common_steps);
     }

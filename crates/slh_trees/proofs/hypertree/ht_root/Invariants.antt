@@ -15,4 +15,5 @@ invariant-loop-j g l =
       below : l.leaf < 2 ^ hp;
       message : l.message ≡ checked_message K hp l.idx_tree l.idx_leaf l.sig l.fn.m l.j;
       cost : l.steps ≤ l.initial.steps + ht_verify_bound g.P.WotsSigLen.ArraySize.USIZE hp l.j;
+      rises : l.initial.steps ≤ l.steps;
     }
