@@ -1,17 +1,18 @@
-//! What holds of the buffers' calls together, as contracts.
+//! What holds of the buffers' calls together, and of refusals, as contracts.
 
 ghost use Rattle.std.specs.Prelude.{◌≡◌, ℕ, ◌+◌, ◌-◌, ◌≤◌, ◌<◌, List, ◌++◌, length, IfOk};
+ghost use Rattle.std.specs.Prelude.{◌↔◌, IsTrue};
 ghost use Rattle.block_buffer.specs.Blocks.{IsCut};
 ghost use Rattle.block_buffer.specs.Gen.{Reads, blocks_for};
 ghost use Rattle.block_buffer.specs.Serial.{IsSerialized, serialized};
 ghost use Rattle.block_buffer.specs.Sink.{HasRoom, Rose};
 
-use crate::buffer::BlockBuffer;
+use crate::buffer::{BlockBuffer, Error};
 use crate::generator::BlockGen;
 use crate::kind::BufferKind;
 use crate::read::ReadBuffer;
 use crate::serial::SerializedBuffer;
-use crate::sink::BlockSink;
+use crate::sink::{BlockSink, Refused};
 use hybrid_array::ArraySize;
 use std::alloc::{AllocError, Global};
 
@@ -77,4 +78,20 @@ pub fn read_in_two<BS: ArraySize, G: BlockGen<BS>>(
     buffer.read(first, generator);
     buffer.remaining();
     buffer.read(second, generator);
+}
+
+/// A clone of a buffer's refusal is that refusal, and all are equal.
+pub fn clone_and_equality_of_errors(a: &Error, b: &Error) -> (Error, bool)
+    ensures clone { result.0 ≡ a.now }
+    ensures equal { IsTrue result.1 ↔ (a.now ≡ b.now) }
+{
+    (a.clone().unwrap(), a == b)
+}
+
+/// A clone of a sink's refusal is that refusal, and all are equal.
+pub fn clone_and_equality_of_refusals(a: &Refused, b: &Refused) -> (Refused, bool)
+    ensures clone { result.0 ≡ a.now }
+    ensures equal { IsTrue result.1 ↔ (a.now ≡ b.now) }
+{
+    (a.clone().unwrap(), a == b)
 }

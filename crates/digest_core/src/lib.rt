@@ -24,6 +24,7 @@
 #![tactic(auto)]
 
 mod core_api;
+pub mod laws;
 mod oid;
 #[cfg(test)]
 mod tests;

@@ -1,8 +1,9 @@
-//! Laws of arrays, each the contract of a function that makes the calls that it speaks of.
+//! Laws of arrays and of refusals, each the contract of a function that makes the calls that it
+//! speaks of.
 
-ghost use Rattle.std.specs.Prelude.{◌≡◌, ◌+◌, ◌*◌, ◌<◌, IfOk};
+ghost use Rattle.std.specs.Prelude.{◌≡◌, ◌↔◌, ◌+◌, ◌*◌, ◌<◌, IfOk, IsTrue};
 
-use crate::{Array, ArraySize, Flatten, Unflatten};
+use crate::{Array, ArraySize, Flatten, TryFromIteratorError, TryFromSliceError, Unflatten};
 use std::alloc::{AllocError, Global};
 
 /// Two arrays that are joined and cut again, at the first one's size, are both given back.
@@ -32,4 +33,26 @@ pub fn unflatten_then_flatten<T: Drop, N: ArraySize, M: ArraySize, Q: ArraySize>
     let rows: Array<Array<T, Q>, M> = array.unflatten(alloc)?;
     let back = rows.flatten(alloc)?;
     Ok(back)
+}
+
+/// A clone of a length's refusal is that refusal, and all are equal.
+pub fn clone_and_equality_of_slice_errors(
+    a: &TryFromSliceError,
+    b: &TryFromSliceError,
+) -> (TryFromSliceError, bool)
+    ensures clone { result.0 ≡ a.now }
+    ensures equal { IsTrue result.1 ↔ (a.now ≡ b.now) }
+{
+    (a.clone().unwrap(), a == b)
+}
+
+/// A clone of a count's refusal is that refusal, and all are equal.
+pub fn clone_and_equality_of_iterator_errors(
+    a: &TryFromIteratorError,
+    b: &TryFromIteratorError,
+) -> (TryFromIteratorError, bool)
+    ensures clone { result.0 ≡ a.now }
+    ensures equal { IsTrue result.1 ↔ (a.now ≡ b.now) }
+{
+    (a.clone().unwrap(), a == b)
 }

@@ -12,6 +12,7 @@ mod answer;
 mod bytes;
 mod digits;
 mod fields;
+pub mod laws;
 mod lines;
 mod memory;
 mod pending;

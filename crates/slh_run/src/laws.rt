@@ -1,8 +1,9 @@
-//! What benches report, as the contract of a function that does nothing.
-ghost use Rattle.std.specs.Prelude.{◌≡◌, ℕ, List};
+//! What benches report, and what tells sets and refusals apart, as contracts.
+ghost use Rattle.std.specs.Prelude.{◌≡◌, ◌↔◌, ℕ, List, IsTrue};
 ghost use Rattle.slh_run.specs.Bench.{accepted_count};
 ghost use Rattle.slh_run.specs.Sets.{scheme_for};
 
+use crate::job::Error;
 use crate::set::Set;
 use slh_dsa::ParameterSet;
 use slh_dsa::laws::signed_is_accepted;
@@ -27,4 +28,20 @@ pub fn bench_accepts_all(set: Set)
         Set::Sha2_256s => accepts_all_in::<Sha2_256s>(),
         Set::Sha2_256f => accepts_all_in::<Sha2_256f>(),
     }
+}
+
+/// A clone of a set is that set, and `==` holds exactly where both are the same.
+pub fn clone_and_equality_of_sets(a: &Set, b: &Set) -> (Set, bool)
+    ensures clone { result.0 ≡ a.now }
+    ensures equal { IsTrue result.1 ↔ (a.now ≡ b.now) }
+{
+    (a.clone().unwrap(), a == b)
+}
+
+/// A clone of a refusal is that refusal, and `==` holds exactly where both are the same.
+pub fn clone_and_equality_of_errors(a: &Error, b: &Error) -> (Error, bool)
+    ensures clone { result.0 ≡ a.now }
+    ensures equal { IsTrue result.1 ↔ (a.now ≡ b.now) }
+{
+    (a.clone().unwrap(), a == b)
 }
