@@ -24,10 +24,10 @@ use Rattle.slh_core.specs.Suite.{HasLength, HasBytes, seeded}
 use Rattle.slh_trees.specs.Checking.{fors_pk_from_sig, checked_root, digest_root, forest_size, signature_size}
 use Rattle.slh_trees.specs.Fors.{fors_pk, fors_sig}
 use Rattle.slh_trees.specs.Keys.{top_root}
-use Rattle.slh_trees.specs.Hypertree.{ht_sig, layer_message, layer_signature, layer_size, leaf_at, tree_at}
+use Rattle.slh_trees.specs.Hypertree.{ht_sig, layer_message, layer_signature, layer_size, tree_at}
 use Rattle.slh_trees.specs.MessageDigest.{digest_number, split_digest}
 use Rattle.slh_trees.specs.Signing.{digest_signature, signature_with}
-use Rattle.slh_trees.specs.Xmss.{xmss_node, xmss_sig}
+use Rattle.slh_trees.specs.Xmss.{xmss_node}
 
 -- the sizes that hold of every parameter set and signature
 pub record IsSized (D : Dispute) : Type 0 where

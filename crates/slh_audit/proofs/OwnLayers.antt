@@ -1,6 +1,6 @@
 -- Against a layer that is the key's own nothing shows, and its check leads to the key's own root.
-use Rattle.std.proofs.Common.{◌≡◌, ◌↔◌, ℕ, suc, ◌+◌, ◌-◌, ◌*◌, ◌^◌, ◌<◌, ◌≤◌, Bool, true, false, IsTrue, arith, refl, sym, ap, ◌∙◌, add-one}
-use Rattle.std.proofs.Common.{List, [], ◌∷◌, ◌++◌, length, Option, None}
+use Rattle.std.proofs.Common.{◌≡◌, ◌↔◌, ℕ, ◌+◌, ◌-◌, ◌*◌, ◌^◌, ◌<◌, ◌≤◌, Bool, true, false, IsTrue, arith, refl, sym, ap, ◌∙◌, add-one}
+use Rattle.std.proofs.Common.{List, [], ◌∷◌, length, None}
 use Rattle.std.specs.List.{find}
 use Rattle.slh_audit.proofs.Finding.{after_none, head_not, one_not, turn_all_none}
 use Rattle.slh_audit.proofs.Meaning.{Dispute, IsOwn, IsOwnFrom, IsOwnLayer, IsShown, checked_at, own_at, shows_means}
@@ -17,8 +17,8 @@ use Rattle.slh_core.specs.Suite.{HasLength}
 use Rattle.slh_trees.proofs.Climbs.{checked_node-xmss_sig}
 use Rattle.slh_trees.proofs.Layers.{checked_message-more}
 use Rattle.slh_trees.specs.Fors.{fors_pk, fors_sig}
-use Rattle.slh_trees.specs.Checking.{checked_node, fors_pk_from_sig}
-use Rattle.slh_trees.specs.Hypertree.{ht_sig, layer_message, layer_signature, layer_size, leaf_at, tree_at}
+use Rattle.slh_trees.specs.Checking.{fors_pk_from_sig}
+use Rattle.slh_trees.specs.Hypertree.{ht_sig, layer_signature, layer_size, leaf_at, tree_at}
 
 pub not_true : (b : Bool) → ¬ IsTrue b → b ≡ false
 not_true true fails = absurd (fails refl)

@@ -13,7 +13,7 @@ use slh_core::nbytes::NBytes;
 use slh_core::params::{ForsParams, MAX_ROOTS_LEN, forest_sizes, layer_sizes};
 use slh_core::parts::put_part;
 use slh_core::steps::Steps;
-use slh_trees::fors::{fors_node, fors_pk_from_sig};
+use slh_trees::fors::{fors_node, fors_pk_from_sig, roots_len};
 use slh_trees::hypertree::{layer_len, next_place, tree_adrs_of};
 use slh_trees::xmss::{at_leaf, xmss_node, xmss_pk_from_sig};
 use std::marker::Model;
@@ -161,12 +161,11 @@ impl<'a, P: ForsParams> Dispute<'a, P> {
             let D = dispute_on Z self.now in
             result ≡ fors_pk D.K D.sk D.t D.l D.k D.a }
     {
-        forest_sizes::<P>();
-        let len = P::K::USIZE * P::N::USIZE;
         let adrs = ForsTree::new(self.tree, self.leaf);
-        let mut roots = [0u8; MAX_ROOTS_LEN];
-        self.own_roots::<L>(&mut roots[..len], steps);
-        P::t(&self.keyed, &adrs.fors_roots(), &roots[..len], steps)
+        let mut store = [0u8; MAX_ROOTS_LEN];
+        let roots = &mut store[..roots_len::<P>()];
+        self.own_roots::<L>(roots, steps);
+        P::t(&self.keyed, &adrs.fors_roots(), roots, steps)
     }
 
     /// The message that the key signs on a layer.

@@ -9,16 +9,16 @@ ghost use Rattle.slh_core.specs.Digits.{digits};
 ghost use Rattle.slh_trees.specs.Checking.{checked_fors_node};
 ghost use Rattle.slh_trees.specs.Fors.{fors_leaf, fors_node as spec_fors_node, leaf_index};
 
-use crate::layer::{collide, nodes_collide};
+use crate::layer::{collide, hashes_collide, nodes_collide};
 use hybrid_array::ArraySize;
-use slh_core::address::ForsTree;
+use slh_core::address::{ForsRoots, ForsTree};
 use slh_core::digits::base_2b;
 use slh_core::nbytes::NBytes;
-use slh_core::params::{ForsParams, MAX_FORS_TREES, MAX_ROOTS_LEN, forest_sizes};
+use slh_core::params::{ForsParams, MAX_FORS_TREES, MAX_ROOTS_LEN, chain_sizes, forest_sizes};
 use slh_core::parts::part_of;
 use slh_core::steps::Steps;
 use slh_trees::climb::climb_path;
-use slh_trees::fors::{climb_all, fors_node, fors_sk_gen, index_of, opened_len};
+use slh_trees::fors::{climb_all, fors_node, fors_sk_gen, index_of, opened_len, roots_len};
 use slh_trees::node::{NodeAddress, sibling};
 use std::sync::ledger::Ledger;
 
@@ -30,9 +30,9 @@ fn named_leaf<P: ForsParams>(md: &[u8], tree: u32) -> u32
     ensures below { result < P.K.USIZE * 2 ^ P.A.USIZE }
 {
     forest_sizes::<P>();
-    let k = P::K::USIZE;
-    let mut digits = [0u16; MAX_FORS_TREES];
-    base_2b(md, P::A::USIZE as u32, &mut digits[..k]);
+    let mut store = [0u16; MAX_FORS_TREES];
+    let digits = &mut store[..P::K::USIZE];
+    base_2b(md, P::A::USIZE as u32, digits);
     index_of::<P>(tree as usize, digits[tree as usize])
 }
 
@@ -68,7 +68,6 @@ fn own_leaf<P: ForsParams, L: Ledger>(
 }
 
 /// Whether the secret that is opened in a tree shows.
-#[tactic(auto, unfolding(crate::specs::Evidence::fors_secret_shows, slh_trees::specs::Checking::checked_fors_node, slh_trees::specs::Merkle::climb))]
 pub(crate) fn fors_secret_shows<P: ForsParams, L: Ledger>(
     sk_seed: &NBytes<P::N>,
     keyed: &P::Keyed,
@@ -87,7 +86,7 @@ pub(crate) fn fors_secret_shows<P: ForsParams, L: Ledger>(
         result ≡ spec_fors_secret_shows K sk_seed.now
         adrs.now.tree_adrs_low adrs.now.key_pair_adrs a sig.now x tree }
 {
-    forest_sizes::<P>();
+    chain_sizes::<P>();
     let y = named_leaf::<P>(md, tree);
     let (first, _) = opened_parts::<P>(sig, tree as usize);
     let secret = NBytes::<P::N>::exact(first);
@@ -159,10 +158,10 @@ fn checked_roots<P: ForsParams, L: Ledger>(
         out.new ≡ joined (λ i. checked_fors_node K t l a sig.now x i a) P.K.USIZE }
 {
     forest_sizes::<P>();
-    let k = P::K::USIZE;
-    let mut digits = [0u16; MAX_FORS_TREES];
-    base_2b(md, P::A::USIZE as u32, &mut digits[..k]);
-    climb_all::<P, L>(&digits[..k], sig, keyed, adrs, out, steps);
+    let mut store = [0u16; MAX_FORS_TREES];
+    let digits = &mut store[..P::K::USIZE];
+    base_2b(md, P::A::USIZE as u32, digits);
+    climb_all::<P, L>(digits, sig, keyed, adrs, out, steps);
 }
 
 /// Whether the roots of the forest show, beside those of the key's own.
@@ -189,11 +188,8 @@ pub(crate) fn fors_roots_show<P: ForsParams, L: Ledger>(
         result ≡ spec_fors_roots_show K sk_seed.now
         adrs.now.tree_adrs_low adrs.now.key_pair_adrs a sig.now x P.K.USIZE md.now }
 {
-    forest_sizes::<P>();
-    let len = P::K::USIZE * P::N::USIZE;
-    let mut roots = [0u8; MAX_ROOTS_LEN];
-    checked_roots::<P, L>(keyed, adrs, sig, md, &mut roots[..len], steps);
-    let key = P::t(keyed, &adrs.fors_roots(), &roots[..len], steps);
-    let own_key = P::t(keyed, &adrs.fors_roots(), own, steps);
-    collide(&roots[..len], own, key.as_slice(), own_key.as_slice())
+    let mut store = [0u8; MAX_ROOTS_LEN];
+    let roots = &mut store[..roots_len::<P>()];
+    checked_roots::<P, L>(keyed, adrs, sig, md, roots, steps);
+    hashes_collide::<P, ForsRoots, L>(keyed, &adrs.fors_roots(), roots, own, steps)
 }

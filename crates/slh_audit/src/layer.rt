@@ -1,6 +1,6 @@
 //! Whether evidence of one layer shows.
 ghost use Rattle.std.specs.Prelude.{take, drop, ◌≡◌, ◌↔◌, ℕ, ◌+◌, ◌-◌, ◌*◌, ◌/◌, ◌^◌, ◌<◌, ◌≤◌};
-ghost use Rattle.std.specs.Prelude.{length, slice_index, IsTrue};
+ghost use Rattle.std.specs.Prelude.{List, length, slice_index, IsTrue};
 ghost use Rattle.std.specs.Str.{bytes_eq};
 ghost use Rattle.slh_core.specs.Digits.{wots_digits};
 ghost use Rattle.slh_audit.specs.Evidence.{collide as spec_collide};
@@ -13,13 +13,15 @@ ghost use Rattle.slh_core.specs.Wots.{chain_value};
 ghost use Rattle.slh_core.specs.Parameters.{chain_count};
 ghost use Rattle.slh_trees.specs.Hypertree.{layer_size};
 
+use crate::sizes::ends_len;
 use hybrid_array::ArraySize;
-use slh_core::address::{HashTree, WotsHash};
+use slh_core::address::{Address, HashTree, WotsHash, WotsPk};
 use slh_core::digits::message_digits;
 use slh_core::nbytes::NBytes;
 use slh_core::params::{MAX_ENDS_LEN, WotsParams, XmssParams, chain_sizes, tree_sizes};
 use slh_core::parts::{part_of, put_part};
 use slh_core::steps::Steps;
+use slh_core::suite::HashSuite;
 use slh_core::wots::{finish_chains, own_chain, wots_chain, wots_pk_from_sig};
 use slh_trees::climb::climb_path;
 use slh_trees::node::sibling;
@@ -38,6 +40,26 @@ pub(crate) fn collide(input: &[u8], own_input: &[u8], output: &[u8], own_output:
     ensures { result ≡ spec_collide input.now own_input.now output.now own_output.now }
 {
     input != own_input && output == own_output
+}
+
+/// Whether two inputs differ and their hashes at an address are equal.
+pub(crate) fn hashes_collide<P: HashSuite, A: Address, L: Ledger>(
+    keyed: &P::Keyed,
+    adrs: &A,
+    input: &[u8],
+    own_input: &[u8],
+    steps: &mut Steps<L>,
+) -> bool
+    requires input { length input.now ≤ MAX_ENDS_LEN }
+    requires own_input { length own_input.now ≤ MAX_ENDS_LEN }
+    ensures { let K = P.keyed_suite keyed.now in
+        let hash : List ℕ → List ℕ = λ m. K.suite.t K.seed (A.bytes adrs.now) m in
+        let own = own_input.now in
+        result ≡ spec_collide input.now own (hash input.now) (hash own) }
+{
+    let output = P::t(keyed, adrs, input, steps);
+    let own_output = P::t(keyed, adrs, own_input, steps);
+    collide(input, own_input, output.as_slice(), own_output.as_slice())
 }
 
 /// Whether a node's children aren't both the key's own, and the node is.
@@ -129,7 +151,6 @@ fn own_ends<P: WotsParams, L: Ledger>(
 }
 
 /// Whether the ends of the chains show.
-#[tactic(auto, using(slh_core::proofs::DigitSteps::wots_digits_below), unfolding(slh_core::specs::Wots::wots_pk_from_sig, slh_core::specs::Wots::wots_pk, crate::specs::Evidence::leaf_shows))]
 pub(crate) fn leaf_shows<P: XmssParams, L: Ledger>(
     sk_seed: &NBytes<P::N>,
     keyed: &P::Keyed,
@@ -146,21 +167,16 @@ pub(crate) fn leaf_shows<P: XmssParams, L: Ledger>(
 {
     tree_sizes::<P>();
     let len = P::WotsSigLen::USIZE;
-    let size = len * P::N::USIZE;
+    let size = ends_len::<P>();
     let all = message_digits(message);
-    let mut ends = [0u8; MAX_ENDS_LEN];
+    let mut store = [0u8; MAX_ENDS_LEN];
+    let ends = &mut store[..size];
     let (chains, _) = layer_parts::<P>(sig);
-    finish_chains::<P, L>(&all[..len], chains, keyed, adrs, &mut ends[..size], steps);
-    let mut own = [0u8; MAX_ENDS_LEN];
-    own_ends::<P, L>(sk_seed, keyed, adrs, &mut own[..size], steps);
-    let leaf = P::t(keyed, &adrs.pk_adrs(), &ends[..size], steps);
-    let own_leaf = P::t(keyed, &adrs.pk_adrs(), &own[..size], steps);
-    collide(
-        &ends[..size],
-        &own[..size],
-        leaf.as_slice(),
-        own_leaf.as_slice(),
-    )
+    finish_chains::<P, L>(&all[..len], chains, keyed, adrs, ends, steps);
+    let mut own_store = [0u8; MAX_ENDS_LEN];
+    let own = &mut own_store[..size];
+    own_ends::<P, L>(sk_seed, keyed, adrs, own, steps);
+    hashes_collide::<P, WotsPk, L>(keyed, &adrs.pk_adrs(), ends, own, steps)
 }
 
 /// The digit of a message that belongs to a chain.

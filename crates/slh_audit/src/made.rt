@@ -7,18 +7,16 @@ ghost use Rattle.slh_trees.specs.Fors.{fors_pk, fors_sig};
 
 use crate::dispute::Dispute;
 use crate::layer::same;
+use crate::sizes::{MAX_FOREST_LEN, forest_len};
 use hybrid_array::ArraySize;
 use slh_core::address::ForsTree;
 use slh_core::nbytes::NBytes;
-use slh_core::params::{ForsParams, MAX_FORS_TREES, MAX_OPENED_LEN, forest_sizes, layer_sizes};
+use slh_core::params::{ForsParams, layer_sizes};
 use slh_core::steps::Steps;
 use slh_trees::fors::fors_sign_root;
 use slh_trees::hypertree::layer_len;
 use slh_trees::xmss::{xmss_pk_from_sig, xmss_sign_root};
 use std::sync::ledger::Ledger;
-
-// The most bytes of a forest's part of a signature.
-const MAX_FOREST_LEN: usize = MAX_FORS_TREES * MAX_OPENED_LEN;
 
 // The most bytes of a layer's part, within what `layer_len` promises.
 const MAX_LAYER_LEN: usize = 4096;
@@ -43,10 +41,8 @@ impl<'a, P: ForsParams> Dispute<'a, P> {
             let D = dispute_on Z self.now in
             result.1 ≡ fors_pk D.K D.sk D.t D.l D.k D.a }
     {
-        forest_sizes::<P>();
-        let len = P::K::USIZE * ((1 + P::A::USIZE) * P::N::USIZE);
         let mut store = [0u8; MAX_FOREST_LEN];
-        let own = &mut store[..len];
+        let own = &mut store[..forest_len::<P>()];
         let (sk_seed, keyed) = (&self.sk_seed, &self.keyed);
         let adrs = ForsTree::new(self.tree, self.leaf);
         let key = fors_sign_root::<P, L>(self.md, sk_seed, keyed, &adrs, own, steps);

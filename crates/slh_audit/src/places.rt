@@ -14,6 +14,7 @@ use slh_core::address::ForsTree;
 use slh_core::nbytes::NBytes;
 use slh_core::params::{ForsParams, MAX_ROOTS_LEN, forest_sizes, layer_sizes};
 use slh_core::steps::Steps;
+use slh_trees::fors::roots_len;
 use std::sync::ledger::Ledger;
 
 impl<'a, P: ForsParams> Dispute<'a, P> {
@@ -127,14 +128,12 @@ impl<'a, P: ForsParams> Dispute<'a, P> {
             P.HPrime.USIZE P.D.USIZE P.A.USIZE P.K.USIZE in
             result ≡ spec_shows (dispute_on Z self.now) ForsRoots }
     {
-        forest_sizes::<P>();
         let adrs = ForsTree::new(self.tree, self.leaf);
-        let len = P::K::USIZE * P::N::USIZE;
-        let mut own = [0u8; MAX_ROOTS_LEN];
-        self.own_roots::<L>(&mut own[..len], steps);
+        let mut store = [0u8; MAX_ROOTS_LEN];
+        let own = &mut store[..roots_len::<P>()];
+        self.own_roots::<L>(own, steps);
         let (sig, md) = (self.forest, self.md);
-        let roots = &own[..len];
-        forest::fors_roots_show::<P, L>(&self.sk_seed, &self.keyed, &adrs, sig, md, roots, steps)
+        forest::fors_roots_show::<P, L>(&self.sk_seed, &self.keyed, &adrs, sig, md, own, steps)
     }
 
     /// Whether the secret that is opened in a tree of the forest shows.

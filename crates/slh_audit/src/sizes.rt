@@ -1,13 +1,37 @@
 //! The checks of sizes that come before anything is hashed.
-ghost use Rattle.std.specs.Prelude.{◌≡◌, ◌≤◌, ◌*◌, ◌^◌, length, IfOk, OnOk};
+ghost use Rattle.std.specs.Prelude.{◌≡◌, ◌≤◌, ◌+◌, ◌*◌, ◌^◌, length, IfOk, OnOk};
 ghost use Rattle.slh_audit.specs.Verdicts.{length_refusals, size_refusal};
 ghost use Rattle.slh_trees.specs.Sizes.{RefusedExactly};
 
 use crate::evidence::AuditError;
 use hybrid_array::ArraySize;
-use slh_core::params::{ForsParams, forest_sizes};
+use slh_core::params::{
+    ForsParams, MAX_ENDS_LEN, MAX_FORS_TREES, MAX_OPENED_LEN, WotsParams, chain_sizes, forest_sizes,
+};
 use slh_trees::SigView;
+use slh_trees::fors::opened_len;
 use slh_trees::sizes::{MAX_CONTEXT, MAX_MESSAGE};
+
+/// The most bytes of a forest's part of a signature.
+pub(crate) const MAX_FOREST_LEN: usize = MAX_FORS_TREES * MAX_OPENED_LEN;
+
+/// How many bytes the ends of all chains of a key pair have.
+pub(crate) fn ends_len<P: WotsParams>() -> usize
+    ensures value { result ≡ P.WotsSigLen.USIZE * P.N.USIZE }
+    ensures small { result ≤ MAX_ENDS_LEN }
+{
+    chain_sizes::<P>();
+    P::WotsSigLen::USIZE * P::N::USIZE
+}
+
+/// How many bytes the forest's part of a signature has.
+pub(crate) fn forest_len<P: ForsParams>() -> usize
+    ensures value { result ≡ P.K.USIZE * ((1 + P.A.USIZE) * P.N.USIZE) }
+    ensures small { result ≤ MAX_FOREST_LEN }
+{
+    forest_sizes::<P>();
+    P::K::USIZE * opened_len::<P>()
+}
 
 /// A view of the signature, where the key and the signature have their lengths.
 pub(crate) fn check_lengths<'a, P: ForsParams>(

@@ -133,6 +133,15 @@ pub fn opened_len<P: ForsParams>() -> usize
     (1 + P::A::USIZE) * P::N::USIZE
 }
 
+/// How many bytes the roots of all trees of the forest have.
+pub fn roots_len<P: ForsParams>() -> usize
+    ensures value { result ≡ P.K.USIZE * P.N.USIZE }
+    ensures small { result ≤ MAX_ROOTS_LEN }
+{
+    forest_sizes::<P>();
+    P::K::USIZE * P::N::USIZE
+}
+
 /// Writes the signature of the digest's first part: it opens one secret in each tree, which the
 /// part's digits name (FIPS 205, algorithm 16).
 pub fn fors_sign<P: ForsParams, L: Ledger>(
@@ -215,13 +224,13 @@ pub fn fors_pk_from_sig<P: ForsParams, L: Ledger>(
     ensures cost { steps.new ≡ steps.old + fors_pk_from_sig_cost P.K.USIZE P.A.USIZE }
 {
     forest_sizes::<P>();
-    let k = P::K::USIZE;
-    let len = k * P::N::USIZE;
-    let mut digits = [0u16; MAX_FORS_TREES];
-    base_2b(md, P::A::USIZE as u32, &mut digits[..k]);
-    let mut roots = [0u8; MAX_ROOTS_LEN];
-    climb_all::<P, L>(&digits[..k], sig, keyed, adrs, &mut roots[..len], steps);
-    P::t(keyed, &adrs.fors_roots(), &roots[..len], steps)
+    let mut store = [0u16; MAX_FORS_TREES];
+    let digits = &mut store[..P::K::USIZE];
+    base_2b(md, P::A::USIZE as u32, digits);
+    let mut roots_store = [0u8; MAX_ROOTS_LEN];
+    let roots = &mut roots_store[..roots_len::<P>()];
+    climb_all::<P, L>(digits, sig, keyed, adrs, roots, steps);
+    P::t(keyed, &adrs.fors_roots(), roots, steps)
 }
 
 /// Climbs from each opened secret to the root of its tree, in all trees together.

@@ -1,4 +1,4 @@
-use Rattle.std.proofs.Common.{◌≡◌, ◌∙◌, length, refl, sym}
+use Rattle.std.proofs.Common.{◌≡◌, ◌∙◌, length, sym}
 use Rattle.std.proofs.lemmas.Slice.Eq.{bytes_eq-Decides}
 use Rattle.slh_audit.proofs.Binding.{sized_dispute}
 use Rattle.slh_audit.proofs.Judging.{by_search, own_is_genuine}

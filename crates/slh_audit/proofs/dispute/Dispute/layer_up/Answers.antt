@@ -1,6 +1,6 @@
-use Rattle.std.proofs.Common.{◌≡◌, ◌↔◌, ◌+◌, IsTrue, refl, ◌∙◌, add-one}
+use Rattle.std.proofs.Common.{◌≡◌, ◌+◌, refl, ◌∙◌, add-one}
 use Rattle.slh_audit.proofs.OwnLayers.{checked_up, own_layer_told}
-use Rattle.slh_audit.specs.Evidence.{IsOwnLayer, dispute_on, own_at}
+use Rattle.slh_audit.specs.Evidence.{dispute_on, own_at}
 use Rattle.slh_core.specs.Parameters.{scheme_of}
 use Rattle.slh_trees.proofs.Layers.{checked_message-more}
 use Rattle.slh_trees.specs.Fors.{fors_pk}
