@@ -5,7 +5,7 @@ use crate::serial::array_of;
 use crate::{BlockGen, ReadBuffer};
 use hybrid_array::ArrayMut;
 use hybrid_array::sizes::U4;
-use std::alloc::AllocError;
+use std::alloc::{AllocError, Global};
 
 // Gives the bytes 0, 1, 2 and so on, and after 255 again 0.
 #[derive(Drop)]
@@ -31,27 +31,48 @@ fn from_zero() -> Counting {
     Counting { next: 0, blocks: 0 }
 }
 
+// A buffer of which six bytes were read, and the bytes 6 and 7 weren't.
+fn with_two_unread() -> ReadBuffer<U4> {
+    let mut buffer = ReadBuffer::<U4>::default();
+    buffer.read(&mut [0; 6], &mut from_zero());
+    buffer
+}
+
 #[test]
-fn pieces_follow_one_another(rt: HostRuntime) -> Result<(), AllocError> {
+fn pieces_follow_one_another(rt: HostRuntime) {
     let mut generator = from_zero();
     let mut buffer = ReadBuffer::<U4>::default();
     let mut out = [0; 3];
     buffer.read(&mut out, &mut generator);
-    assert_eq!(rt; out, [0, 1, 2]);
+    assert!(rt; out == [0, 1, 2]);
     buffer.read(&mut out, &mut generator);
-    assert_eq!(rt; out, [3, 4, 5]);
-    assert_eq!(rt;
-        (buffer.get_pos(), buffer.remaining(), buffer.size()),
-        (2, 2, 4)
-    );
-    let bytes = buffer.serialize(rt.alloc())?;
-    assert_eq!(rt; bytes.as_slice(), [2, 0, 6, 7].as_slice());
+    assert!(rt; out == [3, 4, 5]);
+    assert!(rt; buffer.get_pos() == 2 && buffer.remaining() == 2 && buffer.size() == 4);
+}
+
+fn is_serialized_as(alloc: Global, expected: &[u8]) -> Result<bool, AllocError> {
+    Ok(with_two_unread().serialize(alloc)?.as_slice() == expected)
+}
+
+#[test]
+fn a_read_buffer_is_its_position_zeros_and_unread_bytes(rt: HostRuntime) {
+    assert!(rt; is_serialized_as(rt.alloc(), &[2, 0, 6, 7]) == Ok(true));
+}
+
+#[test]
+fn cached_bytes_are_read_once(rt: HostRuntime) {
+    let mut buffer = with_two_unread();
+    assert!(rt; buffer.read_cached(1) == [6].as_slice());
+    assert!(rt; buffer.read_cached(9) == [7].as_slice());
+    assert!(rt; buffer.read_cached(1).is_empty());
+}
+
+#[test]
+fn a_copy_has_unread_bytes_of_its_own(rt: HostRuntime) {
+    let mut buffer = with_two_unread();
     let mut copy = buffer.clone();
-    assert_eq!(rt; buffer.read_cached(1), [6].as_slice());
-    assert_eq!(rt; buffer.read_cached(9), [7].as_slice());
-    assert_eq!(rt; buffer.read_cached(1), [].as_slice());
-    assert_eq!(rt; copy.read_cached(2), [6, 7].as_slice());
-    Ok(())
+    buffer.read_cached(2);
+    assert!(rt; copy.read_cached(2) == [6, 7].as_slice());
 }
 
 #[test]
@@ -61,8 +82,20 @@ fn two_pieces_are_as_one(rt: HostRuntime) {
     let mut first = [0; 3];
     let mut second = [0; 6];
     read_in_two(&mut buffer, &mut first, &mut second, &mut generator);
-    assert_eq!(rt; (first, second), ([0, 1, 2], [3, 4, 5, 6, 7, 8]));
-    assert_eq!(rt; (generator.blocks, buffer.remaining()), (3, 3));
+    assert!(rt; first == [0, 1, 2] && second == [3, 4, 5, 6, 7, 8]);
+    assert!(rt; generator.blocks == 3 && buffer.remaining() == 3);
+}
+
+// Whether the bytes count up from the first.
+fn is_counting(bytes: &[u8], first: u8) -> bool {
+    let mut next = first;
+    for byte in bytes {
+        if *byte != next {
+            return false;
+        }
+        next = next.wrapping_add(1);
+    }
+    true
 }
 
 // How long pieces are, one after another, and how many blocks they take in all.
@@ -83,12 +116,18 @@ fn no_block_is_made_that_is_not_needed(rt: HostRuntime) {
     ] {
         let mut out = [0u8; 9];
         buffer.read(&mut out[..len], &mut generator);
-        for i in 0..len {
-            assert_eq!(rt; out[i], next, "byte {i} of {len}");
-            next = next.wrapping_add(1);
-        }
-        assert_eq!(rt; generator.blocks, blocks, "{len} bytes");
+        assert!(rt; is_counting(&out[..len], next), "{len} bytes from {next}");
+        assert!(rt; generator.blocks == blocks, "{len} bytes from {next}");
+        next = next.wrapping_add(len as u8);
     }
+}
+
+#[test]
+fn no_byte_written_makes_no_block(rt: HostRuntime) {
+    let mut generator = from_zero();
+    let mut buffer = ReadBuffer::<U4>::default();
+    buffer.write_block(&mut generator, &mut []);
+    assert!(rt; generator.blocks == 0 && buffer.remaining() == 0);
 }
 
 #[test]
@@ -96,25 +135,43 @@ fn a_written_block_replaces_what_was_unread(rt: HostRuntime) {
     let mut generator = from_zero();
     let mut buffer = ReadBuffer::<U4>::default();
     let mut out = [9; 4];
-    buffer.write_block(&mut generator, &mut out[..0]);
-    assert_eq!(rt; (generator.blocks, buffer.remaining()), (0, 0));
     buffer.write_block(&mut generator, &mut out[..1]);
-    assert_eq!(rt; out, [0, 9, 9, 9]);
+    assert!(rt; out == [0, 9, 9, 9]);
     buffer.write_block(&mut generator, &mut out[..3]);
-    assert_eq!(rt; out, [4, 5, 6, 9]);
-    assert_eq!(rt; buffer.read_cached(4), [7].as_slice());
-    buffer.write_block(&mut generator, &mut out);
-    assert_eq!(rt; out, [8, 9, 10, 11]);
-    assert_eq!(rt; buffer.remaining(), 0);
-    buffer.write_block(&mut generator, &mut out[..1]);
-    buffer.reset();
-    assert_eq!(rt; (buffer.remaining(), buffer.get_pos()), (0, 4));
+    assert!(rt; out == [4, 5, 6, 9]);
+    assert!(rt; buffer.read_cached(4) == [7].as_slice());
 }
 
-// What the bytes of a read buffer give: how many are unread, or none.
 #[test]
-fn a_read_buffer_accepts_its_own_bytes_alone(rt: HostRuntime) -> Result<(), AllocError> {
-    let table = [
+fn a_whole_written_block_leaves_nothing_unread(rt: HostRuntime) {
+    let mut generator = Counting { next: 8, blocks: 2 };
+    let mut buffer = ReadBuffer::<U4>::default();
+    let mut out = [9; 4];
+    buffer.write_block(&mut generator, &mut out);
+    assert!(rt; out == [8, 9, 10, 11]);
+    assert!(rt; buffer.remaining() == 0);
+}
+
+#[test]
+fn a_reset_forgets_what_was_unread(rt: HostRuntime) {
+    let mut buffer = ReadBuffer::<U4>::default();
+    buffer.write_block(&mut from_zero(), &mut [9]);
+    buffer.reset();
+    assert!(rt; buffer.remaining() == 0 && buffer.get_pos() == 4);
+}
+
+// How many bytes are unread in the read buffer that gave these, if one did.
+fn unread_of(alloc: Global, bytes: &[u8; 4]) -> Result<Option<usize>, AllocError> {
+    let array = array_of::<U4>(bytes.to_vec(alloc)?);
+    match ReadBuffer::<U4>::deserialize(&array) {
+        Ok(buffer) => Ok(Some(buffer.remaining())),
+        Err(_) => Ok(None),
+    }
+}
+
+#[test]
+fn a_read_buffer_accepts_its_own_bytes_alone(rt: HostRuntime) {
+    for (bytes, unread) in [
         ([2, 0, 6, 7], Some(2)),
         ([2, 1, 6, 7], None),
         ([1, 5, 6, 7], Some(3)),
@@ -123,15 +180,7 @@ fn a_read_buffer_accepts_its_own_bytes_alone(rt: HostRuntime) -> Result<(), Allo
         ([4, 0, 0, 1], None),
         ([4, 1, 0, 0], None),
         ([5, 0, 0, 0], None),
-    ];
-    for (bytes, unread) in table {
-        let array = array_of::<U4>(bytes.to_vec(rt.alloc())?);
-        let result = ReadBuffer::<U4>::deserialize(&array);
-        assert_eq!(rt;
-            result.ok().map(|buffer| buffer.remaining()),
-            unread,
-            "{bytes:?}"
-        );
+    ] {
+        assert!(rt; unread_of(rt.alloc(), &bytes) == Ok(unread), "{bytes:?}");
     }
-    Ok(())
 }

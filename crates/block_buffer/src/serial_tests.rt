@@ -1,36 +1,72 @@
 //! Buffers as bytes, on values worked by hand.
 
+ghost use Rattle.std.specs.Prelude.{◌≡◌, ◌+◌, ◌<◌, length};
+
 use crate::laws::{accepted_bytes, serialized_buffer};
 use crate::serial::array_of;
-use crate::{EagerBuffer, LazyBuffer};
+use crate::{BlockBuffer, BufferKind, Eager, EagerBuffer, Lazy, LazyBuffer};
 use hybrid_array::sizes::{U4, U5};
-use std::alloc::AllocError;
+use hybrid_array::{Array, ArraySize};
+use std::alloc::{AllocError, Global};
 
-#[test]
-fn an_eager_buffer_is_its_position_data_and_zeros(rt: HostRuntime) -> Result<(), AllocError> {
-    let buffer = EagerBuffer::<U4>::new(&[9, 8]);
-    let bytes = buffer.serialize::<U4>(rt.alloc())?;
-    assert_eq!(rt; bytes.as_slice(), [2, 9, 8, 0].as_slice());
+fn is_eager_serialized_as(alloc: Global, expected: &[u8]) -> Result<bool, AllocError> {
+    let bytes = EagerBuffer::<U4>::new(&[9, 8]).serialize::<U4>(alloc)?;
     accepted_bytes(&bytes);
-    let restored = serialized_buffer::<_, _, U4>(rt.alloc(), &buffer)?;
-    assert_eq!(rt; restored.get_data(), [9, 8].as_slice());
-    Ok(())
+    Ok(bytes.as_slice() == expected)
 }
 
 #[test]
-fn a_full_lazy_buffer_is_its_position_and_data(rt: HostRuntime) -> Result<(), AllocError> {
-    let buffer = LazyBuffer::<U4>::new(&[1, 2, 3, 4]);
-    let bytes = buffer.serialize::<U5>(rt.alloc())?;
-    assert_eq!(rt; bytes.as_slice(), [4, 1, 2, 3, 4].as_slice());
-    let restored = serialized_buffer::<_, _, U5>(rt.alloc(), &buffer)?;
-    assert_eq!(rt; restored.get_data(), [1, 2, 3, 4].as_slice());
-    Ok(())
+fn an_eager_buffer_is_its_position_data_and_zeros(rt: HostRuntime) {
+    assert!(rt; is_eager_serialized_as(rt.alloc(), &[2, 9, 8, 0]) == Ok(true));
 }
 
-// What the bytes of an eager buffer give: how many it holds, or none.
+fn is_lazy_serialized_as(alloc: Global, expected: &[u8]) -> Result<bool, AllocError> {
+    let bytes = LazyBuffer::<U4>::new(&[1, 2, 3, 4]).serialize::<U5>(alloc)?;
+    Ok(bytes.as_slice() == expected)
+}
+
 #[test]
-fn an_eager_buffer_accepts_its_own_bytes_alone(rt: HostRuntime) -> Result<(), AllocError> {
-    let table = [
+fn a_full_lazy_buffer_is_its_position_and_data(rt: HostRuntime) {
+    assert!(rt; is_lazy_serialized_as(rt.alloc(), &[4, 1, 2, 3, 4]) == Ok(true));
+}
+
+// Whether the buffer that is restored from a buffer's bytes holds these.
+fn is_restored<K: BufferKind, S: ArraySize>(
+    alloc: Global,
+    buffer: &BlockBuffer<U4, K>,
+    held: &[u8],
+) -> Result<bool, AllocError>
+    requires { S.USIZE ≡ 4 + K.WAITING }
+{
+    Ok(serialized_buffer::<_, _, S>(alloc, buffer)?.get_data() == held)
+}
+
+#[test]
+fn buffers_are_restored(rt: HostRuntime) {
+    let eager = EagerBuffer::<U4>::new(&[9, 8]);
+    assert!(rt; is_restored::<Eager, U4>(rt.alloc(), &eager, &[9, 8]) == Ok(true));
+    let lazy = LazyBuffer::<U4>::new(&[1, 2, 3, 4]);
+    assert!(rt; is_restored::<Lazy, U5>(rt.alloc(), &lazy, &[1, 2, 3, 4]) == Ok(true));
+}
+
+// How many bytes the buffer holds that gave these, if one did.
+fn held_of<K: BufferKind, S: ArraySize>(
+    alloc: Global,
+    bytes: &[u8],
+) -> Result<Option<usize>, AllocError>
+    requires size { S.USIZE ≡ 4 + K.WAITING }
+    requires len { length bytes.now ≡ S.USIZE }
+{
+    let array = array_of::<S>(bytes.to_vec(alloc)?);
+    match BlockBuffer::<U4, K>::deserialize(&array) {
+        Ok(buffer) => Ok(Some(buffer.get_pos())),
+        Err(_) => Ok(None),
+    }
+}
+
+#[test]
+fn an_eager_buffer_accepts_its_own_bytes_alone(rt: HostRuntime) {
+    for (bytes, held) in [
         ([0, 0, 0, 0], Some(0)),
         ([2, 9, 8, 0], Some(2)),
         ([2, 9, 8, 1], None),
@@ -38,49 +74,56 @@ fn an_eager_buffer_accepts_its_own_bytes_alone(rt: HostRuntime) -> Result<(), Al
         ([3, 0, 0, 0], Some(3)),
         ([4, 0, 0, 0], None),
         ([255, 0, 0, 0], None),
-    ];
-    for (bytes, held) in table {
-        let array = array_of::<U4>(bytes.to_vec(rt.alloc())?);
-        let result = EagerBuffer::<U4>::deserialize(&array);
-        assert_eq!(rt;
-            result.ok().map(|buffer| buffer.get_pos()),
-            held,
+    ] {
+        assert!(rt;
+            held_of::<Eager, U4>(rt.alloc(), &bytes) == Ok(held),
             "{bytes:?}"
         );
     }
-    Ok(())
 }
 
 #[test]
-fn a_lazy_buffer_accepts_its_own_bytes_alone(rt: HostRuntime) -> Result<(), AllocError> {
-    let table = [
+fn a_lazy_buffer_accepts_its_own_bytes_alone(rt: HostRuntime) {
+    for (bytes, held) in [
         ([4, 1, 2, 3, 4], Some(4)),
         ([5, 0, 0, 0, 0], None),
         ([3, 1, 2, 3, 4], None),
         ([0, 0, 0, 0, 0], Some(0)),
-    ];
-    for (bytes, held) in table {
-        let array = array_of::<U5>(bytes.to_vec(rt.alloc())?);
-        let result = LazyBuffer::<U4>::deserialize(&array);
-        assert_eq!(rt;
-            result.ok().map(|buffer| buffer.get_pos()),
-            held,
+    ] {
+        assert!(rt;
+            held_of::<Lazy, U5>(rt.alloc(), &bytes) == Ok(held),
             "{bytes:?}"
         );
     }
-    Ok(())
+}
+
+// The block 5, 6, 7, 8.
+fn block(alloc: Global) -> Result<Array<u8, U4>, AllocError> {
+    Ok(array_of::<U4>([5, 6, 7, 8].to_vec(alloc)?))
+}
+
+// Whether a buffer that is set to so many bytes of the block holds these.
+fn is_set_to<K: BufferKind>(
+    alloc: Global,
+    buffer: &mut BlockBuffer<U4, K>,
+    pos: usize,
+    held: &[u8],
+) -> Result<bool, AllocError>
+    requires { pos < 4 + K.WAITING }
+{
+    buffer.set(&block(alloc)?, pos);
+    Ok(buffer.get_data() == held)
 }
 
 #[test]
-fn a_block_is_set_up_to_a_position(rt: HostRuntime) -> Result<(), AllocError> {
-    let block = array_of::<U4>([5, 6, 7, 8].to_vec(rt.alloc())?);
+fn an_eager_buffer_is_set_up_to_a_position(rt: HostRuntime) {
     let mut eager = EagerBuffer::<U4>::new(&[1]);
-    eager.set(&block, 3);
-    assert_eq!(rt; eager.get_data(), [5, 6, 7].as_slice());
+    assert!(rt; is_set_to(rt.alloc(), &mut eager, 3, &[5, 6, 7]) == Ok(true));
+}
+
+#[test]
+fn a_lazy_buffer_is_set_to_a_block_and_to_nothing(rt: HostRuntime) {
     let mut lazy = LazyBuffer::<U4>::new(&[1]);
-    lazy.set(&block, 4);
-    assert_eq!(rt; lazy.get_data(), [5, 6, 7, 8].as_slice());
-    lazy.set(&block, 0);
-    assert_eq!(rt; lazy.get_pos(), 0);
-    Ok(())
+    assert!(rt; is_set_to(rt.alloc(), &mut lazy, 4, &[5, 6, 7, 8]) == Ok(true));
+    assert!(rt; is_set_to(rt.alloc(), &mut lazy, 0, &[]) == Ok(true));
 }

@@ -120,9 +120,9 @@ fn new_sum() -> CoreWrapper<Summing>
 fn sums_of_pieces(rt: HostRuntime) {
     let mut out = [0u8];
     digest_of_two(new_sum(), b"abcde", b"fg", &mut out);
-    assert_eq!(rt; out[0], 188);
+    assert!(rt; out[0] == 188);
     digest_of_two(new_sum(), b"", b"", &mut out);
-    assert_eq!(rt; out[0], 0);
+    assert!(rt; out[0] == 0);
 }
 
 // The example of the crate's first page.
@@ -133,12 +133,12 @@ fn digests_on_the_way_and_after_a_reset(rt: HostRuntime) {
     hash.update(&[6]);
     let mut digest = [0];
     hash.finalize_with(&[9], &mut digest);
-    assert_eq!(rt; digest, [30]);
+    assert!(rt; digest == [30]);
     hash.finalize_into_reset(&mut digest);
-    assert_eq!(rt; digest, [21]);
+    assert!(rt; digest == [21]);
     hash.update(&[7]);
     hash.finalize_into(&mut digest);
-    assert_eq!(rt; digest, [7]);
+    assert!(rt; digest == [7]);
 }
 
 #[test]
@@ -146,20 +146,29 @@ fn a_clone_goes_on_alone(rt: HostRuntime) {
     let mut out = [0u8];
     let mut hash = new_sum();
     hash.update(b"abcde");
-    assert_eq!(rt; hash.absorbed(), 5);
+    assert!(rt; hash.absorbed() == 5);
     let mut copy = hash.clone();
     copy.update(b"fg");
     copy.finalize_into(&mut out);
-    assert_eq!(rt; out[0], 188);
+    assert!(rt; out[0] == 188);
     hash.finalize_with(b"fg", &mut out);
-    assert_eq!(rt; out[0], 188);
+    assert!(rt; out[0] == 188);
+}
+
+#[test]
+fn a_hash_begins_anew_after_a_reset(rt: HostRuntime) {
+    let mut out = [0u8];
+    let mut hash = new_sum();
+    hash.update(b"abcde");
+    hash.finalize_with(b"fg", &mut out);
+    assert!(rt; out[0] == 188);
     hash.finalize_into_reset(&mut out);
-    assert_eq!(rt; out[0], 239);
-    assert_eq!(rt; hash.absorbed(), 0);
+    assert!(rt; out[0] == 239);
+    assert!(rt; hash.absorbed() == 0);
     hash.update(b"a");
     hash.reset();
     hash.finalize_into(&mut out);
-    assert_eq!(rt; out[0], 0);
+    assert!(rt; out[0] == 0);
 }
 
 // Whether `der` writes these bytes for the arcs.
@@ -196,7 +205,7 @@ fn object_identifier_of_sha512(rt: HostRuntime) {
     let mut out = [0; 41];
     let count = ObjectIdentifier::sha512().der(&mut out);
     let expected = [6, 9, 0x60, 0x86, 0x48, 1, 0x65, 3, 4, 2, 3];
-    assert_eq!(rt; out[..count], expected[..]);
+    assert!(rt; out[..count] == expected[..]);
 }
 
 #[test]
@@ -208,23 +217,27 @@ fn object_identifier_of_sha256(rt: HostRuntime) {
 
 #[test]
 fn arcs_that_are_refused(rt: HostRuntime) {
-    assert_eq!(rt; refusal_of(&[]), Some(OidError::TooFew));
-    assert_eq!(rt; refusal_of(&[2]), Some(OidError::TooFew));
-    assert_eq!(rt; refusal_of(&[3]), Some(OidError::TooFew));
-    assert_eq!(rt; refusal_of(&[1, 40]), Some(OidError::Range));
-    assert_eq!(rt; refusal_of(&[0, 40]), Some(OidError::Range));
-    assert_eq!(rt; refusal_of(&[3, 1]), Some(OidError::Range));
-    let mut ones = [1u32; 41];
-    ones[0] = 2;
-    ones[1] = 0;
-    assert_eq!(rt; refusal_of(&ones[..40]), None);
-    assert_eq!(rt; refusal_of(&ones), Some(OidError::TooLong));
-    ones[0] = 3;
-    assert_eq!(rt; refusal_of(&ones), Some(OidError::Range));
+    assert!(rt; refusal_of(&[]) == Some(OidError::TooFew));
+    assert!(rt; refusal_of(&[2]) == Some(OidError::TooFew));
+    assert!(rt; refusal_of(&[3]) == Some(OidError::TooFew));
+    assert!(rt; refusal_of(&[1, 40]) == Some(OidError::Range));
+    assert!(rt; refusal_of(&[0, 40]) == Some(OidError::Range));
+    assert!(rt; refusal_of(&[3, 1]) == Some(OidError::Range));
 }
 
 #[test]
-fn octets_at_the_bounds(rt: HostRuntime) {
+fn more_than_39_octets_are_refused(rt: HostRuntime) {
+    let mut ones = [1u32; 41];
+    ones[0] = 2;
+    ones[1] = 0;
+    assert!(rt; refusal_of(&ones[..40]) == None);
+    assert!(rt; refusal_of(&ones) == Some(OidError::TooLong));
+    ones[0] = 3;
+    assert!(rt; refusal_of(&ones) == Some(OidError::Range));
+}
+
+#[test]
+fn octets_of_two_arcs_at_the_bounds(rt: HostRuntime) {
     assert!(rt; has_der(&[0, 0], &[6, 1, 0]));
     assert!(rt; has_der(&[0, 39], &[6, 1, 39]));
     assert!(rt; has_der(&[1, 0], &[6, 1, 40]));
@@ -234,6 +247,10 @@ fn octets_at_the_bounds(rt: HostRuntime) {
     assert!(rt; has_der(&[2, 47], &[6, 1, 127]));
     assert!(rt; has_der(&[2, 48], &[6, 2, 0x81, 0]));
     assert!(rt; has_der(&[2, u32::MAX], &[6, 5, 0x90, 0x80, 0x80, 0x80, 0x4f]));
+}
+
+#[test]
+fn octets_of_third_arcs_at_the_bounds(rt: HostRuntime) {
     assert!(rt; has_der(&[1, 2, 127], &[6, 2, 42, 127]));
     assert!(rt; has_der(&[1, 2, 128], &[6, 3, 42, 0x81, 0]));
     assert!(rt; has_der(&[1, 2, 16383], &[6, 3, 42, 0xff, 0x7f]));

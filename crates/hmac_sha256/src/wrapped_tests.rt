@@ -34,25 +34,34 @@ fn digest_of_two<H: FixedOutput>(mut hash: H, first: &[u8], second: &[u8]) -> [u
     digest
 }
 
+fn is_digest(first: &[u8], second: &[u8], expected: &[u8; 32]) -> bool
+    requires { length first.now + length second.now ≤ 200 }
+{
+    digest_of_two(Hash::new(), first, second) == *expected
+}
+
+fn is_wrapped_digest(first: &[u8], second: &[u8], expected: &[u8; 32]) -> bool
+    requires { length first.now + length second.now ≤ 200 }
+{
+    let hash = WrappedHash::from_core(Hash::new());
+    digest_of_two(hash, first, second) == *expected
+}
+
 #[test]
 fn core_and_hash_give_published_digests(rt: HostRuntime) {
-    assert_eq!(rt; digest_of_two(Hash::new(), b"a", b"bc"), OF_ABC);
-    assert_eq!(rt; digest_of_two(Hash::new(), b"", b""), OF_NOTHING);
-    assert_eq!(rt;
-        digest_of_two(WrappedHash::from_core(Hash::new()), b"a", b"bc"),
-        OF_ABC
-    );
-    assert_eq!(rt;
-        digest_of_two(WrappedHash::from_core(Hash::new()), b"", b""),
-        OF_NOTHING
-    );
+    assert!(rt; is_digest(b"a", b"bc", &OF_ABC));
+    assert!(rt; is_digest(b"", b"", &OF_NOTHING));
+    assert!(rt; is_wrapped_digest(b"a", b"bc", &OF_ABC));
+    assert!(rt; is_wrapped_digest(b"", b"", &OF_NOTHING));
+}
+
+#[test]
+fn a_digest_is_the_same_wherever_pieces_are_cut(rt: HostRuntime) {
     let bytes = [0x2a; 200];
     for cut in [0usize, 1, 63, 64, 65, 128, 199, 200] {
         let (first, second) = bytes.split_at(cut);
-        let wrapped = WrappedHash::from_core(Hash::new());
-        assert_eq!(rt;
-            digest_of_two(wrapped, first, second),
-            OF_200_BYTES,
+        assert!(rt;
+            is_wrapped_digest(first, second, &OF_200_BYTES),
             "cut at {cut}"
         );
     }
@@ -67,11 +76,11 @@ fn tails_of_a_wrapped_hash(rt: HostRuntime) {
         hash.update(first);
         let mut digest = [0; 32];
         hash.finalize_with(tail, &mut digest);
-        assert_eq!(rt; digest, OF_200_BYTES, "tail from {cut}");
+        assert!(rt; digest == OF_200_BYTES, "tail from {cut}");
         let mut copy = hash.clone();
         copy.update(tail);
         copy.finalize_into(&mut digest);
-        assert_eq!(rt; digest, OF_200_BYTES, "clone at {cut}");
+        assert!(rt; digest == OF_200_BYTES, "clone at {cut}");
     }
 }
 
@@ -81,24 +90,29 @@ fn a_reset_begins_anew(rt: HostRuntime) {
     let mut hash = WrappedHash::from_core(Hash::new());
     hash.update(b"abc");
     hash.finalize_into_reset(&mut digest);
-    assert_eq!(rt; digest, OF_ABC);
+    assert!(rt; digest == OF_ABC);
     hash.finalize_into_reset(&mut digest);
-    assert_eq!(rt; digest, OF_NOTHING);
+    assert!(rt; digest == OF_NOTHING);
+}
+
+#[test]
+fn a_reset_of_a_core_begins_anew(rt: HostRuntime) {
+    let mut digest = [0; 32];
     let mut core = Hash::new();
     Update::update(&mut core, b"abc");
     core.finalize_into_reset(&mut digest);
-    assert_eq!(rt; digest, OF_ABC);
+    assert!(rt; digest == OF_ABC);
     Update::update(&mut core, b"x");
     core.reset();
     core.finalize_into(&mut digest);
-    assert_eq!(rt; digest, OF_NOTHING);
+    assert!(rt; digest == OF_NOTHING);
 }
 
 #[test]
 fn name_and_object_identifier(rt: HostRuntime) {
-    assert_eq!(rt; Hash::alg_name(), "Sha256");
+    assert!(rt; Hash::alg_name() == "Sha256");
     let mut out = [0; 41];
     let count = Hash::oid().der(&mut out);
     let expected = [6, 9, 0x60, 0x86, 0x48, 1, 0x65, 3, 4, 2, 1];
-    assert_eq!(rt; out[..count], expected[..]);
+    assert!(rt; out[..count] == expected[..]);
 }

@@ -3,11 +3,12 @@
 ghost use Rattle.std.specs.Prelude.{◌≡◌, ◌==◌, ◌↔◌, ◌+◌, ◌≤◌, ◌++◌, ◌∷◌, [], length, take, drop, IsOk, OnOk, OnErr, slice_set};
 
 use crate::sizes::{U1, U2, U4};
+use crate::tests::holds;
 use crate::{
     Array, ArrayMut, ArraySize, ChunksMut, TryFromSliceError, chunks_and_rest_mut,
     first_and_rest_mut, halves_mut, whole_mut, with_part_mut, with_whole_mut,
 };
-use std::test::Fail;
+use std::alloc::Global;
 
 // In place of `Array::slice_as_mut_array`.
 fn copy_if<T: Copy, U: ArraySize>(slice: &mut [T], src: &[T]) -> bool
@@ -170,36 +171,76 @@ fn set_by_index(array: &mut Array<u8, U4>)
 }
 
 #[test]
-fn what_the_callers_prove_is_written(rt: HostRuntime) -> Result<(), Fail> {
+fn copies_by_an_option(rt: HostRuntime) {
     let mut items = [1u8, 2, 3, 4];
     assert!(rt; copy_if::<u8, U4>(&mut items, &[5, 6, 7, 8]));
-    assert_eq!(rt; items.as_slice(), [5, 6, 7, 8].as_slice());
+    assert!(rt; items == [5, 6, 7, 8]);
     assert!(rt; !copy_if::<u8, U2>(&mut items, &[5, 6]));
+}
+
+#[test]
+fn copies_by_a_result(rt: HostRuntime) {
+    let mut items = [5u8, 6, 7, 8];
     assert!(rt; try_copy::<u8, U4>(&mut items, &[4, 3, 2, 1]).is_ok());
     assert!(rt; try_copy::<u8, U2>(&mut items, &[4, 3]).is_err());
+    assert!(rt; items == [4, 3, 2, 1]);
+}
+
+#[test]
+fn an_item_by_a_closure_of_a_whole_slice(rt: HostRuntime) {
+    let mut items = [4u8, 3, 2, 1];
     assert!(rt; try_set_within(&mut items).is_ok());
     assert!(rt; try_set_within(&mut items[..3]).is_err());
-    assert_eq!(rt; items.as_slice(), [4, 7, 2, 1].as_slice());
+    assert!(rt; items == [4, 7, 2, 1]);
+}
+
+#[test]
+fn items_of_a_view_and_of_a_core_array(rt: HostRuntime) {
+    let mut items = [4u8, 7, 2, 1];
     set_in_view(&mut items);
     set_core(&mut items);
-    assert_eq!(rt; items.as_slice(), [4, 7, 8, 7].as_slice());
+    assert!(rt; items == [4, 7, 8, 7]);
+}
+
+#[test]
+fn one_item_and_items_of_a_view_by_its_reference(rt: HostRuntime) {
+    let mut items = [4u8, 7, 1, 7];
     set_item(&mut items[0]);
-    items[2] = 1;
     set_and_write(&mut items);
-    assert_eq!(rt; items.as_slice(), [7, 7, 8, 7].as_slice());
+    assert!(rt; items == [7, 7, 8, 7]);
+}
+
+#[test]
+fn a_chunk_and_the_rest(rt: HostRuntime) {
     let mut items = [1u8, 2, 3, 4, 5];
     set_chunk_and_rest(&mut items);
-    assert_eq!(rt; items.as_slice(), [1, 2, 1, 2, 9].as_slice());
+    assert!(rt; items == [1, 2, 1, 2, 9]);
+}
+
+#[test]
+fn an_item_of_the_first_items(rt: HostRuntime) {
+    let mut items = [1u8, 2, 1, 2, 9];
     assert!(rt; set_first(&mut items));
     assert!(rt; !set_first(&mut items[..3]));
-    assert_eq!(rt; items.as_slice(), [1, 7, 1, 2, 9].as_slice());
+    assert!(rt; items == [1, 7, 1, 2, 9]);
+}
+
+#[test]
+fn a_part_of_the_chunks(rt: HostRuntime) {
     let mut items = [5u8, 5, 5, 5, 5, 5];
     set_in_chunks(&mut items);
-    assert_eq!(rt; items.as_slice(), [1, 2, 7, 5, 5, 5].as_slice());
-    let mut array = Array::<u8, U4>::default(rt.alloc())?;
+    assert!(rt; items == [1, 2, 7, 5, 5, 5]);
+}
+
+fn with_written_halves(alloc: Global) -> Option<Array<u8, U4>> {
+    let mut array = Array::<u8, U4>::default(alloc).ok()?;
     copy_halves::<u8, U4, U2, U2>(&mut array, &[1, 2], &[3, 4]);
     set_by_index(&mut array);
     set_by_view(&mut array);
-    assert_eq!(rt; array.as_slice(), [1, 7, 8, 7].as_slice());
-    Ok(())
+    Some(array)
+}
+
+#[test]
+fn halves_and_items_of_an_array(rt: HostRuntime) {
+    assert!(rt; holds(with_written_halves(rt.alloc()), &[1, 7, 8, 7]));
 }
