@@ -5,6 +5,32 @@
 //! [`check_evidence`] tells anybody who has the key whether one [`Evidence`] shows. Both take no
 //! memory: what is compared is made again on the stack, of which a call takes less than 128 kB. The
 //! largest buffer there holds a forest's part of a signature, in 34,816 bytes.
+//!
+//! The verdict on a signature of a message with an empty context, by a key of the toy suite, and
+//! whether evidence shows against it. The test `example_of_the_page_of_audits` of `slh_tests` runs
+//! this:
+//!
+//! ```
+//! use slh_audit::{AuditError, Evidence, Verdict, audit, check_evidence};
+//! use slh_trees::toy::Toy;
+//!
+//! const KEY: [u8; 4] = [5, 7, 3, 0xe1];
+//!
+//! const MESSAGE: [u8; 1] = [0x48];
+//!
+//! fn verdict(signature: &[u8]) -> Result<Verdict, AuditError> {
+//!     audit::<Toy>(&KEY, &[], &MESSAGE, signature)
+//! }
+//!
+//! fn shows(signature: &[u8], evidence: Evidence) -> Result<bool, AuditError> {
+//!     check_evidence::<Toy>(&KEY, &[], &MESSAGE, signature, &evidence)
+//! }
+//! ```
+//!
+//! Where byte 9 of the key's own signature is 0x48 in place of 0x49, the key accepts it, and the
+//! verdict is `Foreign` with [`Evidence::ChainStep`]: a value that the key doesn't make, from which
+//! a step of the chain leads where it leads from the key's. Each refusal comes for the cause that
+//! its variant of [`AuditError`] names, the first in the order of the variants.
 #![tactic(auto)]
 
 mod calls;
@@ -15,12 +41,8 @@ pub mod laws;
 mod layer;
 mod made;
 mod places;
-#[cfg(test)]
-mod places_tests;
 mod search;
 mod sizes;
-#[cfg(test)]
-mod tests;
 
 pub use calls::{audit, audit_framed, check_evidence, check_evidence_framed};
 pub use evidence::{AuditError, Evidence, Verdict};

@@ -3,7 +3,7 @@
 //! A port of the Rust crate `slh-dsa` 0.1.0. A key is made of three seeds of n bytes each, which
 //! have to be random and secret (the third is public); it signs a message with a context of up to
 //! 255 bytes, and what it signs its verifying key accepts with the same message and context. The
-//! test `example_of_the_page` runs this:
+//! test `example_of_the_page` of `slh_tests` runs this:
 //!
 //! ```
 //! use slh_dsa::{Error, Sha2_128f, Signature, SigningKey, VerifyingKey};
@@ -30,23 +30,15 @@
 //! its variant of [`Error`] names, the first in the order of the variants.
 #![tactic(auto)]
 
-#[cfg(test)]
-mod changed_tests;
 mod error;
 mod frame;
 pub mod laws;
 mod parameter_set;
 mod signature;
-#[cfg(test)]
-mod signature_tests;
 mod signing;
 mod signing_key;
 mod sizes;
-#[cfg(test)]
-mod tests;
 mod traits;
-#[cfg(test)]
-mod traits_tests;
 mod verifying_key;
 
 pub use error::Error;

@@ -2,19 +2,33 @@
 //!
 //! [`run`] answers one [`Job`], and [`serve`] the job lines of a whole source. The ends of the
 //! program and the engine for lines are those of `line_serve`, handed on by name.
+//!
+//! The status of a run over some lines, and the replies. The test `example_of_the_page_of_lines` of
+//! `slh_run_tests` runs this on a line that asks for a key, `SLH-DSA-SHA2-128f keygen` and three
+//! seeds of 32 hexadecimal digits each, whose reply is `key`, the signing key and the verifying
+//! key:
+//!
+//! ```
+//! use slh_run::{MemSink, MemSource, Words, serve};
+//! use std::alloc::{AllocError, Global};
+//!
+//! fn replies(alloc: Global, lines: &[u8]) -> Result<(u8, Vec<u8>), AllocError> {
+//!     let mut source = MemSource::new(lines.to_vec(alloc)?, Vec::new(alloc));
+//!     let mut sink = MemSink::new(alloc, Vec::new(alloc));
+//!     let status = serve(alloc, &Words::new(alloc), &mut source, &mut sink);
+//!     Ok((status, sink.bytes().to_vec(alloc)?))
+//! }
+//! ```
+//!
+//! The second argument of `MemSource::new` and `MemSink::new` lists the calls that are to fail;
+//! here none. A line that isn't answered has a reply of `error` and the cause, and the run goes on.
+//! The status is 0 where each line has its reply; [`serve`] has the others. A [`Job`] is refused
+//! for the first cause in the order of [`Error`].
 #![tactic(auto)]
 
-#[cfg(test)]
-mod audit_tests;
 mod bench;
-#[cfg(test)]
-mod bench_tests;
 mod decimals;
 mod evidence;
-#[cfg(test)]
-mod fault_tests;
-#[cfg(test)]
-mod hash_tests;
 mod job;
 mod judge;
 pub mod laws;
@@ -22,12 +36,6 @@ mod program;
 mod reply;
 mod request;
 mod set;
-#[cfg(test)]
-mod set_tests;
-#[cfg(test)]
-mod size_tests;
-#[cfg(test)]
-mod tests;
 
 pub use job::{Answer, Error, Job};
 pub use judge::run;

@@ -1,14 +1,45 @@
 //! XMSS trees, the hypertree and FORS (FIPS 205, sections 6 to 8), over any hash suite.
 //!
 //! The crate below, `slh_core`, has suites, addresses, sizes, digits and key pairs. Their names
-//! stand here too.
+//! stand here too. [`toy::Toy`] is a suite of one byte for tests, whose values can be computed by
+//! hand; it hides nothing. No call takes memory.
+//!
+//! Whether a verifying key of the toy suite, the bytes 0x03 and 0xe1, accepts a signature of the
+//! message 0x48 with an empty context (FIPS 205, algorithms 20 and 24). The test
+//! `example_of_the_page_of_trees` of `slh_tests` runs this, with `Brand` for the ledger and
+//! `Blank::new(1)` for the count of hash calls:
+//!
+//! ```
+//! ghost use Rattle.slh_core.specs.Steps.{IsFresh};
+//!
+//! use slh_trees::sizes::frame_head;
+//! use slh_trees::toy::Toy;
+//! use slh_trees::{NBytes, SigView, Steps, check_root};
+//! use std::sync::ledger::{Blank, Ledger};
+//!
+//! fn accepts<L: Ledger>(signature: &[u8], blank: Blank) -> bool
+//!     requires fresh { IsFresh blank L.name L.parts }
+//! {
+//!     let Some(view) = SigView::<Toy>::new(signature) else {
+//!         return false;
+//!     };
+//!     let mut steps = Steps::<L>::new(blank);
+//!     let (seed, root) = (NBytes::exact(&[3]), NBytes::exact(&[0xe1]));
+//!     let head = frame_head(&[]);
+//!     let found = check_root::<Toy, L>(&seed, &root, &head, &[], &[0x48], &view, &mut steps);
+//!     found == root
+//! }
+//! ```
+//!
+//! [`SigView::new`] and [`NBytes::from_slice`] refuse a wrong number of bytes, and no other call
+//! refuses: what the others need of lengths and places stands in their `requires`. Their contracts
+//! give the exact bytes, by the definitions in `specs/`, and how many hash calls are made, exactly
+//! or at most.
 #![tactic(auto)]
 
 pub mod check;
 pub mod climb;
 mod climb_rows;
-#[cfg(test)]
-mod counting;
 pub mod digest;
 pub mod fors;
 pub mod hypertree;
@@ -19,8 +50,6 @@ pub mod root;
 pub mod sig_view;
 pub mod sizes;
 mod subtree;
-#[cfg(test)]
-mod tests;
 pub mod toy;
 mod treehash;
 pub mod xmss;

@@ -1,0 +1,26 @@
+//! Tests of `slh_trees`, `slh_audit` and `slh_dsa` from outside: the toy suite, whose values were
+//! worked by hand, and known keys of SLH-DSA-SHA2-128f.
+#![tactic(auto)]
+
+#[cfg(test)]
+mod audits;
+#[cfg(test)]
+mod changed;
+#[cfg(test)]
+mod counting;
+#[cfg(test)]
+mod keys;
+#[cfg(test)]
+mod layers;
+#[cfg(test)]
+mod page_of_audits;
+#[cfg(test)]
+mod page_of_trees;
+#[cfg(test)]
+mod places;
+#[cfg(test)]
+mod signatures;
+#[cfg(test)]
+mod traits;
+#[cfg(test)]
+mod trees;

@@ -1,0 +1,38 @@
+//! The example of the page of `slh_trees`.
+ghost use Rattle.slh_core.specs.Steps.{IsFresh};
+
+use slh_trees::sizes::frame_head;
+use slh_trees::toy::Toy;
+use slh_trees::{NBytes, SigView, Steps, check_root};
+use std::marker::Brand;
+use std::sync::ledger::{Blank, Ledger};
+
+fn accepts<L: Ledger>(signature: &[u8], blank: Blank) -> bool
+    requires fresh { IsFresh blank L.name L.parts }
+{
+    let Some(view) = SigView::<Toy>::new(signature) else {
+        return false;
+    };
+    let mut steps = Steps::<L>::new(blank);
+    let (seed, root) = (NBytes::exact(&[3]), NBytes::exact(&[0xe1]));
+    let head = frame_head(&[]);
+    let found = check_root::<Toy, L>(&seed, &root, &head, &[], &[0x48], &view, &mut steps);
+    found == root
+}
+
+// The signature of the message by the key of secret seed 5, PRF key 7 and public seed 3, worked by
+// hand from the definitions.
+const SIGNATURE: [u8; 21] = [
+    0x52, 0x52, 0x34, 0x89, 0x73, 0x3b, 0x15, 0x14, 0x1a, 0x49, 0x2b, 0x57, 0xa3, 0x3e, 0x1e, 0x17,
+    0x2f, 0x36, 0x20, 0xa3, 0x3e,
+];
+
+#[test]
+fn example_of_the_page_of_trees(rt: HostRuntime) {
+    assert!(rt; accepts::<Brand>(&SIGNATURE, Blank::new(1)));
+    assert!(rt; !accepts::<Brand>(&SIGNATURE[..20], Blank::new(1)));
+    // The root is 228 then.
+    let mut changed = SIGNATURE;
+    changed[18] = 0x21;
+    assert!(rt; !accepts::<Brand>(&changed, Blank::new(1)));
+}
