@@ -8,19 +8,17 @@
 //! The buffers keep their bytes in places of their own, of which there are 255. Only the calls that
 //! are given an allocator take memory: those that answer an array.
 //!
-//! A sink that appends to an array of its own, and what two pieces make of it:
+//! What two pieces make, over a sink that keeps what it takes: 0 to 11 went there, and the buffer
+//! holds 12. The test `example_of_the_page` runs this, and the tests have the sink, `Recorder`:
 //!
-//!     impl BlockSink<U4> for Recorder {
-//!         ghost state = { λ s. record { stands = λ m. ⊤; room = None } };
-//!         ghost refusals = { λ s. s.refusals };
-//!         fn take(&mut self, blocks: &Chunks<'_, u8, U4>) -> Result<(), Refused> { .. }
-//!     }
-//!
+//! ```
+//! fn cut(sink: &mut Recorder) -> Result<EagerBuffer<U4>, Refused> {
 //!     let mut buffer = EagerBuffer::<U4>::default();
-//!     buffer.digest_blocks(&[0, 1, 2, 3, 4, 5, 6, 7, 8, 9], &mut sink)?;
-//!     buffer.digest_blocks(&[10, 11, 12], &mut sink)?;
-//!     // The sink took 0 to 11, and the buffer holds 12.
-//!     let block = buffer.pad_with_zeros(alloc)?;    // 12, 0, 0, 0
+//!     buffer.digest_blocks(&[0, 1, 2, 3, 4, 5, 6, 7, 8, 9], sink)?;
+//!     buffer.digest_blocks(&[10, 11, 12], sink)?;
+//!     Ok(buffer)
+//! }
+//! ```
 //!
 //! A port of the Rust crate `block-buffer` 0.12.1.
 #![tactic(auto)]

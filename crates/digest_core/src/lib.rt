@@ -7,18 +7,19 @@
 //! - [`CoreWrapper`] makes a hash of a core.
 //! - [`ObjectIdentifier`] names an algorithm, [`AssociatedOid`] gives that of a type.
 //!
-//! A hash of a core of one's own, `Summing`, which adds the bytes of blocks of 4:
+//! A hash of a core of one's own, `Summing`, which adds the bytes of blocks of 4. The test
+//! `digests_on_the_way_and_after_a_reset` runs these lines, and has that core, in some forty:
 //!
-//!     let mut hash = CoreWrapper::from_core(Summing { total: 0, count: 0 });
-//!     hash.update(&[1, 2, 3, 4, 5]);
-//!     hash.update(&[6]);
-//!     let mut digest = [0];
-//!     hash.finalize_with(&[9], &mut digest);          // of what was absorbed and 9: 30
-//!     hash.finalize_into_reset(&mut digest);          // 21, and the hash begins anew
-//!     hash.update(&[7]);
-//!     hash.finalize_into(&mut digest);                // 7
-//!
-//! The tests of this crate have that core, in some forty lines.
+//! ```
+//! let mut hash = CoreWrapper::from_core(Summing { total: 0, count: 0 });
+//! hash.update(&[1, 2, 3, 4, 5]);
+//! hash.update(&[6]);
+//! let mut digest = [0];
+//! hash.finalize_with(&[9], &mut digest); // of what was absorbed and 9: 30
+//! hash.finalize_into_reset(&mut digest); // 21, and the hash begins anew
+//! hash.update(&[7]);
+//! hash.finalize_into(&mut digest); // 7
+//! ```
 //!
 //! The parts of the Rust crates `digest` and `const-oid` that a hash over blocks needs.
 #![tactic(auto)]

@@ -5,17 +5,20 @@
 //! - [`HKDF`] derives keys from keying material.
 //! - [`WrappedHash`] is SHA-256 by the traits of `digest_core`.
 //!
-//! A key from a secret, a code of a message under it, and the message's digest:
+//! A key from a secret, a code of a message under it, and the message's digest. The test
+//! `a_code_under_a_derived_key` runs these lines:
 //!
-//!     let prk = HKDF::extract(b"salt", b"secret");
-//!     let mut key = [0; 32];
-//!     HKDF::expand(&mut key, &prk, b"key of codes");
-//!     let mut mac = HMAC::new(&key);
-//!     mac.update(b"a message ");
-//!     mac.update(b"in two pieces");
-//!     let code = mac.finalize();
-//!     HMAC::verify(b"a message in two pieces", &key, &code)     // true
-//!     let digest = Hash::hash(b"a message in two pieces");
+//! ```
+//! let prk = HKDF::extract(b"salt", b"secret");
+//! let mut key = [0; 32];
+//! HKDF::expand(&mut key, &prk, b"key of codes");
+//! let mut mac = HMAC::new(&key);
+//! mac.update(b"a message ");
+//! mac.update(b"in two pieces");
+//! let code = mac.finalize();
+//! assert!(HMAC::verify(b"a message in two pieces", &key, &code));
+//! let digest = Hash::hash(b"a message in two pieces");
+//! ```
 //!
 //! A port of the Rust crate `hmac-sha256` 1.1.15.
 #![tactic(auto)]

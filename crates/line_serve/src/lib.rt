@@ -6,6 +6,42 @@
 //!   [`MemSource`], [`MemSink`] and [`NullSink`] are such ends in memory.
 //! - [`Replier`] answers one line, and [`serve_lines`] the lines of a whole source.
 //! - [`cut_fields`], [`count_fields`], [`field`] and [`hex_field`] take a line apart.
+//!
+//! A replier of one's own, and its replies to the lines of an input. Its ghost member says what it
+//! replies, and the prover checks that it does. The test `example_of_the_page` runs this:
+//!
+//! ```
+//! use line_serve::{ByteString, MemSink, QuietSource, Replier, count_fields, serve_lines};
+//! use std::alloc::{AllocError, Global};
+//!
+//! struct Pairs;
+//!
+//! impl Replier for Pairs {
+//!     ghost use Rattle.std.specs.Prelude.{◌==◌, if◌then◌else◌, codes, length};
+//!     ghost use Rattle.line_serve.specs.Fields.{fields};
+//!
+//!     ghost reply_of = { λ _ line.
+//!         if length (fields line) == 2 then codes "pair\n" else codes "other\n" };
+//!
+//!     fn reply(&self, _: Global, line: &[u8], out: &mut ByteString) -> Result<(), AllocError> {
+//!         if count_fields(line) == 2 {
+//!             return out.push_slice(b"pair\n");
+//!         }
+//!         out.push_slice(b"other\n")
+//!     }
+//! }
+//!
+//! fn replies(alloc: Global, input: &[u8]) -> Result<(u8, Vec<u8>), AllocError> {
+//!     let mut source = QuietSource::new(input.to_vec(alloc)?);
+//!     let mut sink = MemSink::new(alloc, Vec::new(alloc));
+//!     let status = serve_lines(alloc, &Pairs, &mut source, &mut sink);
+//!     Ok((status, sink.bytes().to_vec(alloc)?))
+//! }
+//! ```
+//!
+//! The status is 0 where each line has its reply, 3 where a read failed, 4 where a write failed, 5
+//! where the input has 2^40 bytes or more, and 6 where there was no memory; what was written is a
+//! front of the replies in any case. A line of more than 2^22 bytes has the reply `error line`.
 #![tactic(auto)]
 
 mod answer;

@@ -247,3 +247,38 @@ fn byte_strings_and_words(rt: HostRuntime) -> Result<(), Fail> {
     assert_eq!(rt; sink.bytes(), b"Key".as_slice());
     Ok(())
 }
+
+struct Pairs;
+
+impl Replier for Pairs {
+    ghost use Rattle.std.specs.Prelude.{◌==◌, if◌then◌else◌, codes, length};
+    ghost use Rattle.line_serve.specs.Fields.{fields};
+
+    ghost reply_of = { λ _ line.
+        if length (fields line) == 2 then codes "pair\n" else codes "other\n" };
+
+    fn reply(&self, _: Global, line: &[u8], out: &mut ByteString) -> Result<(), AllocError> {
+        if count_fields(line) == 2 {
+            return out.push_slice(b"pair\n");
+        }
+        out.push_slice(b"other\n")
+    }
+}
+
+fn replies(alloc: Global, input: &[u8]) -> Result<(u8, Vec<u8>), AllocError> {
+    let mut source = QuietSource::new(input.to_vec(alloc)?);
+    let mut sink = MemSink::new(alloc, Vec::new(alloc));
+    let status = serve_lines(alloc, &Pairs, &mut source, &mut sink);
+    Ok((status, sink.bytes().to_vec(alloc)?))
+}
+
+#[test]
+fn example_of_the_page(rt: HostRuntime) -> Result<(), Fail> {
+    let (status, written) = replies(rt.alloc(), b"a b\n\nc d e\r\n f  g\r")?;
+    assert_eq!(rt; status, 0);
+    assert_eq!(rt;
+        written.as_slice(),
+        b"pair\nother\nother\npair\n".as_slice()
+    );
+    Ok(())
+}

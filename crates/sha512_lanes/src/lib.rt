@@ -1,8 +1,37 @@
-//! SHA-512 (FIPS 180-4) of several short messages side by side, which begin with the same block. No
-//! call takes memory.
+//! SHA-512 (FIPS 180-4) of several short messages side by side, which begin with the same block of
+//! 128 bytes. No call takes memory.
 //!
 //! What a digest is, and each step on the way to it, are the definitions of the library's `sha2`,
-//! which hashes one message of any length.
+//! which hashes one message of any length. This crate is for many messages that differ in their
+//! ends alone, as the hashes of a tree under one public seed do.
+//!
+//! The digests of a block followed by each of four tails of three bytes. The test
+//! `example_of_the_page` runs this:
+//!
+//! ```
+//! use sha512_lanes::{BLOCK_BYTES, Begun};
+//!
+//! fn tail_of(bytes: &[u8; 3]) -> [u8; BLOCK_BYTES] {
+//!     let mut tail = [0; BLOCK_BYTES];
+//!     tail[..3].copy_from_slice(bytes);
+//!     tail
+//! }
+//!
+//! fn four_digests(block: &[u8; BLOCK_BYTES]) -> [[u8; 64]; 4] {
+//!     let begun = Begun::new(block);
+//!     let tails = [
+//!         tail_of(b"one"),
+//!         tail_of(b"two"),
+//!         tail_of(b"six"),
+//!         tail_of(b"ten"),
+//!     ];
+//!     begun.finalize_four(&tails, 3)
+//! }
+//! ```
+//!
+//! A tail comes in a block of its own, of which the first bytes count, as many as the call says: at
+//! most [`MAX_TAIL`], so that the padding fits. The four tails are equally long. No call can fail;
+//! the contracts say that each digest is that of the whole message.
 #![tactic(auto)]
 
 mod compression;

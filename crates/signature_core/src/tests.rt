@@ -194,7 +194,7 @@ where
 }
 
 #[test]
-fn signed_by_a_bound_is_accepted(rt: HostRuntime) {
+fn example_of_the_page(rt: HostRuntime) {
     let key = Key { byte: 255 };
     assert!(rt; accepts_own(rt.alloc(), &key, b"abc"));
     assert!(rt; !accepts_own(rt.alloc(), &key, b"abcd"));

@@ -1,6 +1,43 @@
-//! The SHA-2 hash functions of SLH-DSA (FIPS 205, section 11.2).
+//! The SHA-2 hash functions of SLH-DSA (FIPS 205, section 11.2), and the rows of the six parameter
+//! sets over them (section 11, table 2).
 //!
-//! A port of the SHA-2 half of the Rust crate `slh-dsa` 0.1.0, `hashes::sha2`.
+//! A port of the SHA-2 half of the Rust crate `slh-dsa` 0.1.0, `hashes::sha2`. [`Sha2_128f`] and
+//! its kin have `HashSuite` and the traits of sizes of `slh_core`, so that what stands above them
+//! is written for any set. No call takes memory.
+//!
+//! F of a value at a step of a chain, under a public seed. The test `example_of_the_page` runs
+//! this, with `Brand` for the ledger and `Blank::new(1)` for the count of hash calls:
+//!
+//! ```
+//! ghost use Rattle.slh_core.specs.Steps.{IsFresh};
+//!
+//! use hybrid_array::sizes::U16;
+//! use slh_core::address::WotsHash;
+//! use slh_core::nbytes::NBytes;
+//! use slh_core::steps::Steps;
+//! use slh_core::suite::HashSuite;
+//! use slh_hash::Sha2_128f;
+//! use std::sync::ledger::{Blank, Ledger};
+//!
+//! fn next_value<L: Ledger>(pk_seed: &[u8; 16], value: &[u8; 16], blank: Blank) -> NBytes<U16>
+//!     requires fresh { IsFresh blank L.name L.parts }
+//! {
+//!     let mut steps = Steps::<L>::new(blank);
+//!     let keyed = Sha2_128f::keyed(&NBytes::exact(pk_seed));
+//!     let adrs = WotsHash {
+//!         layer_adrs: 1,
+//!         tree_adrs_low: 0x0203,
+//!         key_pair_adrs: 4,
+//!         chain_adrs: 5,
+//!         hash_adrs: 6,
+//!     };
+//!     Sha2_128f::f(&keyed, &adrs, &NBytes::exact(value), &mut steps)
+//! }
+//! ```
+//!
+//! The state `keyed` has hashed the seed and its padding once, and each call with it goes on from
+//! there. No call can fail. What the functions compute is said by the definitions
+//! `sha2_category_1` and `sha2_category_3_5`, by those of SHA-256, SHA-512, HMAC and MGF1.
 #![tactic(auto)]
 
 mod join;

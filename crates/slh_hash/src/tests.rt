@@ -118,6 +118,27 @@ fn hashes_of_an_address(rt: HostRuntime) {
     assert_eq!(rt; prf.as_slice(), PRF_VALUE.as_slice());
 }
 
+fn next_value<L: Ledger>(pk_seed: &[u8; 16], value: &[u8; 16], blank: Blank) -> NBytes<U16>
+    requires fresh { IsFresh blank L.name L.parts }
+{
+    let mut steps = Steps::<L>::new(blank);
+    let keyed = Sha2_128f::keyed(&NBytes::exact(pk_seed));
+    let adrs = WotsHash {
+        layer_adrs: 1,
+        tree_adrs_low: 0x0203,
+        key_pair_adrs: 4,
+        chain_adrs: 5,
+        hash_adrs: 6,
+    };
+    Sha2_128f::f(&keyed, &adrs, &NBytes::exact(value), &mut steps)
+}
+
+#[test]
+fn example_of_the_page(rt: HostRuntime) {
+    let f = next_value::<Brand>(&SEED, &[7; 16], Blank::new(1));
+    assert_eq!(rt; f.as_slice(), F_VALUE.as_slice());
+}
+
 // MGF1 of the four bytes of "seed": its first 33 bytes, and the last 32 of 256.
 const MASK_START: [u8; 33] = [
     0x33, 0x6f, 0x28, 0xa0, 0x22, 0x19, 0x39, 0x39, 0x58, 0x5a, 0x1b, 0x4e, 0xdc, 0x98, 0x9f, 0x87,
