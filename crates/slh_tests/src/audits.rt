@@ -1,8 +1,8 @@
-// The toy key with secret seed 5, PRF key 7 and public seed 3, and its signature of the message
-// 0x48 under an empty context, with bytes changed so that it is still accepted. All values are
-// worked by hand.
+// The worked signature with bytes changed so that it is still accepted. All values were worked by
+// hand.
 ghost use Rattle.slh_core.specs.Steps.{IsFresh};
 
+use crate::worked::{KEY, MESSAGE, SIGNATURE};
 use hybrid_array::sizes::U1;
 use slh_audit::{AuditError, Evidence, Verdict, audit, check_evidence};
 use slh_core::nbytes::NBytes;
@@ -12,15 +12,6 @@ use slh_trees::{SigView, check_root};
 use std::marker::Brand;
 use std::sync::ledger::{Blank, Ledger};
 use std::test::Fail;
-
-pub(crate) const MESSAGE: [u8; 1] = [0x48];
-
-pub(crate) const KEY: [u8; 4] = [5, 7, 3, 225];
-
-pub(crate) const SIGNATURE: [u8; 21] = [
-    0x52, 0x52, 0x34, 0x89, 0x73, 0x3b, 0x15, 0x14, 0x1a, 0x49, 0x2b, 0x57, 0xa3, 0x3e, 0x1e, 0x17,
-    0x2f, 0x36, 0x20, 0xa3, 0x3e,
-];
 
 // The root that bytes lead to.
 fn root_of<L: Ledger>(sig: &[u8; 21], blank: Blank) -> u8

@@ -15,6 +15,8 @@ mod layers;
 #[cfg(test)]
 mod page_of_audits;
 #[cfg(test)]
+mod page_of_keys;
+#[cfg(test)]
 mod page_of_trees;
 #[cfg(test)]
 mod places;
@@ -24,3 +26,5 @@ mod signatures;
 mod traits;
 #[cfg(test)]
 mod trees;
+#[cfg(test)]
+mod worked;

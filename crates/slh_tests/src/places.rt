@@ -1,6 +1,7 @@
-// The places of the toy suite's signatures: none shows against a key's own bytes, and none that isn't
-// there shows at all.
-use crate::audits::{KEY, MESSAGE, SIGNATURE, chain_step, early, fors_node, leaf, tree_node};
+// The places of the toy suite's signatures: none shows against a key's own bytes, and none that
+// isn't there shows at all.
+use crate::audits::{chain_step, early, fors_node, leaf, tree_node};
+use crate::worked::{KEY, MESSAGE, SIGNATURE};
 use slh_audit::{Evidence, check_evidence};
 use slh_trees::toy::Toy;
 use std::alloc::{AllocError, Global};

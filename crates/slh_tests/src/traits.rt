@@ -4,12 +4,11 @@ ghost use Rattle.rand_core.specs.Steps.{steps_u32, stream_of};
 
 use rand_core::Rng;
 use rand_core::utils::{self, NextWord};
-use signature_core::{KeypairRef, RandomizedSigner, SignatureEncoding, Signer, Verifier};
+use signature_core::{KeypairRef, RandomizedSigner, Signer, Verifier};
 use slh_dsa::{Error, Signature, SigningKey};
 use slh_trees::toy::Toy;
 use std::alloc::Global;
 use std::marker::Model;
-use std::test::Fail;
 
 // A generator whose words count up.
 #[derive(Drop)]
@@ -58,47 +57,62 @@ where
     key.verifying_key().verify(msg, signature).is_ok()
 }
 
-// The bytes of a signature, without random ones.
-fn signed<S: SignatureEncoding + Drop, K: Signer<S>>(
-    alloc: Global,
-    key: &K,
-    msg: &[u8],
-) -> Result<Vec<u8>, Fail>
+// A signature by the bound, without random bytes.
+fn signed<S: Drop, K: Signer<S>>(alloc: Global, key: &K, msg: &[u8]) -> Option<S>
 where
     K::Error: Drop,
 {
-    match key.try_sign(alloc, msg) {
-        Ok(signature) => Ok(signature.to_vec(alloc)?),
-        Err(_) => Err(Fail::from("refused")),
-    }
+    key.try_sign(alloc, msg).ok()
 }
 
 #[test]
-fn a_new_key_takes_three_fills(rt: HostRuntime) -> Result<(), Fail> {
+fn a_new_key_takes_three_fills(rt: HostRuntime) {
     let mut rng = Counter { next: 5 };
     let key = SigningKey::<Toy>::new(&mut rng);
-    let known = SigningKey::<Toy>::slh_keygen_internal(&[5], &[6], &[7]).map_err(|_| "refused")?;
-    assert!(rt; key == known);
-    assert_eq!(rt; rng.next_u32(), 8);
-    Ok(())
+    let known = SigningKey::<Toy>::slh_keygen_internal(&[5], &[6], &[7]);
+    assert!(rt; matches!(&known, Ok(known) if *known == key));
+    assert!(rt; rng.next_u32() == 8);
+}
+
+fn key() -> Result<SigningKey<Toy>, Error> {
+    SigningKey::slh_keygen_internal(&[5], &[6], &[7])
+}
+
+fn is_own_accepted(alloc: Global) -> Result<bool, Error> {
+    let key = key()?;
+    let made: Option<Signature<Toy>> = signed(alloc, &key, b"Hello");
+    Ok(matches!(&made, Some(made) if accepts(&key, b"Hello", made)))
 }
 
 #[test]
-fn signatures_by_the_bounds(rt: HostRuntime) -> Result<(), Fail> {
-    let alloc = rt.alloc();
-    let mut rng = Counter { next: 5 };
-    let key = SigningKey::<Toy>::new(&mut rng);
-    let bytes = signed::<Signature<Toy>, SigningKey<Toy>>(alloc, &key, b"Hello")?;
-    let plain = Signature::<Toy>::try_from(alloc, &bytes).map_err(|_| "refused")?;
-    assert!(rt; accepts(&key, b"Hello", &plain));
-    // The randomizer is the generator's next byte.
-    let known = key.try_sign_with_context(alloc, b"Hello", b"", Some(&[8]));
-    let made: Result<Signature<Toy>, Error> = key.try_sign_with_rng(alloc, &mut rng, b"Hello");
-    let (known, made) = (known.map_err(|_| "refused")?, made.map_err(|_| "refused")?);
-    assert!(rt; made == known);
-    assert!(rt; made != plain);
-    assert!(rt; accepts(&key, b"Hello", &made));
-    assert_eq!(rt; rng.next_u32(), 9);
-    assert_eq!(rt; made.encoded_len(), 21);
-    Ok(())
+fn a_signature_by_the_bound_is_accepted(rt: HostRuntime) {
+    assert!(rt; is_own_accepted(rt.alloc()) == Ok(true));
+}
+
+// Whether a signature with bytes of the generator is the one with this randomizer.
+fn has_randomizer(alloc: Global, rng: &mut Counter, byte: u8) -> Result<bool, Error> {
+    let key = key()?;
+    let made: Signature<Toy> = key.try_sign_with_rng(alloc, rng, b"Hello")?;
+    let known = key.try_sign_with_context(alloc, b"Hello", b"", Some(&[byte]))?;
+    Ok(made == known && accepts(&key, b"Hello", &made))
+}
+
+#[test]
+fn the_randomizer_is_the_next_byte_of_the_generator(rt: HostRuntime) {
+    let mut rng = Counter { next: 8 };
+    assert!(rt; has_randomizer(rt.alloc(), &mut rng, 8) == Ok(true));
+    assert!(rt; rng.next_u32() == 9);
+}
+
+fn is_plain(alloc: Global, byte: u8) -> Result<bool, Error> {
+    let key = key()?;
+    let made = key.try_sign_with_context(alloc, b"Hello", b"", Some(&[byte]))?;
+    Ok(key.try_sign_with_context(alloc, b"Hello", b"", None)? == made)
+}
+
+// Without a randomizer the public seed, 7, stands in its place.
+#[test]
+fn another_randomizer_makes_another_signature(rt: HostRuntime) {
+    assert!(rt; is_plain(rt.alloc(), 8) == Ok(false));
+    assert!(rt; is_plain(rt.alloc(), 7) == Ok(true));
 }

@@ -1,9 +1,8 @@
-// A key of the toy suite with secret seed 5, PRF key 7 and public seed 3, and its signature of the
-// message 48 under an empty context without a randomizer. The values were worked by hand from the
-// definitions.
+// The worked key's root, the parts of its signature, and the roots that changes of it lead to.
 ghost use Rattle.std.specs.Prelude.{◌≡◌, ◌+◌, length};
 ghost use Rattle.slh_core.specs.Steps.{IsFresh};
 
+use crate::worked::SIGNATURE;
 use hybrid_array::sizes::U1;
 use slh_core::address::{ForsTree, WotsHash};
 use slh_core::nbytes::NBytes;
@@ -16,12 +15,6 @@ use slh_trees::{
 use std::marker::Brand;
 use std::sync::ledger::{Blank, Ledger};
 use std::test::Fail;
-
-// The randomizer, the forest's part, and the two layers' parts.
-const SIGNATURE: [u8; 21] = [
-    0x52, 0x52, 0x34, 0x89, 0x73, 0x3b, 0x15, 0x14, 0x1a, 0x49, 0x2b, 0x57, 0xa3, 0x3e, 0x1e, 0x17,
-    0x2f, 0x36, 0x20, 0xa3, 0x3e,
-];
 
 fn byte(value: u8) -> NBytes<U1> {
     NBytes::exact(&[value])
