@@ -7,6 +7,9 @@ ghost use Rattle.block_buffer.specs.Sink.{HasRoom};
 use hybrid_array::{ArrayMut, ArraySize};
 
 /// Gives blocks of `BS::USIZE` bytes, one after another.
+///
+/// As with a [`BlockSink`](crate::BlockSink), who makes a generator ensures for which lists it
+/// stands, as the empty one; of one that stands for none nothing is said.
 pub trait BlockGen<BS: ArraySize> {
     /// The lists of bytes for which the generator stands, and its room. A new generator stands for
     /// the empty list.

@@ -4,6 +4,7 @@
 //!   Blocks go to a [`BlockSink`], which may refuse them.
 //! - [`ReadBuffer`] reads the blocks of a [`BlockGen`] in any pieces.
 //! - [`SerializedBuffer`] is a buffer as an array of bytes.
+//! - [`VecSink`] is a sink that keeps what it takes, and refuses after so many calls.
 //!
 //! The buffers keep their bytes in places of their own, of which there are 255. Only the calls that
 //! are given an allocator take memory: those that answer an array.
@@ -37,6 +38,7 @@ mod serial_tests;
 mod sink;
 #[cfg(test)]
 mod tests;
+mod vec_sink;
 
 pub use buffer::{BlockBuffer, EagerBuffer, Error, LazyBuffer};
 pub use generator::BlockGen;
@@ -44,3 +46,4 @@ pub use kind::{BufferKind, Eager, Lazy};
 pub use read::ReadBuffer;
 pub use serial::SerializedBuffer;
 pub use sink::{BlockSink, Refused};
+pub use vec_sink::VecSink;

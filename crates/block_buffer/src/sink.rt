@@ -10,6 +10,10 @@ use hybrid_array::{ArraySize, Chunks};
 pub struct Refused;
 
 /// Takes blocks of `BS::USIZE` bytes.
+///
+/// What generic code proves of `stands` says as much as the implementation's `state`: who makes a
+/// sink ensures for which lists it stands, as the empty one, and a sink that stands for none has
+/// proved nothing of the blocks that it took.
 pub trait BlockSink<BS: ArraySize> {
     /// The lists of bytes for which the sink stands, and its room. A new sink stands for the empty
     /// list.

@@ -5,6 +5,7 @@ ghost use Rattle.std.specs.Prelude.{◌<◌, ◌≤◌, length};
 use crate::laws::unrefused_stream;
 use crate::{
     BlockBuffer, BlockSink, BufferKind, Eager, EagerBuffer, Error, Lazy, LazyBuffer, Refused,
+    VecSink,
 };
 use hybrid_array::sizes::{U4, U8, U16};
 use hybrid_array::{ArraySize, Chunks};
@@ -278,4 +279,30 @@ fn prints(alloc: Global, expected: &str) -> Result<bool, AllocError> {
 #[test]
 fn the_error_has_a_text(rt: HostRuntime) {
     assert!(rt; prints(rt.alloc(), "Block buffer error") == Ok(true));
+}
+
+// Whether a sink in memory took the first bytes of two pieces, and refused the others.
+fn keeps(sink: &mut VecSink, taken: &[u8], refusals: u64) -> bool {
+    let mut buffer = EagerBuffer::<U4>::default();
+    let _first = buffer.digest_blocks(&[0, 1, 2, 3, 4, 5], sink);
+    let _second = buffer.digest_blocks(&[6, 7, 8, 9], sink);
+    sink.as_slice() == taken && sink.refusals() == refusals
+}
+
+#[test]
+fn a_sink_in_memory_keeps_what_it_takes(rt: HostRuntime) {
+    let mut sink = VecSink::new(rt.alloc());
+    assert!(rt; keeps(&mut sink, &[0, 1, 2, 3, 4, 5, 6, 7], 0));
+}
+
+#[test]
+fn a_sink_in_memory_refuses_after_its_calls(rt: HostRuntime) {
+    assert!(rt;
+        keeps(
+            &mut VecSink::refusing_after(rt.alloc(), 1),
+            &[0, 1, 2, 3],
+            1
+        )
+    );
+    assert!(rt; keeps(&mut VecSink::refusing_after(rt.alloc(), 0), &[], 2));
 }

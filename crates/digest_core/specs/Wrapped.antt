@@ -1,5 +1,6 @@
 -- A core and the bytes that a buffer holds for it.
-use Rattle.std.specs.Prelude.{◌≡◌, ℕ, ◌+◌, ◌%◌, ◌<◌, ◌≤◌, List, ◌++◌}
+use mathlib.Core.Path.{subst, sym}
+use Rattle.std.specs.Prelude.{◌≡◌, refl, ℕ, ◌+◌, ◌%◌, ◌<◌, ◌≤◌, List, [], ◌++◌, length}
 
 -- what contracts see of a wrapped core
 pub record Wrapped (C : Type 0) : Type 0 where
@@ -18,3 +19,11 @@ pub record StandsFor (stands : List ℕ → Type 0) (held m : List ℕ) : Type 0
   pub absorbed : List ℕ
   pub stood : stands absorbed
   pub joined : m ≡ absorbed ++ held
+
+-- a core that stands for the empty list does so with no byte held
+pub nothing_StandsFor : {stands : List ℕ → Type 0} → stands [] → StandsFor stands [] []
+nothing_StandsFor stood = record { absorbed = []; stood = stood; joined = refl }
+
+-- no byte absorbed and none held are none
+pub nothing_counts : {n : ℕ} → n ≡ 0 → n + length {A = ℕ} [] ≡ 0
+nothing_counts none = subst (λ (k : ℕ). k + length {A = ℕ} [] ≡ 0) (sym none) refl

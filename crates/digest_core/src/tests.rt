@@ -29,7 +29,7 @@ fn sum_on(start: u8, bytes: &[u8]) -> u8
 }
 
 impl Absorb for Summing {
-    ghost use Rattle.std.specs.Prelude.{[], ◌∷◌};
+    ghost use Rattle.std.specs.Prelude.{[], ◌∷◌, refl};
 
     const MAX_BYTES: u64 = 1000;
 
@@ -40,6 +40,12 @@ impl Absorb for Summing {
     ghost count = { λ s. s.count };
 
     ghost digest = { λ m. (sum m % 256) ∷ [] };
+
+    ghost fresh = { record { total = 0; count = 0 } };
+
+    ghost fresh_stands = { (refl, refl) };
+
+    ghost fresh_counts = { refl };
 
     fn absorbed(&self) -> u64 {
         self.count

@@ -21,9 +21,17 @@ pub trait Absorb {
     /// The digest of a list of bytes.
     ghost digest: { List ℕ → List ℕ };
 
+    /// An object that has absorbed nothing: it stands for the empty list, so no implementation
+    /// stands for none.
+    ghost fresh: { Self };
+
     /// How many bytes were absorbed.
     fn absorbed(&self) -> u64
         ensures { result ≡ count self.now };
+
+    ghost fresh_stands: { stands fresh [] };
+
+    ghost fresh_counts: { count fresh ≡ 0 };
 }
 
 /// Absorbs bytes.

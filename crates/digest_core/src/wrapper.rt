@@ -3,10 +3,8 @@
 ghost use Rattle.std.specs.Prelude.{◌≡◌, ℕ, ◌+◌, ◌%◌, ◌≤◌, ◌<◌, List, [], ◌++◌, length};
 ghost use Rattle.digest_core.specs.Wrapped.{StandsFor};
 
-use crate::core_api::{BlockSizeUser, BufferKindUser, FixedOutputCore, TailOutputCore, UpdateCore};
-use crate::traits::{
-    Absorb, AlgorithmName, FixedOutput, FixedOutputReset, HashMarker, OutputSizeUser, Reset, Update,
-};
+use crate::core_api::{FixedOutputCore, TailOutputCore, UpdateCore};
+use crate::traits::{Absorb, FixedOutput, FixedOutputReset, OutputSizeUser, Reset, Update};
 use block_buffer::{BlockSink, EagerBuffer, Refused};
 use hybrid_array::Chunks;
 use std::marker::Model;
@@ -115,6 +113,8 @@ impl<C: FixedOutputCore + Drop> CoreWrapper<C> {
 }
 
 impl<C: FixedOutputCore + Drop> Absorb for CoreWrapper<C> {
+    ghost use Rattle.digest_core.specs.Wrapped.{nothing_StandsFor, nothing_counts};
+
     const MAX_BYTES: u64 = C::MAX_BYTES;
 
     ghost MAX_BYTES = { C.MAX_BYTES };
@@ -124,6 +124,12 @@ impl<C: FixedOutputCore + Drop> Absorb for CoreWrapper<C> {
     ghost count = { λ w. C.count w.core + length w.held };
 
     ghost digest = { C.digest };
+
+    ghost fresh = { record { core = C.fresh; held = [] } };
+
+    ghost fresh_stands = { nothing_StandsFor C.fresh_stands };
+
+    ghost fresh_counts = { nothing_counts C.fresh_counts };
 
     fn absorbed(&self) -> u64 {
         // The limit is read so that the sum is known to fit.

@@ -1,5 +1,6 @@
 -- What a `Hash` stands for: the list of the bytes that it has absorbed.
-use Rattle.std.specs.Prelude.{◌≡◌, ℕ, ◌*◌, ◌/◌, ◌%◌, List, length, take, drop, replicate}
+use Rattle.std.specs.Prelude.{◌≡◌, refl, ℕ, ◌*◌, ◌/◌, ◌%◌, List, [], length, take, drop}
+use Rattle.std.specs.Prelude.{replicate}
 use Rattle.std.specs.Coded.{Coded-set, coded_list, coded_ℕ}
 use Rattle.hmac_sha256.specs.Sha256.{compress, fold_blocks, initial_words, sha256, word_bytes}
 use Rattle.hmac_sha256.specs.declared.hashing.Hash.{Hash}
@@ -36,3 +37,12 @@ StandsFor hash m = HasAbsorbed hash.state (take (hash.total % 64) hash.block) ha
 pub StandsFor-prop : (hash : Hash) (m : List ℕ) → IsProp (StandsFor hash m)
 unfolding StandsFor
 StandsFor-prop hash m = hlevel (Coded-set (coded_list coded_ℕ), Coded-set coded_ℕ)
+
+-- the hash that has absorbed nothing stands for the empty list
+pub new_hash-StandsFor : StandsFor new_hash []
+unfolding StandsFor new_hash fold_blocks
+new_hash-StandsFor = record { folded = refl; rest = refl; counted = refl }
+
+pub new_hash-counts : absorbed_bytes new_hash ≡ 0
+unfolding absorbed_bytes new_hash
+new_hash-counts = refl

@@ -17,7 +17,8 @@ pub type WrappedHash = CoreWrapper<Hash>;
 
 impl Absorb for Hash {
     ghost use Rattle.std.specs.Prelude.{◌-◌, ◌^◌};
-    ghost use Rattle.hmac_sha256.specs.Hash.{StandsFor, absorbed_bytes};
+    ghost use Rattle.hmac_sha256.specs.Hash.{StandsFor, absorbed_bytes, new_hash};
+    ghost use Rattle.hmac_sha256.specs.Hash.{new_hash-StandsFor, new_hash-counts};
     ghost use Rattle.hmac_sha256.specs.Sha256.{sha256};
 
     const MAX_BYTES: u64 = MAX_BYTES;
@@ -29,6 +30,12 @@ impl Absorb for Hash {
     ghost count = { absorbed_bytes };
 
     ghost digest = { sha256 };
+
+    ghost fresh = { new_hash };
+
+    ghost fresh_stands = { new_hash-StandsFor };
+
+    ghost fresh_counts = { new_hash-counts };
 
     #[inline]
     fn absorbed(&self) -> u64 {

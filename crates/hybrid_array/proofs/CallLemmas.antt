@@ -2,7 +2,10 @@
 use Rattle.std.proofs.Common.{◌≡◌, ℕ, ◌+◌, List, [], ◌∷◌, ◌++◌, length, refl, subst, arith, sym}
 use Rattle.std.specs.Prelude.{Option, Some}
 use Rattle.std.specs.Iterator.{Yields}
+use Rattle.hybrid_array.specs.declared.iter.IterError.{IterError}
+use Rattle.hybrid_array.specs.declared.iter.IterError.TheVariants.{Count, Memory}
 use Rattle.hybrid_array.specs.Calls.{Answers, Maps}
+use Rattle.hybrid_array.specs.Refusals.{OnCount}
 
 -- a call after those on n, n + 1 and so on
 pub Answers-push : {F X : Type 0} (step : F → ℕ → X → F → Type 0) (n : ℕ) (f : F) (xs : List X) (p : F) (x : X) (q : F) → Answers step n f xs p → step p (n + length xs) x q → Answers step n f (xs ++ x ∷ []) q
@@ -31,3 +34,8 @@ Yields-push {S} {X} steps s [] t x u before next =
     let P : S → Type 0 = λ v. steps v (Some x) u in (u, subst P (sym before) next, refl)
 Yields-push steps s (y ∷ ys) t x u before next =
     (before.0, before.1, Yields-push steps before.0 ys t x u before.2 next)
+
+-- what follows from the cause of a refused number
+pub OnCount-map : (P Q : Type 0) (error : IterError) → (P → Q) → OnCount P error → OnCount Q error
+OnCount-map P Q (Count e) f cause = f cause
+OnCount-map P Q (Memory e) f cause = cause

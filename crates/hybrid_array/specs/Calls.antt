@@ -11,12 +11,12 @@ abbrev pub AnswersOk : {F X E : Type 0} → (F → ℕ → Result X E → F → 
     → Type 0
 AnswersOk step f i x g = step f i (Ok x) g
 
--- calls on 0, 1 and so on answered the items, fewer than n, and the next one the error
+-- calls on 0, 1 and so on answered the items, fewer than n, and the last one, which left the
+-- closure as last, the error
 pub record Stops {F X E : Type 0} (step : F → ℕ → Result X E → F → Type 0) (f : F) (items : List X)
-    (e : E) (n : ℕ) : Type 0 where
+    (e : E) (n : ℕ) (last : F) : Type 0 where
   pub fewer : length items < n
   pub now : F
-  pub last : F
   pub before : Answers (AnswersOk step) 0 f items now
   pub error : step now (length items) (Err e) last
 

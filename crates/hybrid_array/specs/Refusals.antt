@@ -13,6 +13,12 @@ IsLengthRefusal (Ok x) = ⊥
 IsLengthRefusal (Err (Length e)) = Unit {0}
 IsLengthRefusal (Err (Memory e)) = ⊥
 
+-- P, where memory was wanting
+abbrev pub OnMemory : {X E : Type 0} → Type 0 → Result X (MakeError E) → Type 0
+OnMemory P (Ok x) = Unit {0}
+OnMemory P (Err (make.Caller e)) = Unit {0}
+OnMemory P (Err (make.Memory e)) = P
+
 -- P of the caller's error
 abbrev pub IfCaller : {E : Type 0} → (E → Type 0) → MakeError E → Type 0
 IfCaller P (make.Caller e) = P e
@@ -22,3 +28,9 @@ IfCaller P (make.Memory e) = Unit {0}
 abbrev pub OnCount : Type 0 → IterError → Type 0
 OnCount P (iter.Count e) = P
 OnCount P (iter.Memory e) = Unit {0}
+
+-- P, where memory was wanting
+abbrev pub OnNoMemory : {X : Type 0} → Type 0 → Result X IterError → Type 0
+OnNoMemory P (Ok x) = Unit {0}
+OnNoMemory P (Err (iter.Count e)) = Unit {0}
+OnNoMemory P (Err (iter.Memory e)) = P

@@ -1,10 +1,13 @@
 //! A borrowed slice that is cut into chunks whose length a type gives.
 
 ghost use Rattle.std.specs.Prelude.{◌≡◌, ◌↔◌, ◌*◌, ◌≤◌, ◌<◌, length, take, drop, IsSome, IfSome};
+ghost use Rattle.std.specs.Iterator.Runs.{EveryRun, IsChunksExactRun};
+ghost use Rattle.std.specs.Slice.Iter.{chunks_exact_rest, chunks_exact_size, chunks_exact_steps};
 ghost use Rattle.hybrid_array.specs.Chunks.{IsWholeChunks, chunk_at, whole_count};
 
 use crate::{Array, ArrayRef, ArraySize};
 use std::marker::{Model, PhantomData};
+use std::slice::ChunksExact;
 
 /// A borrowed slice that is cut into chunks of `U::USIZE` items, with none left over. Contracts see
 /// it as the list of all items.
@@ -78,6 +81,17 @@ impl<'a, T, U: ArraySize> Chunks<'a, T, U> {
             return None;
         }
         ArrayRef::try_from(chunk(items, U::USIZE, count, i)).ok()
+    }
+
+    /// The chunks in order, each as the slice of its items.
+    #[inline]
+    pub fn iter(&self) -> ChunksExact<'_, T>
+        ensures rest { chunks_exact_rest result ≡ self.now }
+        ensures size { chunks_exact_size result ≡ U.USIZE }
+        ensures runs { EveryRun (chunks_exact_steps {A = T}) (λ run. 0 < chunks_exact_size run.from
+            → IsChunksExactRun run (chunks_exact_size run.from) (chunks_exact_rest run.from)) }
+    {
+        self.items.chunks_exact(U::USIZE)
     }
 
     /// The items of all chunks, for as long as the slice that was cut.

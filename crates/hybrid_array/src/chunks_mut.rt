@@ -4,6 +4,7 @@ ghost use Rattle.std.specs.Prelude.{◌≡◌, ◌↔◌, ◌+◌, ◌*◌, ◌/
 ghost use Rattle.hybrid_array.specs.Chunks.{IsWholeChunks, chunk_at, whole_count};
 
 use crate::chunks::chunk;
+use crate::lending::chunks_and_rest_mut;
 use crate::{Array, ArrayMut, ArrayRef, ArraySize};
 use std::marker::{Model, PhantomData};
 
@@ -174,8 +175,7 @@ impl<T, U: ArraySize> Array<T, U> {
         ensures rest { result.1.now ≡ drop (whole_count U.USIZE (length buf.old)) buf.old }
         ensures short { length result.1.now < U.USIZE }
     {
-        let count = buf.len() / U::USIZE * U::USIZE;
-        let (whole, rest) = buf.split_at_mut(count);
+        let (whole, rest) = chunks_and_rest_mut::<T, U>(buf);
         (ChunksMut::of(whole), rest)
     }
 }

@@ -4,7 +4,7 @@ use crate::TryFromSliceError;
 use std::alloc::AllocError;
 
 /// What keeps an array of a slice's items from being made.
-#[derive(Debug, Drop)]
+#[derive(Clone, Copy, Debug, PartialEq, Eq)]
 pub enum SliceError {
     /// The slice has another length.
     Length(TryFromSliceError),
@@ -13,7 +13,7 @@ pub enum SliceError {
 }
 
 /// What keeps an array of a closure's answers from being made.
-#[derive(Debug, Drop)]
+#[derive(Clone, Debug, PartialEq, Eq, Drop)]
 pub enum MakeError<E> {
     /// The closure's own error.
     Caller(E),

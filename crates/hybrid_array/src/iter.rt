@@ -1,13 +1,13 @@
 //! Arrays of what an iterator gives, and iterators over arrays.
 
-ghost use Rattle.std.specs.Prelude.{◌≡◌, ◌<◌, length, IfOk, IfErr, IfSome};
+ghost use Rattle.std.specs.Prelude.{◌≡◌, ◌<◌, length, vec_len, IfOk, IfErr, IfSome};
 ghost use Rattle.std.specs.Borrow.{sem};
 ghost use Rattle.std.specs.Iterator.Runs.{EveryRun, ItemsAre, ItemsMapTo};
 ghost use Rattle.std.specs.Slice.Iter.{iter_rest, iter_steps, iter_mut_rest, iter_mut_steps};
 ghost use Rattle.std.specs.Vec.Iter.{into_iter_items, into_iter_steps};
 ghost use Rattle.std.specs.declared.alloc.Global.{Global};
 ghost use Rattle.hybrid_array.specs.Gives.{GivesAll, GivesOther};
-ghost use Rattle.hybrid_array.specs.Refusals.{OnCount};
+ghost use Rattle.hybrid_array.specs.Refusals.{OnCount, OnNoMemory};
 
 use crate::{Array, ArraySize};
 use std::alloc::{AllocError, Global};
@@ -19,7 +19,7 @@ use std::slice::{Iter, IterMut};
 pub struct TryFromIteratorError;
 
 /// What keeps an array of an iterator's items from being made.
-#[derive(Debug, Drop)]
+#[derive(Clone, Copy, Debug, PartialEq, Eq)]
 pub enum IterError {
     /// The iterator gave another number of items.
     Count(TryFromIteratorError),
@@ -36,6 +36,33 @@ fn next_of<I: Iterator>(it: &mut I) -> Option<I::Item>
     it.next()
 }
 
+// The items of an iterator that has `count` of them. It is left as the last of these calls of
+// `next` leaves it.
+fn items_of<I: Iterator>(alloc: Global, count: usize, it: &mut I) -> Result<Vec<I::Item>, IterError>
+where
+    I::Item: Drop,
+    requires { I.can_next it.old }
+    ensures len { IfOk result (λ items. vec_len items ≡ count) }
+    ensures value { IfOk result (λ items. GivesAll I.next_gives it.old items.items it.new) }
+    ensures count { IfErr result (OnCount (GivesOther I.next_gives it.old count it.new)) }
+    ensures unasked { OnNoMemory (it.new ≡ it.old) result }
+{
+    let mut items = match Vec::with_capacity(alloc, count) {
+        Ok(items) => items,
+        Err(error) => return Err(IterError::Memory(error)),
+    };
+    for i in 0..count {
+        match next_of(it) {
+            Some(item) => items.push_reserved(item),
+            None => return Err(IterError::Count(TryFromIteratorError)),
+        }
+    }
+    match next_of(it) {
+        Some(_) => Err(IterError::Count(TryFromIteratorError)),
+        None => Ok(items),
+    }
+}
+
 impl<T: Drop, U: ArraySize> Array<T, U> {
     /// The array of an iterator's items. Memory is taken first. The iterator is asked up to the
     /// first item that is missing, and where none is, once after the last.
@@ -48,25 +75,15 @@ impl<T: Drop, U: ArraySize> Array<T, U> {
         I::IntoIter: Drop,
         requires { (it : I.IntoIter) → I.into_iter_gives iter it → I.IntoIter.can_next it }
         ensures len { IfOk result (λ array. length array ≡ U.USIZE) }
-        ensures value { IfOk result (λ array. (it : I.IntoIter)
-            × I.into_iter_gives iter it × GivesAll I.IntoIter.next_gives it array) }
-        ensures count { IfErr result (OnCount ((it : I.IntoIter)
-            × I.into_iter_gives iter it × GivesOther I.IntoIter.next_gives it U.USIZE)) }
+        ensures value { IfOk result (λ array. (it : I.IntoIter) × (end : I.IntoIter)
+            × I.into_iter_gives iter it × GivesAll I.IntoIter.next_gives it array end) }
+        ensures count { IfErr result (OnCount ((it : I.IntoIter) × (end : I.IntoIter)
+            × I.into_iter_gives iter it × GivesOther I.IntoIter.next_gives it U.USIZE end)) }
     {
-        let mut items = match Vec::with_capacity(alloc, U::USIZE) {
-            Ok(items) => items,
-            Err(error) => return Err(IterError::Memory(error)),
-        };
-        let mut rest = iter.into_iter();
-        for i in 0..U::USIZE {
-            match next_of(&mut rest) {
-                Some(item) => items.push_reserved(item),
-                None => return Err(IterError::Count(TryFromIteratorError)),
-            }
-        }
-        match next_of(&mut rest) {
-            Some(_) => Err(IterError::Count(TryFromIteratorError)),
-            None => Ok(Array::of(items)),
+        let mut it = iter.into_iter();
+        match items_of(alloc, U::USIZE, &mut it) {
+            Ok(items) => Ok(Array::of(items)),
+            Err(error) => Err(error),
         }
     }
 }

@@ -3,7 +3,10 @@
 
 ghost use Rattle.std.specs.Prelude.{◌≡◌, ◌↔◌, ◌+◌, ◌*◌, ◌<◌, IfOk, IsTrue};
 
-use crate::{Array, ArraySize, Flatten, TryFromIteratorError, TryFromSliceError, Unflatten};
+use crate::{
+    Array, ArraySize, Flatten, IterError, SliceError, TryFromIteratorError, TryFromSliceError,
+    Unflatten,
+};
 use std::alloc::{AllocError, Global};
 
 /// Two arrays that are joined and cut again, at the first one's size, are both given back.
@@ -51,6 +54,23 @@ pub fn clone_and_equality_of_iterator_errors(
     a: &TryFromIteratorError,
     b: &TryFromIteratorError,
 ) -> (TryFromIteratorError, bool)
+    ensures clone { result.0 ≡ a.now }
+    ensures equal { IsTrue result.1 ↔ (a.now ≡ b.now) }
+{
+    (a.clone().unwrap(), a == b)
+}
+
+/// A clone of a slice's refusal is that refusal, and `==` holds exactly where both are the same.
+pub fn clone_and_equality_of_slice_refusals(a: &SliceError, b: &SliceError) -> (SliceError, bool)
+    ensures clone { result.0 ≡ a.now }
+    ensures equal { IsTrue result.1 ↔ (a.now ≡ b.now) }
+{
+    (a.clone().unwrap(), a == b)
+}
+
+/// A clone of an iterator's refusal is that refusal, and `==` holds exactly where both are the
+/// same.
+pub fn clone_and_equality_of_iterator_refusals(a: &IterError, b: &IterError) -> (IterError, bool)
     ensures clone { result.0 ≡ a.now }
     ensures equal { IsTrue result.1 ↔ (a.now ≡ b.now) }
 {

@@ -38,8 +38,9 @@ pub fn first_and_rest_mut<T, N: ArraySize>(slice: &mut [T]) -> Option<(&mut [T],
     ensures first { IfSome result (λ parts. parts.0.now ≡ take N.USIZE slice.old) }
     ensures rest { IfSome result (λ parts. parts.1.now ≡ drop N.USIZE slice.old) }
 {
-    if N::USIZE <= slice.len() {
-        return Some(slice.split_at_mut(N::USIZE));
+    let size = N::USIZE;
+    if size <= slice.len() {
+        return Some(slice.split_at_mut(size));
     }
     None
 }

@@ -64,6 +64,17 @@ fn from_fn_of_no_item_calls_nothing(rt: HostRuntime) {
     assert!(rt; calls == 0);
 }
 
+#[test]
+fn from_fn_calls_once_for_each_item(rt: HostRuntime) {
+    let mut calls = 0usize;
+    let made = Array::<usize, U3>::from_fn(rt.alloc(), |i| {
+        calls = calls.wrapping_add(1);
+        i
+    });
+    assert!(rt; holds(made.ok(), &[0, 1, 2]));
+    assert!(rt; calls == 3);
+}
+
 // The error of a closure that refuses its second call, and how often it was called.
 fn refused_second_call(alloc: Global) -> (Option<u8>, usize) {
     let mut calls = 0usize;
@@ -114,6 +125,42 @@ fn an_iterator_of_the_count_is_an_array(rt: HostRuntime) {
     assert!(rt; holds(made.ok(), &[0, 1, 2]));
 }
 
+// Gives a number of items and then none, and counts how often it is asked.
+#[derive(Drop)]
+struct Asked<'a> {
+    left: u8,
+    calls: &'a mut usize,
+}
+
+impl Iterator for Asked<'_> {
+    type Item = u8;
+
+    fn next(&mut self) -> Option<u8> {
+        *self.calls = self.calls.wrapping_add(1);
+        self.left = self.left.checked_sub(1)?;
+        Some(self.left)
+    }
+}
+
+// How often an iterator of so many items is asked where three are wanted.
+fn calls_of_next(alloc: Global, left: u8) -> usize {
+    let mut calls = 0usize;
+    let asked = Asked {
+        left,
+        calls: &mut calls,
+    };
+    let _made = Array::<u8, U3>::try_from_iter(alloc, asked);
+    calls
+}
+
+#[test]
+fn an_iterator_is_asked_up_to_the_first_item_that_is_missing(rt: HostRuntime) {
+    assert!(rt; calls_of_next(rt.alloc(), 0) == 1);
+    assert!(rt; calls_of_next(rt.alloc(), 2) == 3);
+    assert!(rt; calls_of_next(rt.alloc(), 3) == 4);
+    assert!(rt; calls_of_next(rt.alloc(), 9) == 4);
+}
+
 fn is_made_of(alloc: Global, count: u8) -> bool {
     Array::<u8, U0>::try_from_iter(alloc, 0..count).is_ok()
 }
@@ -152,6 +199,23 @@ fn mapped(alloc: Global) -> Option<Array<u16, U3>> {
 #[test]
 fn each_item_is_mapped(rt: HostRuntime) {
     assert!(rt; holds(mapped(rt.alloc()), &[2, 3, 4]));
+}
+
+// How often a closure is called on an array of three items.
+fn calls_of_map(alloc: Global) -> Option<usize> {
+    let mut calls = 0usize;
+    array::<U3>(alloc, &[1, 2, 3])?
+        .map(alloc, |x| {
+            calls = calls.wrapping_add(1);
+            x
+        })
+        .ok()?;
+    Some(calls)
+}
+
+#[test]
+fn map_calls_once_for_each_item(rt: HostRuntime) {
+    assert!(rt; calls_of_map(rt.alloc()) == Some(3));
 }
 
 #[test]

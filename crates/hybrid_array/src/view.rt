@@ -1,6 +1,8 @@
 //! A borrowed slice whose length a type gives.
 
-ghost use Rattle.std.specs.Prelude.{◌≡◌, ◌↔◌, ◌+◌, ◌<◌, [], ◌∷◌, length, take, drop, IsOk, IfOk, IsSome, IfSome, slice_get};
+ghost use Rattle.std.specs.Prelude.{◌≡◌, ◌↔◌, ◌+◌, ◌<◌, [], ◌∷◌, length, take, drop, IsOk, IfOk, IsSome, IfSome, slice_get, slice_index_or};
+ghost use Rattle.std.specs.Iterator.Runs.{EveryRun, ItemsMapTo};
+ghost use Rattle.std.specs.Slice.Iter.{iter_rest, iter_steps};
 ghost use Rattle.std.specs.Option.{option_copied};
 ghost use Rattle.std.specs.Mem.{FitsInMemory};
 
@@ -8,6 +10,8 @@ use crate::sizes::U1;
 use crate::{Array, ArraySize, Size, TryFromSliceError};
 use std::alloc::{AllocError, Global};
 use std::marker::{Model, PhantomData};
+use std::ops::Index;
+use std::slice::Iter;
 
 /// A borrowed slice of exactly `U::USIZE` items. Contracts see it as their list.
 #[derive(Drop)]
@@ -69,6 +73,17 @@ impl<'a, T, U: ArraySize> ArrayRef<'a, T, U> {
         self.items.get(i)
     }
 
+    /// The items in order, for as long as the slice that was viewed.
+    #[inline]
+    pub fn iter(&self) -> Iter<'a, T>
+        ensures rest { iter_rest result ≡ self.now }
+        ensures len { length (iter_rest result) ≡ U.USIZE }
+        ensures runs { EveryRun (iter_steps {A = T}) (λ run.
+            ItemsMapTo run (λ item. item.now) (iter_rest run.from)) }
+    {
+        self.as_slice().iter()
+    }
+
     /// An array of the items' clones.
     pub fn to_array(&self, alloc: Global) -> Result<Array<T, U>, AllocError>
     where
@@ -88,6 +103,23 @@ impl<'a, T, U: ArraySize> ArrayRef<'a, T, U> {
     {
         let (first, rest) = self.items.split_at(N::USIZE);
         (ArrayRef::of(first), ArrayRef::of(rest))
+    }
+}
+
+impl<'a, T, U: ArraySize> Index<usize> for ArrayRef<'a, T, U> {
+    type Output = T;
+
+    ghost can_index = { λ a i. i < U.USIZE };
+
+    ghost index_gives = { λ a i x. x ≡ slice_index_or a i x };
+
+    #[inline]
+    fn index(&self, i: usize) -> &T
+        requires { i < U.USIZE }
+        ensures value { result.now ≡ slice_index_or self.now i result.now }
+    {
+        let items = self.as_slice();
+        &items[i]
     }
 }
 

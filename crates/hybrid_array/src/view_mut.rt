@@ -5,6 +5,7 @@ ghost use Rattle.std.specs.Borrow.{sem, follows, Array as Slots};
 ghost use Rattle.std.specs.Fn.{FnOnceReturnsAtMut};
 ghost use Rattle.std.specs.Mem.{FitsInMemory};
 
+use crate::lending::halves_mut;
 use crate::sizes::U1;
 use crate::{Array, ArraySize, Size, TryFromSliceError};
 use std::marker::PhantomData;
@@ -141,7 +142,7 @@ impl<T, U: ArraySize> Array<T, U> {
         ensures first { result.0.items.now ≡ take N.USIZE self.old }
         ensures rest { result.1.items.now ≡ drop N.USIZE self.old }
     {
-        let (first, rest) = self.as_mut_slice().split_at_mut(N::USIZE);
+        let (first, rest) = halves_mut::<T, N, R>(self.as_mut_slice());
         (ArrayMut::of(first), ArrayMut::of(rest))
     }
 

@@ -30,6 +30,25 @@ fn chunks_of_seven_items_by_index(rt: HostRuntime) {
     assert!(rt; chunks.get(usize::MAX).is_none());
 }
 
+// The sums of the chunks, as digits to the base 100.
+fn sums_of_chunks(slice: &[u8]) -> u32 {
+    let (chunks, _) = Array::<u8, U3>::slice_as_chunks(slice);
+    let mut sums = 0u32;
+    for chunk in chunks.iter() {
+        let sum = chunk
+            .iter()
+            .fold(0u32, |sum, x| sum.wrapping_add(u32::from(*x)));
+        sums = sums.wrapping_mul(100).wrapping_add(sum);
+    }
+    sums
+}
+
+#[test]
+fn chunks_in_order(rt: HostRuntime) {
+    assert!(rt; sums_of_chunks(&[1, 2, 3, 4, 5, 6, 7]) == 615);
+    assert!(rt; sums_of_chunks(&[1, 2]) == 0);
+}
+
 // Whether the slice has no chunk of three items, and all of it is the rest.
 fn is_rest(slice: &[u8]) -> bool {
     let (chunks, rest) = Array::<u8, U3>::slice_as_chunks(slice);
@@ -65,6 +84,14 @@ fn has_third_item_alone(view: &ArrayRef<'_, u8, U3>) -> bool {
     view.get(2).copied() == Some(3) && view.get(3).is_none()
 }
 
+fn number_by_index(view: &ArrayRef<'_, u8, U3>) -> u32 {
+    let by_index = u32::from(view[0]) * 100 + u32::from(view[1]) * 10 + u32::from(view[2]);
+    let digits = view.iter().fold(0u32, |number, x| {
+        number.wrapping_mul(10).wrapping_add(u32::from(*x))
+    });
+    if digits == by_index { digits } else { 0 }
+}
+
 fn is_split(view: &ArrayRef<'_, u8, U3>) -> bool {
     let (first, rest) = view.split_ref::<U1, U2>();
     first.as_slice() == [1].as_slice() && rest.as_slice() == [2, 3].as_slice()
@@ -75,6 +102,7 @@ fn items_and_parts_of_a_view(rt: HostRuntime) {
     match ArrayRef::<u8, U3>::try_from(&[1, 2, 3]) {
         Ok(view) => {
             assert!(rt; has_third_item_alone(&view));
+            assert!(rt; number_by_index(&view) == 123);
             assert!(rt; is_split(&view));
         }
         Err(_) => assert!(rt; false, "no view of three items"),
@@ -110,6 +138,20 @@ fn views_of_no_item_for_writing(rt: HostRuntime) {
     assert!(rt; !is_mut_array::<U0>(&mut [1]));
     assert!(rt; !is_mut_hybrid_array::<U2>(&mut [1]));
     assert!(rt; is_mut_hybrid_array::<U2>(&mut [1, 2]));
+}
+
+// Whether each call that asks for three items refuses the slice, and leaves it as it was.
+fn is_left_when_refused(slice: &mut [u8], same: &[u8]) -> bool {
+    let is_array = is_mut_array::<U3>(slice) || &*slice != same;
+    let is_hybrid_array = is_mut_hybrid_array::<U3>(slice) || &*slice != same;
+    let is_view = is_mut_view::<U3>(slice) || &*slice != same;
+    !is_array && !is_hybrid_array && !is_view
+}
+
+#[test]
+fn a_refused_slice_is_left_as_it_was(rt: HostRuntime) {
+    assert!(rt; is_left_when_refused(&mut [1, 2, 3, 4], &[1, 2, 3, 4]));
+    assert!(rt; is_left_when_refused(&mut [1, 2], &[1, 2]));
 }
 
 fn of_a_view(alloc: Global) -> Option<Array<u8, U2>> {
@@ -187,6 +229,7 @@ fn no_chunk_beyond_the_last_for_writing(rt: HostRuntime) {
     let (mut chunks, _) = SliceExt::as_hybrid_chunks_mut::<u8, U2>(&mut items);
     assert!(rt; chunks.get_mut(2).is_none());
     assert!(rt; chunks.get(2).is_none());
+    assert!(rt; items == [1, 2, 3, 4, 5]);
 }
 
 #[test]

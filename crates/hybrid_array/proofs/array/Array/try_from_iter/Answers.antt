@@ -1,29 +1,7 @@
-use Rattle.std.proofs.Common.{arith}
-use Rattle.std.proofs.lemmas.Grind.{common_steps}
-use Rattle.hybrid_array.specs.Gives.GivesOther.{fewer, more}
-use Rattle.hybrid_array.proofs.CallLemmas.{Yields-push}
+use Rattle.hybrid_array.proofs.CallLemmas.{OnCount-map}
 use Rattle.hybrid_array.proofs.array.Array.try_from_iter.Goals as goal
 
-pub returns-in-None-clause-count : goal.returns-in-None-clause-count
-returns-in-None-clause-count g c = (
-  c.into_iter-rest.result,
-  c.into_iter-rest.ensures.into_iter_gives,
-  fewer c.loop-i.items.items (omega arith) (record {
-    rest = c.loop-i.rest;
-    end = c.next_of.new.it;
-    given = c.loop-i.invariant.given;
-    none = c.in-None.ensures.gives;
-  }),
-)
-
-pub loop-i-preserved : goal.loop-i-preserved
-loop-i-preserved g c = record {
-  can = c.in-Some.ensures.keeps;
-  room = rw c.push_reserved.ensures.capacity c.loop-i.invariant.room;
-  count = rw c.push_reserved.ensures.items (grind (arith, common_steps));
-  given = rw c.push_reserved.ensures.items (Yields-push g.I.IntoIter.Iterator.next_gives c.into_iter-rest.result c.loop-i.items.items c.loop-i.rest c.in-Some.item c.next_of.new.it c.loop-i.invariant.given c.in-Some.ensures.gives);
-}
-
-pub returns-in-Some-next_of-clause-count : goal.returns-in-Some-next_of-clause-count
-returns-in-Some-next_of-clause-count g c =
-    (c.into_iter-rest.result, c.into_iter-rest.ensures.into_iter_gives, more _ _ _ _ c.loop-i.invariant.given (omega arith) c.in-Some-next_of.ensures.gives)
+pub returns-clause-count : goal.returns-clause-count
+returns-clause-count g c =
+    let other = rw c.USIZE.ensures at c.in-Err.ensures.count in
+    OnCount-map _ _ c.in-Err.error (λ o. (c.into_iter-it.result, c.items_of.new.it, c.into_iter-it.ensures.into_iter_gives, o)) other

@@ -1,0 +1,23 @@
+use Rattle.std.proofs.Common.{arith, rules}
+use Rattle.std.proofs.lemmas.Grind.{common_steps}
+use Rattle.hybrid_array.specs.Gives.GivesOther.{fewer, more}
+use Rattle.hybrid_array.proofs.CallLemmas.{Yields-push}
+use Rattle.hybrid_array.proofs.iter.items_of.Goals as goal
+
+pub returns-in-None-clause-count : goal.returns-in-None-clause-count
+returns-in-None-clause-count g c = fewer c.loop-i.items.items (omega arith) (record {
+  rest = c.loop-i.it;
+  given = c.loop-i.invariant.given;
+  none = c.in-None.ensures.gives;
+})
+
+pub loop-i-preserved : goal.loop-i-preserved
+loop-i-preserved g c = record {
+  can = c.in-Some.ensures.keeps;
+  room = rw c.push_reserved.ensures.capacity c.loop-i.invariant.room;
+  count = rw c.push_reserved.ensures.items (grind (arith, common_steps));
+  given = rw c.push_reserved.ensures.items (Yields-push g.I.Iterator.next_gives c.args.it.now c.loop-i.items.items c.loop-i.it c.in-Some.item c.next_of.new.it c.loop-i.invariant.given c.in-Some.ensures.gives);
+}
+
+pub returns-in-Some-next_of-clause-count : goal.returns-in-Some-next_of-clause-count
+returns-in-Some-next_of-clause-count g c = more _ c.in-Some-next_of.field-0 _ c.loop-i.invariant.given (omega arith) (search rules)
