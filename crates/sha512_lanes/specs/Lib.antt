@@ -1,3 +1,3 @@
 pub mod Lanes
 pub mod Steps
-pub mod Begun
+pub mod Midstate

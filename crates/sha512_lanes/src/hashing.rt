@@ -4,7 +4,7 @@ ghost use Rattle.std.specs.Prelude.{◌≡◌, ℕ, ◌+◌, ◌-◌, ◌*◌, �
 ghost use Rattle.std.specs.Prelude.{length, map, replicate, slice_index_or, take};
 ghost use Rattle.std.specs.Int.{to_be_bytes, w128};
 ghost use Rattle.sha2.specs.Sha512.{digest_bytes, padding, sha512};
-ghost use Rattle.sha512_lanes.specs.Begun.{BeginsWith};
+ghost use Rattle.sha512_lanes.specs.Midstate.{BeginsWith};
 
 use crate::compression::compress_each;
 use crate::word::Word;
@@ -100,18 +100,18 @@ fn digests_of<const N: usize>(words: &[[u64; 8]; N]) -> [[u8; 64]; N]
 
 /// SHA-512 as it stands after the first block of a message.
 #[derive(Drop)]
-pub struct Begun {
+pub struct Midstate {
     words: [u64; 8],
 }
 
-impl Begun {
+impl Midstate {
     /// SHA-512 after a message's first block.
-    #[tactic(auto, unfolding(crate::specs::Begun::BeginsWith))]
-    pub fn new(block: &[u8; BLOCK_BYTES]) -> Begun
+    #[tactic(auto, unfolding(crate::specs::Midstate::BeginsWith))]
+    pub fn new(block: &[u8; BLOCK_BYTES]) -> Midstate
         ensures { BeginsWith result block.now }
     {
         let [words] = compress_each::<u64, 1>(&INITIAL_WORDS, &[*block]);
-        Begun { words }
+        Midstate { words }
     }
 
     // As many messages as a word has lanes, side by side.

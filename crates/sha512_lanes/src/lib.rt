@@ -9,7 +9,7 @@
 //! `example_of_the_page` runs this:
 //!
 //! ```
-//! use sha512_lanes::{BLOCK_BYTES, Begun};
+//! use sha512_lanes::{BLOCK_BYTES, Midstate};
 //!
 //! fn tail_of(bytes: &[u8; 3]) -> [u8; BLOCK_BYTES] {
 //!     let mut tail = [0; BLOCK_BYTES];
@@ -18,14 +18,14 @@
 //! }
 //!
 //! fn four_digests(block: &[u8; BLOCK_BYTES]) -> [[u8; 64]; 4] {
-//!     let begun = Begun::new(block);
+//!     let midstate = Midstate::new(block);
 //!     let tails = [
 //!         tail_of(b"one"),
 //!         tail_of(b"two"),
 //!         tail_of(b"six"),
 //!         tail_of(b"ten"),
 //!     ];
-//!     begun.finalize_four(&tails, 3)
+//!     midstate.finalize_four(&tails, 3)
 //! }
 //! ```
 //!
@@ -40,4 +40,4 @@ mod hashing;
 mod tests;
 mod word;
 
-pub use hashing::{BLOCK_BYTES, Begun, MAX_TAIL};
+pub use hashing::{BLOCK_BYTES, MAX_TAIL, Midstate};

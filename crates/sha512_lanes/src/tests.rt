@@ -1,6 +1,6 @@
 //! Digests against those of Python's `hashlib`.
 
-use crate::{BLOCK_BYTES, Begun, MAX_TAIL};
+use crate::{BLOCK_BYTES, MAX_TAIL, Midstate};
 use std::test::Fail;
 
 // The digests of 128 bytes 07 and then 86 bytes 00, 01, 02 or 03.
@@ -62,11 +62,11 @@ fn counted() -> [u8; BLOCK_BYTES] {
 
 #[test]
 fn four_side_by_side(rt: HostRuntime) {
-    let begun = Begun::new(&[7; BLOCK_BYTES]);
+    let midstate = Midstate::new(&[7; BLOCK_BYTES]);
     let tails = [[0; 128], [1; 128], [2; 128], [3; 128]];
-    assert_eq!(rt; begun.finalize_four(&tails, 86), DIGESTS_OF_TAILS);
+    assert_eq!(rt; midstate.finalize_four(&tails, 86), DIGESTS_OF_TAILS);
     let three_alike = [[2; 128], [2; 128], [2; 128], [0; 128]];
-    let [first, _, third, fourth] = begun.finalize_four(&three_alike, 86);
+    let [first, _, third, fourth] = midstate.finalize_four(&three_alike, 86);
     assert_eq!(rt; first, DIGESTS_OF_TAILS[2]);
     assert_eq!(rt; third, DIGESTS_OF_TAILS[2]);
     assert_eq!(rt; fourth, DIGESTS_OF_TAILS[0]);
@@ -74,10 +74,10 @@ fn four_side_by_side(rt: HostRuntime) {
 
 #[test]
 fn one_alone(rt: HostRuntime) {
-    let begun = Begun::new(&counted());
-    assert_eq!(rt; begun.finalize_one(&[counted()], 0), [DIGEST_OF_A_BLOCK]);
+    let midstate = Midstate::new(&counted());
+    assert_eq!(rt; midstate.finalize_one(&[counted()], 0), [DIGEST_OF_A_BLOCK]);
     assert_eq!(rt;
-        begun.finalize_one(&[counted()], MAX_TAIL),
+        midstate.finalize_one(&[counted()], MAX_TAIL),
         [DIGEST_OF_THE_LONGEST]
     );
 }
@@ -89,14 +89,14 @@ fn tail_of(bytes: &[u8; 3]) -> [u8; BLOCK_BYTES] {
 }
 
 fn four_digests(block: &[u8; BLOCK_BYTES]) -> [[u8; 64]; 4] {
-    let begun = Begun::new(block);
+    let midstate = Midstate::new(block);
     let tails = [
         tail_of(b"one"),
         tail_of(b"two"),
         tail_of(b"six"),
         tail_of(b"ten"),
     ];
-    begun.finalize_four(&tails, 3)
+    midstate.finalize_four(&tails, 3)
 }
 
 // The digests of 128 bytes 07 and then `one`, `two`, `six` or `ten`.

@@ -29,6 +29,7 @@
 //! may sign, since memory may be wanting; `verify` answers `Ok` exactly where the key accepts.
 #![tactic(auto)]
 
+pub mod counter;
 mod encoding;
 mod keypair;
 mod signer;

@@ -1,57 +1,17 @@
 //! A key of one byte, whose signatures are one byte too, by the traits' bounds.
 ghost use Rattle.std.specs.Prelude.{◌≡◌, ◌≢◌, ◌+◌, ◌%◌, ◌^◌, ◌≤◌, ◌<◌, ℕ, length, slice_index};
 ghost use Rattle.std.specs.Prelude.{◌∷◌, []};
-ghost use Rattle.rand_core.specs.Steps.{steps_u32, stream_of};
 ghost use Rattle.rand_core.specs.Stream.{fill_bytes};
 ghost use Rattle.signature_core.specs.declared.tests.TooLong.{TooLong};
 
+use crate::counter::Counter;
 use crate::{KeypairRef, RandomizedSigner, SignatureEncoding, Signer, Verifier};
 use hybrid_array::Array;
 use hybrid_array::sizes::U1;
 use rand_core::Rng;
-use rand_core::utils::{self, NextWord};
 use std::alloc::{AllocError, Global};
-use std::marker::Model;
 use std::process::Abort;
 use std::test::Fail;
-
-// A generator whose words count up.
-#[derive(Drop)]
-struct Counter {
-    next: u32,
-}
-
-impl Model for Counter {
-    ghost Value = { ℕ };
-
-    ghost view = { λ c. c.next };
-}
-
-impl NextWord<u32> for Counter {
-    ghost step = { λ s. (s, (s + 1) % 2 ^ 32) };
-
-    fn next_word(&mut self) -> u32 {
-        let word = self.next;
-        self.next = word.wrapping_add(1);
-        word
-    }
-}
-
-impl Rng for Counter {
-    ghost stream = { stream_of (steps_u32 (λ s. (s, (s + 1) % 2 ^ 32))) };
-
-    fn next_u32(&mut self) -> u32 {
-        self.next_word()
-    }
-
-    fn next_u64(&mut self) -> u64 {
-        utils::next_u64_via_u32(self)
-    }
-
-    fn fill_bytes(&mut self, dst: &mut [u8]) {
-        utils::fill_bytes_via_u32(self, dst)
-    }
-}
 
 // A message of more than three bytes.
 #[derive(Clone, Copy, Debug, PartialEq, Eq)]
@@ -203,7 +163,7 @@ fn example_of_the_page(rt: HostRuntime) {
 #[test]
 fn generator_is_drawn_from_where_a_signature_follows(rt: HostRuntime) -> Result<(), Fail> {
     let key = Key { byte: 2 };
-    let mut rng = Counter { next: 5 };
+    let mut rng = Counter::new(5);
     assert!(rt; encoded(rt.alloc(), &key, &mut rng, b"abcd")?.is_none());
     let bytes = encoded(rt.alloc(), &key, &mut rng, b"abc")?.ok_or("refused")?;
     assert_eq!(rt; bytes.as_slice(), [7].as_slice());

@@ -1,5 +1,5 @@
 -- What an audit answers, and the test of evidence. Z is the scheme, key a signing key.
-use Rattle.std.specs.Prelude.{ℕ, ◌*◌, Bool, if◌then◌else◌, List, [], ◌∷◌, length, take}
+use Rattle.std.specs.Prelude.{◌≡◌, ◌↔◌, ℕ, ◌*◌, Bool, if◌then◌else◌, List, [], ◌∷◌, length, take}
 use Rattle.std.specs.Prelude.{Option, None, Some, Result, Ok, Err}
 use Rattle.std.specs.Str.{bytes_eq}
 use Rattle.slh_audit.specs.declared.evidence.AuditError.{AuditError}
@@ -16,7 +16,7 @@ use Rattle.slh_core.specs.Parameters.{Scheme}
 use Rattle.slh_trees.specs.Checking.{checked_root, signature_size}
 use Rattle.slh_trees.specs.Frame.{frame}
 use Rattle.slh_trees.specs.Keys.{top_root}
-use Rattle.slh_trees.specs.Signing.{digest_signature}
+use Rattle.slh_trees.specs.Signing.{digest_signature, signature_with}
 use Rattle.slh_trees.specs.Sizes.{context_refusal, first_refusal, length_refusal, message_refusal}
 
 -- the first refusal by size, where there is one
@@ -57,6 +57,11 @@ message_audit Z key message sig =
     if bytes_eq (checked_root Z s root message sig) root then Ok (verdict Z key message sig)
     else Err Invalid
     else Err KeyMismatch
+
+-- a verdict is `Genuine` exactly where the bytes are what the key makes with their own randomizer
+abbrev pub IsGenuineExactly : Scheme → List ℕ → List ℕ → List ℕ → Verdict → Type 0
+IsGenuineExactly Z key message sig given =
+    (given ≡ Genuine) ↔ (sig ≡ signature_with Z key (take Z.n sig) message)
 
 -- an answer, unless there is a refusal
 abbrev pub unless_refused : {T : Type 0} → Option AuditError → Result T AuditError

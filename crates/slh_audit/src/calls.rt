@@ -1,14 +1,16 @@
 //! Audits: whether a key made the bytes that lead to its root.
 ghost use Rattle.std.specs.Prelude.{◌≡◌, ◌≤◌, ◌*◌, ◌+◌, ◌++◌, length, take};
-ghost use Rattle.std.specs.Prelude.{◌↔◌, IsTrue};
+ghost use Rattle.std.specs.Prelude.{◌↔◌, IfOk, IsTrue};
 ghost use Rattle.slh_audit.specs.Evidence.{dispute, dispute_of, shows};
-ghost use Rattle.slh_audit.specs.Verdicts.{audit_answer, check_answer, message_audit};
+ghost use Rattle.slh_audit.specs.Verdicts.{IsGenuineExactly, audit_answer, check_answer};
+ghost use Rattle.slh_audit.specs.Verdicts.{message_audit};
 ghost use Rattle.slh_audit.specs.Verdicts.{framed_audit_answer, framed_check_answer};
 ghost use Rattle.slh_audit.specs.Verdicts.{digest_verdict as spec_digest_verdict};
 ghost use Rattle.slh_audit.specs.Verdicts.{foreign_by as spec_foreign_by};
 ghost use Rattle.slh_core.specs.Bytes.{part};
 ghost use Rattle.slh_core.specs.Steps.{IsFresh};
 ghost use Rattle.slh_trees.specs.Checking.{forest_of, layers_of, signature_size};
+ghost use Rattle.slh_trees.specs.Frame.{frame};
 ghost use Rattle.slh_trees.specs.MessageDigest.{split_digest as spec_split_digest};
 
 use crate::dispute::Dispute;
@@ -20,8 +22,9 @@ use slh_core::nbytes::NBytes;
 use slh_core::params::{ForsParams, MAX_DIGEST_LEN, MAX_MESSAGE_LEN, forest_sizes};
 use slh_core::parts::part_of;
 use slh_core::steps::Steps;
+use slh_trees::check::{root_for_digest, write_digest};
 use slh_trees::sizes::frame_head;
-use slh_trees::{SigView, check_root, split_digest, top_root};
+use slh_trees::{SigView, split_digest, top_root};
 use std::marker::Brand;
 use std::sync::ledger::{Blank, Ledger};
 
@@ -88,7 +91,7 @@ fn digest_verdict<P: ForsParams, L: Ledger>(
     ensures { result ≡ spec_digest_verdict P.scheme pk_seed.now sk_seed.now digest.now sig.now }
 {
     let dispute = set_against::<P>(sk_seed, pk_seed, digest, sig);
-    let (made, key) = dispute.forest_made::<L>(steps);
+    let (made, key) = dispute.compare_forest::<L>(steps);
     let lowest = dispute.own_from::<L>(&key, steps);
     if all_made(made, lowest) {
         return Verdict::Genuine;
@@ -111,31 +114,6 @@ fn digest_shows<P: ForsParams, L: Ledger>(
 {
     let dispute = set_against::<P>(sk_seed, pk_seed, digest, sig);
     dispute.shows::<L>(evidence, steps)
-}
-
-/// Writes the digest of the message that the three slices joined are, by the key and by the
-/// signature's own randomizer.
-fn write_digest<P: ForsParams>(
-    key: &[u8],
-    head: &[u8],
-    ctx: &[u8],
-    msg: &[u8],
-    sig: &SigView<'_, P>,
-    out: &mut [u8],
-)
-    requires key { length key.now ≡ 4 * P.N.USIZE }
-    requires message { length head.now + length ctx.now + length msg.now ≤ MAX_MESSAGE_LEN }
-    requires room { length out.old ≡ P.M.USIZE }
-    ensures { let Z = P.scheme in
-        let message = head.now ++ ctx.now ++ msg.now in
-        let rand = take Z.n sig.now in
-        out.new ≡ Z.suite.h_msg rand (part Z.n key.now 2) (part Z.n key.now 3) message }
-{
-    forest_sizes::<P>();
-    let rand = NBytes::<P::N>::from_view(sig.randomizer());
-    let pk_seed = part_of::<P::N>(key, 2);
-    let pk_root = part_of::<P::N>(key, 3);
-    P::h_msg(&rand, &pk_seed, &pk_root, head, ctx, msg, out);
 }
 
 /// The audit of the bytes of a signature of the message that the three slices joined are.
@@ -163,13 +141,13 @@ fn audit_message<P: ForsParams, L: Ledger>(
     if !same(pk_root.as_slice(), own.as_slice()) {
         return Err(AuditError::KeyMismatch);
     }
-    let root = check_root::<P, L>(&pk_seed, &pk_root, head, ctx, msg, sig, &mut steps);
+    let mut store = [0u8; MAX_DIGEST_LEN];
+    let digest = &mut store[..P::M::USIZE];
+    write_digest::<P>(&pk_seed, &pk_root, head, ctx, msg, sig, digest);
+    let root = root_for_digest::<P, L>(&pk_seed, digest, sig, &mut steps);
     if !same(root.as_slice(), pk_root.as_slice()) {
         return Err(AuditError::Invalid);
     }
-    let mut store = [0u8; MAX_DIGEST_LEN];
-    let digest = &mut store[..P::M::USIZE];
-    write_digest::<P>(key, head, ctx, msg, sig, digest);
     Ok(digest_verdict::<P, L>(&sk_seed, &pk_seed, digest, sig, &mut steps))
 }
 
@@ -194,9 +172,10 @@ fn check_message<P: ForsParams, L: Ledger>(
     let mut steps = Steps::<L>::new(blank);
     let sk_seed = part_of::<P::N>(key, 0);
     let pk_seed = part_of::<P::N>(key, 2);
+    let pk_root = part_of::<P::N>(key, 3);
     let mut store = [0u8; MAX_DIGEST_LEN];
     let digest = &mut store[..P::M::USIZE];
-    write_digest::<P>(key, head, ctx, msg, sig, digest);
+    write_digest::<P>(&pk_seed, &pk_root, head, ctx, msg, sig, digest);
     digest_shows::<P, L>(&sk_seed, &pk_seed, digest, sig, evidence, &mut steps)
 }
 
@@ -211,7 +190,9 @@ pub fn audit<P: ForsParams>(
     msg: &[u8],
     sig: &[u8],
 ) -> Result<Verdict, AuditError>
-    ensures { result ≡ audit_answer P.scheme key.now ctx.now msg.now sig.now }
+    ensures value { result ≡ audit_answer P.scheme key.now ctx.now msg.now sig.now }
+    ensures genuine { let message = frame ctx.now msg.now in
+        IfOk result (λ verdict. IsGenuineExactly P.scheme key.now message sig.now verdict) }
 {
     match check_sizes::<P>(key, ctx, msg, sig) {
         Ok(sig) => {
@@ -254,8 +235,10 @@ pub fn audit_framed<P: ForsParams>(
     sig: &[u8],
 ) -> Result<Verdict, AuditError>
     requires { length head.now + length ctx.now + length msg.now ≤ MAX_MESSAGE_LEN }
-    ensures { let message = head.now ++ ctx.now ++ msg.now in
+    ensures value { let message = head.now ++ ctx.now ++ msg.now in
         result ≡ framed_audit_answer P.scheme key.now message sig.now }
+    ensures genuine { let message = head.now ++ ctx.now ++ msg.now in
+        IfOk result (λ verdict. IsGenuineExactly P.scheme key.now message sig.now verdict) }
 {
     match check_lengths::<P>(key, sig) {
         Ok(sig) => audit_message::<P, Brand>(key, head, ctx, msg, &sig, Blank::new(1)),

@@ -2,7 +2,7 @@
 ghost use Rattle.std.specs.Prelude.{◌≡◌, ◌+◌, ◌-◌, ◌*◌, ◌^◌, ◌<◌, ◌≤◌, length};
 ghost use Rattle.slh_audit.specs.Evidence.{checked_at, dispute_on, own_at};
 ghost use Rattle.slh_core.specs.Bytes.{joined, part};
-ghost use Rattle.slh_core.specs.Parameters.{scheme_of};
+ghost use Rattle.slh_core.specs.Parameters.{Scheme, scheme_of};
 ghost use Rattle.slh_trees.specs.Checking.{fors_pk_from_sig};
 ghost use Rattle.slh_trees.specs.Fors.{fors_pk, fors_node as spec_fors_node};
 ghost use Rattle.slh_trees.specs.Hypertree.{layer_size, leaf_at, tree_at};
@@ -18,6 +18,16 @@ use slh_trees::hypertree::{layer_len, next_place, tree_adrs_of};
 use slh_trees::xmss::{at_leaf, xmss_node, xmss_pk_from_sig};
 use std::marker::Model;
 use std::sync::ledger::Ledger;
+
+// The suite and the sizes of a set, as proofs see them.
+pub(crate) trait Sizes: ForsParams {
+    ghost scheme_now: { Scheme };
+}
+
+impl<P: ForsParams> Sizes for P {
+    ghost scheme_now = { scheme_of P.suite P.N.USIZE
+        P.HPrime.USIZE P.D.USIZE P.A.USIZE P.K.USIZE };
+}
 
 /// The seeds of a key, the places that a message's digest names, and the two parts of a signature.
 #[derive(Drop)]
@@ -73,8 +83,7 @@ impl<'a, P: ForsParams> Dispute<'a, P> {
 
     /// The forest's public key that the signature leads to.
     pub(crate) fn checked_key<L: Ledger>(&self, steps: &mut Steps<L>) -> NBytes<P::N>
-        ensures { let Z = scheme_of P.suite P.N.USIZE
-            P.HPrime.USIZE P.D.USIZE P.A.USIZE P.K.USIZE in
+        ensures { let Z = ⟦<P as Sizes>⟧.scheme_now in
             let D = dispute_on Z self.now in
             result ≡ fors_pk_from_sig D.K D.t D.l D.k D.a D.forest D.md }
     {
@@ -111,8 +120,7 @@ impl<'a, P: ForsParams> Dispute<'a, P> {
         steps: &mut Steps<L>,
     ) -> NBytes<P::N>
         requires { layer ≤ P.D.USIZE }
-        ensures { let Z = scheme_of P.suite P.N.USIZE
-            P.HPrime.USIZE P.D.USIZE P.A.USIZE P.K.USIZE in
+        ensures { let Z = ⟦<P as Sizes>⟧.scheme_now in
             result ≡ checked_at (dispute_on Z self.now) layer }
     {
         layer_sizes::<P>();
@@ -130,8 +138,7 @@ impl<'a, P: ForsParams> Dispute<'a, P> {
     #[tactic(auto, unfolding(slh_core::specs::Bytes::joined))]
     pub(crate) fn own_roots<L: Ledger>(&self, out: &mut [u8], steps: &mut Steps<L>)
         requires { length out.old ≡ P.K.USIZE * P.N.USIZE }
-        ensures { let Z = scheme_of P.suite P.N.USIZE
-            P.HPrime.USIZE P.D.USIZE P.A.USIZE P.K.USIZE in
+        ensures { let Z = ⟦<P as Sizes>⟧.scheme_now in
             let D = dispute_on Z self.now in
             out.new ≡ joined (λ i. spec_fors_node D.K D.sk D.t D.l D.a i) D.k }
     {
@@ -156,8 +163,7 @@ impl<'a, P: ForsParams> Dispute<'a, P> {
     /// The public key of the key's own forest.
     #[tactic(auto, unfolding(slh_trees::specs::Fors::fors_pk))]
     pub(crate) fn own_key<L: Ledger>(&self, steps: &mut Steps<L>) -> NBytes<P::N>
-        ensures { let Z = scheme_of P.suite P.N.USIZE
-            P.HPrime.USIZE P.D.USIZE P.A.USIZE P.K.USIZE in
+        ensures { let Z = ⟦<P as Sizes>⟧.scheme_now in
             let D = dispute_on Z self.now in
             result ≡ fors_pk D.K D.sk D.t D.l D.k D.a }
     {
@@ -171,8 +177,7 @@ impl<'a, P: ForsParams> Dispute<'a, P> {
     /// The message that the key signs on a layer.
     pub(crate) fn own_message<L: Ledger>(&self, layer: usize, steps: &mut Steps<L>) -> NBytes<P::N>
         requires { layer ≤ P.D.USIZE }
-        ensures { let Z = scheme_of P.suite P.N.USIZE
-            P.HPrime.USIZE P.D.USIZE P.A.USIZE P.K.USIZE in
+        ensures { let Z = ⟦<P as Sizes>⟧.scheme_now in
             result ≡ own_at (dispute_on Z self.now) layer }
     {
         layer_sizes::<P>();

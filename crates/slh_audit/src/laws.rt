@@ -1,11 +1,13 @@
 //! Laws of evidence, each the contract of a function that does nothing but make the calls that it
 //! speaks of.
-ghost use Rattle.std.specs.Prelude.{◌≡◌, ◌↔◌, ◌⊎◌, ℕ, List, length, take, Some, true, false};
+ghost use Rattle.std.specs.Prelude.{◌≡◌, ◌↔◌, ◌⊎◌, ℕ, List, length, take, Some, Ok, true, false};
 ghost use Rattle.std.specs.Prelude.{IsTrue};
 ghost use Rattle.std.specs.List.{Contains};
 ghost use Rattle.slh_audit.specs.Evidence.{Dispute, dispute_of, shows};
 ghost use Rattle.slh_audit.specs.Places.{IsFirst, first_evidence, places};
+ghost use Rattle.slh_audit.specs.Verdicts.{IsGenuineExactly, message_audit};
 ghost use Rattle.slh_audit.specs.declared.evidence.Evidence.{Evidence};
+ghost use Rattle.slh_audit.specs.declared.evidence.Verdict.{Verdict};
 ghost use Rattle.slh_core.specs.Bytes.{part};
 ghost use Rattle.slh_trees.specs.Checking.{checked_root, signature_size};
 ghost use Rattle.slh_trees.specs.Keys.{top_root};
@@ -24,6 +26,15 @@ pub fn accepted_is_made_or_found<P: ForsParams>()
         checked_root Z s (part Z.n key 3) message sig ≡ top_root Z s (part Z.n key 0)
         → ((e : Evidence) × (first_evidence (dispute_of Z key message sig) ≡ Some e))
         ⊎ (sig ≡ signature_with Z key (take Z.n sig) message) }
+{}
+
+/// Where the audit of a message has a verdict, it is `Genuine` exactly for the bytes that the key
+/// makes with their own randomizer.
+pub fn genuine_is_made<P: ForsParams>()
+    ensures { (key message sig : List ℕ) (verdict : Verdict)
+        → length sig ≡ signature_size P.scheme
+        → message_audit P.scheme key message sig ≡ Ok verdict
+        → IsGenuineExactly P.scheme key message sig verdict }
 {}
 
 /// Nothing shows against the bytes that a key makes, whatever root it has.

@@ -1,29 +1,29 @@
-//! Whether evidence of one layer shows.
+//! A layer under check, and whether its evidence shows.
 ghost use Rattle.std.specs.Prelude.{take, drop, ◌≡◌, ◌↔◌, ℕ, ◌+◌, ◌-◌, ◌*◌, ◌/◌, ◌^◌, ◌<◌, ◌≤◌};
 ghost use Rattle.std.specs.Prelude.{List, length, slice_index, IsTrue};
 ghost use Rattle.std.specs.Str.{bytes_eq};
 ghost use Rattle.slh_core.specs.Digits.{wots_digits};
-ghost use Rattle.slh_audit.specs.Evidence.{collide as spec_collide};
-ghost use Rattle.slh_audit.specs.Evidence.{tree_node_shows as spec_tree_node_shows};
-ghost use Rattle.slh_audit.specs.Evidence.{leaf_shows as spec_leaf_shows};
-ghost use Rattle.slh_audit.specs.Evidence.{chain_step_shows as spec_chain_step_shows};
-ghost use Rattle.slh_audit.specs.Evidence.{early_shows as spec_early_shows};
-ghost use Rattle.slh_core.specs.Bytes.{joined};
+ghost use Rattle.slh_audit.specs.Evidence.{checked_at, collide as spec_collide, dispute_on, own_at};
+ghost use Rattle.slh_audit.specs.Evidence.{shows as spec_shows};
+ghost use Rattle.slh_audit.specs.declared.evidence.Evidence.TheVariants.{ChainStep, Early, Leaf};
+ghost use Rattle.slh_audit.specs.declared.evidence.Evidence.TheVariants.{TreeNode};
+ghost use Rattle.slh_core.specs.Bytes.{joined, part};
 ghost use Rattle.slh_core.specs.Wots.{chain_value};
-ghost use Rattle.slh_core.specs.Parameters.{chain_count};
-ghost use Rattle.slh_trees.specs.Hypertree.{layer_size};
+ghost use Rattle.slh_core.specs.Parameters.{chain_count, scheme_of};
+ghost use Rattle.slh_trees.specs.Hypertree.{layer_size, leaf_at, tree_at};
 
+use crate::dispute::{Dispute, Sizes};
 use crate::sizes::ends_len;
 use hybrid_array::ArraySize;
 use slh_core::address::{Address, HashTree, WotsHash, WotsPk};
 use slh_core::digits::message_digits;
 use slh_core::nbytes::NBytes;
-use slh_core::params::{MAX_ENDS_LEN, WotsParams, XmssParams, chain_sizes, tree_sizes};
+use slh_core::params::{ForsParams, MAX_ENDS_LEN, WotsParams, XmssParams, chain_sizes, tree_sizes};
 use slh_core::parts::{part_of, put_part};
 use slh_core::steps::Steps;
 use slh_core::suite::HashSuite;
 use slh_core::wots::{finish_chains, own_chain, wots_chain, wots_pk_from_sig};
-use slh_trees::climb::climb_path;
+use slh_trees::climb::root_from_auth_path;
 use slh_trees::node::sibling;
 use slh_trees::xmss::xmss_node;
 use std::sync::ledger::Ledger;
@@ -91,40 +91,6 @@ pub(crate) fn layer_parts<P: XmssParams>(sig: &[u8]) -> (&[u8], &[u8])
     sig.split_at(P::WotsSigLen::USIZE * P::N::USIZE)
 }
 
-/// Whether the node at a height on the way up shows.
-pub(crate) fn tree_node_shows<P: XmssParams, L: Ledger>(
-    sk_seed: &NBytes<P::N>,
-    keyed: &P::Keyed,
-    adrs: &WotsHash,
-    sig: &[u8],
-    message: &NBytes<P::N>,
-    height: u32,
-    steps: &mut Steps<L>,
-) -> bool
-    requires low { 1 ≤ height }
-    requires high { height ≤ P.HPrime.USIZE }
-    requires leaf { adrs.now.key_pair_adrs < 2 ^ P.HPrime.USIZE }
-    requires whole { length sig.now ≡ layer_size P.N.USIZE P.HPrime.USIZE }
-    ensures { let K = P.keyed_suite keyed.now in
-        let a = adrs.now in
-        result ≡ spec_tree_node_shows K sk_seed.now
-        a.layer_adrs a.tree_adrs_low a.key_pair_adrs sig.now message.now height }
-{
-    tree_sizes::<P>();
-    let (chains, path) = layer_parts::<P>(sig);
-    let leaf = wots_pk_from_sig::<P, L>(chains, message, keyed, adrs, steps);
-    let y = adrs.key_pair_adrs;
-    let z = height - 1;
-    let at = adrs.tree_adrs();
-    let below = climb_path::<P, HashTree, L>(&leaf, y, z as usize, path, keyed, &at, steps);
-    let beside = part_of::<P::N>(path, z as usize);
-    let node = climb_path::<P, HashTree, L>(&leaf, y, height as usize, path, keyed, &at, steps);
-    let own_below = xmss_node::<P, L>(sk_seed, y >> z, z, keyed, adrs, steps);
-    let own_beside = xmss_node::<P, L>(sk_seed, sibling(y >> z), z, keyed, adrs, steps);
-    let own_node = xmss_node::<P, L>(sk_seed, y >> height, height, keyed, adrs, steps);
-    nodes_collide(&below, &own_below, &beside, &own_beside, &node, &own_node)
-}
-
 /// Writes the ends of the key's own chains.
 #[tactic(auto, unfolding(slh_core::specs::Bytes::joined))]
 fn own_ends<P: WotsParams, L: Ledger>(
@@ -148,35 +114,6 @@ fn own_ends<P: WotsParams, L: Ledger>(
         let end = own_chain::<P, L>(sk_seed, keyed, adrs, c as u32, 15, steps);
         put_part(out, n, c, end.as_slice());
     }
-}
-
-/// Whether the ends of the chains show.
-pub(crate) fn leaf_shows<P: XmssParams, L: Ledger>(
-    sk_seed: &NBytes<P::N>,
-    keyed: &P::Keyed,
-    adrs: &WotsHash,
-    sig: &[u8],
-    message: &NBytes<P::N>,
-    steps: &mut Steps<L>,
-) -> bool
-    requires { length sig.now ≡ layer_size P.N.USIZE P.HPrime.USIZE }
-    ensures { let K = P.keyed_suite keyed.now in
-        let a = adrs.now in
-        result ≡ spec_leaf_shows K sk_seed.now
-        a.layer_adrs a.tree_adrs_low a.key_pair_adrs sig.now message.now }
-{
-    tree_sizes::<P>();
-    let len = P::WotsSigLen::USIZE;
-    let size = ends_len::<P>();
-    let all = message_digits(message);
-    let mut store = [0u8; MAX_ENDS_LEN];
-    let ends = &mut store[..size];
-    let (chains, _) = layer_parts::<P>(sig);
-    finish_chains::<P, L>(&all[..len], chains, keyed, adrs, ends, steps);
-    let mut own_store = [0u8; MAX_ENDS_LEN];
-    let own = &mut own_store[..size];
-    own_ends::<P, L>(sk_seed, keyed, adrs, own, steps);
-    hashes_collide::<P, WotsPk, L>(keyed, &adrs.pk_adrs(), ends, own, steps)
 }
 
 /// The digit of a message that belongs to a chain.
@@ -203,72 +140,139 @@ fn at_chain(adrs: &WotsHash, chain: u32) -> WotsHash
     }
 }
 
-/// Whether a chain's value before a step shows.
-pub(crate) fn chain_step_shows<P: XmssParams, L: Ledger>(
-    sk_seed: &NBytes<P::N>,
-    keyed: &P::Keyed,
-    adrs: &WotsHash,
-    sig: &[u8],
-    message: &NBytes<P::N>,
-    chain: u32,
-    step: u32,
-    steps: &mut Steps<L>,
-) -> bool
-    requires chain { chain < P.WotsSigLen.USIZE }
-    requires whole { length sig.now ≡ layer_size P.N.USIZE P.HPrime.USIZE }
-    ensures { let K = P.keyed_suite keyed.now in
-        let a = adrs.now in
-        result ≡ spec_chain_step_shows K sk_seed.now
-        a.layer_adrs a.tree_adrs_low a.key_pair_adrs sig.now message.now chain step }
-{
-    tree_sizes::<P>();
-    let digit = digit_of::<P>(message, chain);
-    if step < digit {
-        return false;
-    }
-    if step > 14 {
-        return false;
-    }
-    let (chains, _) = layer_parts::<P>(sig);
-    let value = part_of::<P::N>(chains, chain as usize);
-    let at = at_chain(adrs, chain);
-    let before = wots_chain::<P, L>(&value, digit, step - digit, keyed, &at, steps);
-    let after = wots_chain::<P, L>(&value, digit, step + 1 - digit, keyed, &at, steps);
-    let own_before = own_chain::<P, L>(sk_seed, keyed, adrs, chain, step, steps);
-    let own_after = own_chain::<P, L>(sk_seed, keyed, adrs, chain, step + 1, steps);
-    collide(
-        before.as_slice(),
-        own_before.as_slice(),
-        after.as_slice(),
-        own_after.as_slice(),
-    )
+/// A layer under check: the dispute, the address of the key pair that signs, the layer's part of the
+/// signature, and the message that the check has on the layer.
+#[derive(Drop)]
+pub(crate) struct LayerCheck<'s, 'a, P: ForsParams> {
+    pub(crate) dispute: &'s Dispute<'a, P>,
+    pub(crate) adrs: WotsHash,
+    pub(crate) sig: &'s [u8],
+    pub(crate) message: NBytes<P::N>,
+    ghost layer: { adrs.layer_adrs < P.D.USIZE },
+    ghost tree: { adrs.tree_adrs_low ≡ tree_at P.HPrime.USIZE dispute.now.t adrs.layer_adrs },
+    ghost leaf: { adrs.key_pair_adrs
+        ≡ leaf_at P.HPrime.USIZE dispute.now.t dispute.now.l adrs.layer_adrs },
+    ghost below: { adrs.key_pair_adrs < 2 ^ P.HPrime.USIZE },
+    ghost part: { sig.now
+        ≡ part (layer_size P.N.USIZE P.HPrime.USIZE) dispute.now.layers adrs.layer_adrs },
+    ghost whole: { length sig.now ≡ layer_size P.N.USIZE P.HPrime.USIZE },
+    ghost checked: { message ≡ checked_at (dispute_on (scheme_of P.suite P.N.USIZE P.HPrime.USIZE
+        P.D.USIZE P.A.USIZE P.K.USIZE) dispute.now) adrs.layer_adrs },
 }
 
-/// Whether a chain is opened earlier than the key opens it for its own message.
-pub(crate) fn early_shows<P: XmssParams, L: Ledger>(
-    sk_seed: &NBytes<P::N>,
-    keyed: &P::Keyed,
-    adrs: &WotsHash,
-    sig: &[u8],
-    message: &NBytes<P::N>,
-    own: &NBytes<P::N>,
-    chain: u32,
-    steps: &mut Steps<L>,
-) -> bool
-    requires chain { chain < P.WotsSigLen.USIZE }
-    requires whole { length sig.now ≡ layer_size P.N.USIZE P.HPrime.USIZE }
-    ensures { let K = P.keyed_suite keyed.now in
-        let a = adrs.now in
-        result ≡ spec_early_shows K sk_seed.now
-        a.layer_adrs a.tree_adrs_low a.key_pair_adrs sig.now message.now own.now chain }
-{
-    tree_sizes::<P>();
-    let digit = digit_of::<P>(message, chain);
-    if digit >= digit_of::<P>(own, chain) {
-        return false;
+impl<'s, 'a, P: ForsParams> LayerCheck<'s, 'a, P> {
+    /// Whether the node at a height on the way up shows.
+    pub(crate) fn tree_node_shows<L: Ledger>(&self, height: u32, steps: &mut Steps<L>) -> bool
+        requires low { 1 ≤ height }
+        requires high { height ≤ P.HPrime.USIZE }
+        ensures { let Z = ⟦<P as Sizes>⟧.scheme_now in
+            let D = dispute_on Z self.now.dispute.now in
+            result ≡ spec_shows D (TreeNode self.now.adrs.layer_adrs height) }
+    {
+        tree_sizes::<P>();
+        let dispute = self.dispute;
+        let (sk_seed, keyed, adrs) = (&dispute.sk_seed, &dispute.keyed, &self.adrs);
+        let (chains, path) = layer_parts::<P>(self.sig);
+        let leaf = wots_pk_from_sig::<P, L>(chains, &self.message, keyed, adrs, steps);
+        let y = adrs.key_pair_adrs;
+        let z = height - 1;
+        let at = adrs.tree_adrs();
+        let below = root_from_auth_path::<P, HashTree, L>(
+            &leaf, y, z as usize, path, keyed, &at, steps,
+        );
+        let beside = part_of::<P::N>(path, z as usize);
+        let top = height as usize;
+        let node = root_from_auth_path::<P, HashTree, L>(&leaf, y, top, path, keyed, &at, steps);
+        let own_below = xmss_node::<P, L>(sk_seed, y >> z, z, keyed, adrs, steps);
+        let own_beside = xmss_node::<P, L>(sk_seed, sibling(y >> z), z, keyed, adrs, steps);
+        let own_node = xmss_node::<P, L>(sk_seed, y >> height, height, keyed, adrs, steps);
+        nodes_collide(&below, &own_below, &beside, &own_beside, &node, &own_node)
     }
-    let (chains, _) = layer_parts::<P>(sig);
-    let value = part_of::<P::N>(chains, chain as usize);
-    let own_value = own_chain::<P, L>(sk_seed, keyed, adrs, chain, digit, steps);
-    same(value.as_slice(), own_value.as_slice())
+
+    /// Whether the ends of the chains show.
+    pub(crate) fn leaf_shows<L: Ledger>(&self, steps: &mut Steps<L>) -> bool
+        ensures { let Z = ⟦<P as Sizes>⟧.scheme_now in
+            let D = dispute_on Z self.now.dispute.now in
+            result ≡ spec_shows D (Leaf self.now.adrs.layer_adrs) }
+    {
+        tree_sizes::<P>();
+        let dispute = self.dispute;
+        let (sk_seed, keyed, adrs) = (&dispute.sk_seed, &dispute.keyed, &self.adrs);
+        let len = P::WotsSigLen::USIZE;
+        let size = ends_len::<P>();
+        let all = message_digits(&self.message);
+        let mut store = [0u8; MAX_ENDS_LEN];
+        let ends = &mut store[..size];
+        let (chains, _) = layer_parts::<P>(self.sig);
+        finish_chains::<P, L>(&all[..len], chains, keyed, adrs, ends, steps);
+        let mut own_store = [0u8; MAX_ENDS_LEN];
+        let own = &mut own_store[..size];
+        own_ends::<P, L>(sk_seed, keyed, adrs, own, steps);
+        hashes_collide::<P, WotsPk, L>(keyed, &adrs.pk_adrs(), ends, own, steps)
+    }
+
+    /// Whether a chain's value before a step shows.
+    pub(crate) fn chain_step_shows<L: Ledger>(
+        &self,
+        chain: u32,
+        step: u32,
+        steps: &mut Steps<L>,
+    ) -> bool
+        requires { chain < P.WotsSigLen.USIZE }
+        ensures { let Z = ⟦<P as Sizes>⟧.scheme_now in
+            let D = dispute_on Z self.now.dispute.now in
+            result ≡ spec_shows D (ChainStep self.now.adrs.layer_adrs chain step) }
+    {
+        tree_sizes::<P>();
+        let digit = digit_of::<P>(&self.message, chain);
+        if step < digit {
+            return false;
+        }
+        if step > 14 {
+            return false;
+        }
+        let dispute = self.dispute;
+        let (sk_seed, keyed, adrs) = (&dispute.sk_seed, &dispute.keyed, &self.adrs);
+        let (chains, _) = layer_parts::<P>(self.sig);
+        let value = part_of::<P::N>(chains, chain as usize);
+        let at = at_chain(adrs, chain);
+        let before = wots_chain::<P, L>(&value, digit, step - digit, keyed, &at, steps);
+        let after = wots_chain::<P, L>(&value, digit, step + 1 - digit, keyed, &at, steps);
+        let own_before = own_chain::<P, L>(sk_seed, keyed, adrs, chain, step, steps);
+        let own_after = own_chain::<P, L>(sk_seed, keyed, adrs, chain, step + 1, steps);
+        collide(
+            before.as_slice(),
+            own_before.as_slice(),
+            after.as_slice(),
+            own_after.as_slice(),
+        )
+    }
+
+    /// Whether a chain is opened earlier than the key opens it for the message that it signs on the
+    /// layer.
+    pub(crate) fn early_shows<L: Ledger>(
+        &self,
+        own: &NBytes<P::N>,
+        chain: u32,
+        steps: &mut Steps<L>,
+    ) -> bool
+        requires chain { chain < P.WotsSigLen.USIZE }
+        requires own { let Z = ⟦<P as Sizes>⟧.scheme_now in
+            own.now ≡ own_at (dispute_on Z self.now.dispute.now) self.now.adrs.layer_adrs }
+        ensures { let Z = ⟦<P as Sizes>⟧.scheme_now in
+            let D = dispute_on Z self.now.dispute.now in
+            result ≡ spec_shows D (Early self.now.adrs.layer_adrs chain) }
+    {
+        tree_sizes::<P>();
+        let digit = digit_of::<P>(&self.message, chain);
+        if digit >= digit_of::<P>(own, chain) {
+            return false;
+        }
+        let dispute = self.dispute;
+        let (sk_seed, keyed, adrs) = (&dispute.sk_seed, &dispute.keyed, &self.adrs);
+        let (chains, _) = layer_parts::<P>(self.sig);
+        let value = part_of::<P::N>(chains, chain as usize);
+        let own_value = own_chain::<P, L>(sk_seed, keyed, adrs, chain, digit, steps);
+        same(value.as_slice(), own_value.as_slice())
+    }
 }

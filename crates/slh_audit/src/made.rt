@@ -2,10 +2,9 @@
 ghost use Rattle.std.specs.Prelude.{◌≡◌, ◌↔◌, ◌+◌, ◌<◌, ◌≤◌, IsTrue};
 ghost use Rattle.std.specs.Str.{bytes_eq};
 ghost use Rattle.slh_audit.specs.Evidence.{IsOwnFrom, IsOwnLayer, checked_at, dispute_on, own_at};
-ghost use Rattle.slh_core.specs.Parameters.{scheme_of};
 ghost use Rattle.slh_trees.specs.Fors.{fors_pk, fors_sig};
 
-use crate::dispute::Dispute;
+use crate::dispute::{Dispute, Sizes};
 use crate::layer::same;
 use crate::sizes::{MAX_FOREST_LEN, forest_len};
 use hybrid_array::ArraySize;
@@ -31,13 +30,11 @@ fn both_same(a: &[u8], b: &[u8], c: &[u8], d: &[u8]) -> bool
 impl<'a, P: ForsParams> Dispute<'a, P> {
     /// Whether the forest's part is the one that the key makes, and the public key of the key's
     /// own forest.
-    pub(crate) fn forest_made<L: Ledger>(&self, steps: &mut Steps<L>) -> (bool, NBytes<P::N>)
-        ensures made { let Z = scheme_of P.suite P.N.USIZE
-            P.HPrime.USIZE P.D.USIZE P.A.USIZE P.K.USIZE in
+    pub(crate) fn compare_forest<L: Ledger>(&self, steps: &mut Steps<L>) -> (bool, NBytes<P::N>)
+        ensures made { let Z = ⟦<P as Sizes>⟧.scheme_now in
             let D = dispute_on Z self.now in
             result.0 ≡ bytes_eq D.forest (fors_sig D.K D.sk D.t D.l D.k D.a D.md) }
-        ensures key { let Z = scheme_of P.suite P.N.USIZE
-            P.HPrime.USIZE P.D.USIZE P.A.USIZE P.K.USIZE in
+        ensures key { let Z = ⟦<P as Sizes>⟧.scheme_now in
             let D = dispute_on Z self.now in
             result.1 ≡ fors_pk D.K D.sk D.t D.l D.k D.a }
     {
@@ -59,20 +56,15 @@ impl<'a, P: ForsParams> Dispute<'a, P> {
         steps: &mut Steps<L>,
     ) -> bool
         requires layer { layer < P.D.USIZE }
-        requires checked { let Z = scheme_of P.suite P.N.USIZE
-            P.HPrime.USIZE P.D.USIZE P.A.USIZE P.K.USIZE in
+        requires checked { let Z = ⟦<P as Sizes>⟧.scheme_now in
             checked.old ≡ checked_at (dispute_on Z self.now) layer }
-        requires own { let Z = scheme_of P.suite P.N.USIZE
-            P.HPrime.USIZE P.D.USIZE P.A.USIZE P.K.USIZE in
+        requires own { let Z = ⟦<P as Sizes>⟧.scheme_now in
             own.old ≡ own_at (dispute_on Z self.now) layer }
-        ensures made { let Z = scheme_of P.suite P.N.USIZE
-            P.HPrime.USIZE P.D.USIZE P.A.USIZE P.K.USIZE in
+        ensures made { let Z = ⟦<P as Sizes>⟧.scheme_now in
             IsTrue result ↔ IsOwnLayer (dispute_on Z self.now) layer }
-        ensures checked { let Z = scheme_of P.suite P.N.USIZE
-            P.HPrime.USIZE P.D.USIZE P.A.USIZE P.K.USIZE in
+        ensures checked { let Z = ⟦<P as Sizes>⟧.scheme_now in
             checked.new ≡ checked_at (dispute_on Z self.now) (layer + 1) }
-        ensures own { let Z = scheme_of P.suite P.N.USIZE
-            P.HPrime.USIZE P.D.USIZE P.A.USIZE P.K.USIZE in
+        ensures own { let Z = ⟦<P as Sizes>⟧.scheme_now in
             own.new ≡ own_at (dispute_on Z self.now) (layer + 1) }
     {
         layer_sizes::<P>();
@@ -97,13 +89,11 @@ impl<'a, P: ForsParams> Dispute<'a, P> {
     /// forest. Where no lower one would do, the layer below it isn't the key's own. It costs as
     /// much as signing, and a check of the layers that aren't the key's own.
     pub(crate) fn own_from<L: Ledger>(&self, key: &NBytes<P::N>, steps: &mut Steps<L>) -> u32
-        requires key { let Z = scheme_of P.suite P.N.USIZE
-            P.HPrime.USIZE P.D.USIZE P.A.USIZE P.K.USIZE in
+        requires key { let Z = ⟦<P as Sizes>⟧.scheme_now in
             let D = dispute_on Z self.now in
             key.now ≡ fors_pk D.K D.sk D.t D.l D.k D.a }
         ensures high { result ≤ P.D.USIZE }
-        ensures own { let Z = scheme_of P.suite P.N.USIZE
-            P.HPrime.USIZE P.D.USIZE P.A.USIZE P.K.USIZE in
+        ensures own { let Z = ⟦<P as Sizes>⟧.scheme_now in
             IsOwnFrom (dispute_on Z self.now) result }
     {
         layer_sizes::<P>();

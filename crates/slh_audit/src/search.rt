@@ -1,143 +1,121 @@
 //! The search for the first evidence that shows.
 ghost use Rattle.std.specs.Prelude.{◌≡◌, ◌<◌, ◌≤◌};
 ghost use Rattle.std.specs.List.{find};
-ghost use Rattle.slh_audit.specs.Evidence.{shows as spec_shows, checked_at, dispute_on, own_at};
+ghost use Rattle.slh_audit.specs.Evidence.{shows as spec_shows, dispute_on, own_at};
 ghost use Rattle.slh_audit.specs.Evidence.{IsOwnFrom};
 ghost use Rattle.slh_audit.specs.Places.{in_turn, tree_node_places, chain_places, layer_places};
 ghost use Rattle.slh_audit.specs.Places.{all_layers_places, fors_tree_places, forest_places};
 ghost use Rattle.slh_audit.specs.Places.{first_evidence as spec_first_evidence};
-ghost use Rattle.slh_core.specs.Parameters.{chain_count, scheme_of};
+ghost use Rattle.slh_core.specs.Parameters.{chain_count};
 
-use crate::dispute::Dispute;
+use crate::dispute::{Dispute, Sizes};
 use crate::evidence::Evidence;
+use crate::layer::LayerCheck;
 use hybrid_array::ArraySize;
 use slh_core::nbytes::NBytes;
 use slh_core::params::{ForsParams, forest_sizes, layer_sizes};
 use slh_core::steps::Steps;
 use std::sync::ledger::Ledger;
 
-impl<'a, P: ForsParams> Dispute<'a, P> {
-    /// The first node of a layer's tree that shows.
-    pub(crate) fn first_tree_node<L: Ledger>(
-        &self,
-        layer: u32,
-        message: &NBytes<P::N>,
-        steps: &mut Steps<L>,
-    ) -> Option<Evidence>
-        requires layer { layer < P.D.USIZE }
-        requires message { let Z = scheme_of P.suite P.N.USIZE
-            P.HPrime.USIZE P.D.USIZE P.A.USIZE P.K.USIZE in
-            message.now ≡ checked_at (dispute_on Z self.now) layer }
-        ensures { let Z = scheme_of P.suite P.N.USIZE
-            P.HPrime.USIZE P.D.USIZE P.A.USIZE P.K.USIZE in
-            let D = dispute_on Z self.now in
-            result ≡ find (spec_shows D) (tree_node_places D.hp layer) }
+impl<'s, 'a, P: ForsParams> LayerCheck<'s, 'a, P> {
+    /// The first node of the layer's tree that shows.
+    fn first_tree_node<L: Ledger>(&self, steps: &mut Steps<L>) -> Option<Evidence>
+        ensures { let Z = ⟦<P as Sizes>⟧.scheme_now in
+            let D = dispute_on Z self.now.dispute.now in
+            result ≡ find (spec_shows D) (tree_node_places D.hp self.now.adrs.layer_adrs) }
     {
         layer_sizes::<P>();
         let top = P::HPrime::USIZE as u32;
+        let layer = self.adrs.layer_adrs;
         for down in 0..top {
             let height = top - down;
-            if self.tree_node_shows::<L>(layer, height, message, steps) {
+            if self.tree_node_shows::<L>(height, steps) {
                 return Some(Evidence::TreeNode { layer, height });
             }
         }
         None
     }
 
-    /// The first evidence of a chain that shows.
+    /// The first evidence of a chain that shows, where `own` is the message that the key signs on
+    /// the layer.
     fn first_in_chain<L: Ledger>(
         &self,
-        layer: u32,
-        chain: u32,
-        message: &NBytes<P::N>,
         own: &NBytes<P::N>,
+        chain: u32,
         steps: &mut Steps<L>,
     ) -> Option<Evidence>
-        requires layer { layer < P.D.USIZE }
         requires chain { chain < P.WotsSigLen.USIZE }
-        requires message { let Z = scheme_of P.suite P.N.USIZE
-            P.HPrime.USIZE P.D.USIZE P.A.USIZE P.K.USIZE in
-            message.now ≡ checked_at (dispute_on Z self.now) layer }
-        requires own { let Z = scheme_of P.suite P.N.USIZE
-            P.HPrime.USIZE P.D.USIZE P.A.USIZE P.K.USIZE in
-            own.now ≡ own_at (dispute_on Z self.now) layer }
-        ensures { let Z = scheme_of P.suite P.N.USIZE
-            P.HPrime.USIZE P.D.USIZE P.A.USIZE P.K.USIZE in
-            let D = dispute_on Z self.now in
-            result ≡ find (spec_shows D) (chain_places layer chain) }
+        requires own { let Z = ⟦<P as Sizes>⟧.scheme_now in
+            own.now ≡ own_at (dispute_on Z self.now.dispute.now) self.now.adrs.layer_adrs }
+        ensures { let Z = ⟦<P as Sizes>⟧.scheme_now in
+            let D = dispute_on Z self.now.dispute.now in
+            result ≡ find (spec_shows D) (chain_places self.now.adrs.layer_adrs chain) }
     {
+        let layer = self.adrs.layer_adrs;
         for down in 0..15u32 {
             let step = 14 - down;
-            if self.chain_step_shows::<L>(layer, chain, step, message, steps) {
+            if self.chain_step_shows::<L>(chain, step, steps) {
                 return Some(Evidence::ChainStep { layer, chain, step });
             }
         }
-        if self.early_shows::<L>(layer, chain, message, own, steps) {
+        if self.early_shows::<L>(own, chain, steps) {
             return Some(Evidence::Early { layer, chain });
         }
         None
     }
 
-    /// The first evidence of a layer's chains that shows.
+    /// The first evidence of the layer's chains that shows.
     fn first_in_chains<L: Ledger>(
         &self,
-        layer: u32,
-        message: &NBytes<P::N>,
         own: &NBytes<P::N>,
         steps: &mut Steps<L>,
     ) -> Option<Evidence>
-        requires layer { layer < P.D.USIZE }
-        requires message { let Z = scheme_of P.suite P.N.USIZE
-            P.HPrime.USIZE P.D.USIZE P.A.USIZE P.K.USIZE in
-            message.now ≡ checked_at (dispute_on Z self.now) layer }
-        requires own { let Z = scheme_of P.suite P.N.USIZE
-            P.HPrime.USIZE P.D.USIZE P.A.USIZE P.K.USIZE in
-            own.now ≡ own_at (dispute_on Z self.now) layer }
-        ensures { let Z = scheme_of P.suite P.N.USIZE
-            P.HPrime.USIZE P.D.USIZE P.A.USIZE P.K.USIZE in
-            let D = dispute_on Z self.now in
+        requires { let Z = ⟦<P as Sizes>⟧.scheme_now in
+            own.now ≡ own_at (dispute_on Z self.now.dispute.now) self.now.adrs.layer_adrs }
+        ensures { let Z = ⟦<P as Sizes>⟧.scheme_now in
+            let D = dispute_on Z self.now.dispute.now in
+            let layer = self.now.adrs.layer_adrs in
             result ≡ find (spec_shows D) (in_turn (chain_places layer) (chain_count D.K.n)) }
     {
         layer_sizes::<P>();
         let len = P::WotsSigLen::USIZE as u32;
         for chain in 0..len {
-            let found = self.first_in_chain::<L>(layer, chain, message, own, steps);
+            let found = self.first_in_chain::<L>(own, chain, steps);
             if found.is_some() {
                 return found;
             }
         }
         None
     }
+}
 
+impl<'a, P: ForsParams> Dispute<'a, P> {
     /// The first evidence of a layer that shows.
     fn first_in_layer<L: Ledger>(&self, layer: u32, steps: &mut Steps<L>) -> Option<Evidence>
         requires layer { layer < P.D.USIZE }
-        ensures { let Z = scheme_of P.suite P.N.USIZE
-            P.HPrime.USIZE P.D.USIZE P.A.USIZE P.K.USIZE in
+        ensures { let Z = ⟦<P as Sizes>⟧.scheme_now in
             let D = dispute_on Z self.now in
             result ≡ find (spec_shows D) (layer_places D.hp (chain_count D.K.n) layer) }
     {
-        let message = self.checked_message::<L>(layer as usize, steps);
-        let found = self.first_tree_node::<L>(layer, &message, steps);
+        let check = self.layer_check::<L>(layer, steps);
+        let found = check.first_tree_node::<L>(steps);
         if found.is_some() {
             return found;
         }
-        if self.leaf_shows::<L>(layer, &message, steps) {
+        if check.leaf_shows::<L>(steps) {
             return Some(Evidence::Leaf { layer });
         }
         let own = self.own_message::<L>(layer as usize, steps);
-        self.first_in_chains::<L>(layer, &message, &own, steps)
+        check.first_in_chains::<L>(&own, steps)
     }
 
     /// The first evidence of all layers that shows, where the layers from a lowest one on are the
     /// key's own: nothing shows on them.
     fn first_in_layers<L: Ledger>(&self, lowest: u32, steps: &mut Steps<L>) -> Option<Evidence>
         requires lowest { lowest ≤ P.D.USIZE }
-        requires own { let Z = scheme_of P.suite P.N.USIZE
-            P.HPrime.USIZE P.D.USIZE P.A.USIZE P.K.USIZE in
+        requires own { let Z = ⟦<P as Sizes>⟧.scheme_now in
             IsOwnFrom (dispute_on Z self.now) lowest }
-        ensures { let Z = scheme_of P.suite P.N.USIZE
-            P.HPrime.USIZE P.D.USIZE P.A.USIZE P.K.USIZE in
+        ensures { let Z = ⟦<P as Sizes>⟧.scheme_now in
             let D = dispute_on Z self.now in
             result ≡ find (spec_shows D) (all_layers_places D) }
     {
@@ -155,8 +133,7 @@ impl<'a, P: ForsParams> Dispute<'a, P> {
     /// The first evidence of a tree of the forest that shows.
     fn first_in_fors_tree<L: Ledger>(&self, tree: u32, steps: &mut Steps<L>) -> Option<Evidence>
         requires tree { tree < P.K.USIZE }
-        ensures { let Z = scheme_of P.suite P.N.USIZE
-            P.HPrime.USIZE P.D.USIZE P.A.USIZE P.K.USIZE in
+        ensures { let Z = ⟦<P as Sizes>⟧.scheme_now in
             let D = dispute_on Z self.now in
             result ≡ find (spec_shows D) (fors_tree_places D.a tree) }
     {
@@ -173,8 +150,7 @@ impl<'a, P: ForsParams> Dispute<'a, P> {
 
     /// The first evidence of the forest that shows.
     fn first_in_forest<L: Ledger>(&self, steps: &mut Steps<L>) -> Option<Evidence>
-        ensures { let Z = scheme_of P.suite P.N.USIZE
-            P.HPrime.USIZE P.D.USIZE P.A.USIZE P.K.USIZE in
+        ensures { let Z = ⟦<P as Sizes>⟧.scheme_now in
             let D = dispute_on Z self.now in
             result ≡ find (spec_shows D) (forest_places D.a D.k) }
     {
@@ -199,11 +175,9 @@ impl<'a, P: ForsParams> Dispute<'a, P> {
         steps: &mut Steps<L>,
     ) -> Option<Evidence>
         requires lowest { lowest ≤ P.D.USIZE }
-        requires own { let Z = scheme_of P.suite P.N.USIZE
-            P.HPrime.USIZE P.D.USIZE P.A.USIZE P.K.USIZE in
+        requires own { let Z = ⟦<P as Sizes>⟧.scheme_now in
             IsOwnFrom (dispute_on Z self.now) lowest }
-        ensures { let Z = scheme_of P.suite P.N.USIZE
-            P.HPrime.USIZE P.D.USIZE P.A.USIZE P.K.USIZE in
+        ensures { let Z = ⟦<P as Sizes>⟧.scheme_now in
             result ≡ spec_first_evidence (dispute_on Z self.now) }
     {
         let found = self.first_in_layers::<L>(lowest, steps);

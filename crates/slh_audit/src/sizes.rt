@@ -1,6 +1,7 @@
 //! The checks of sizes that come before anything is hashed.
 ghost use Rattle.std.specs.Prelude.{◌≡◌, ◌≤◌, ◌+◌, ◌*◌, ◌^◌, length, IfOk, OnOk};
 ghost use Rattle.slh_audit.specs.Verdicts.{length_refusals, size_refusal};
+ghost use Rattle.slh_trees.specs.Checking.{signature_size};
 ghost use Rattle.slh_trees.specs.Sizes.{RefusedExactly};
 
 use crate::evidence::AuditError;
@@ -41,6 +42,7 @@ pub(crate) fn check_lengths<'a, P: ForsParams>(
     ensures refusal { RefusedExactly result (length_refusals P.scheme key.now sig.now) }
     ensures key { OnOk result (length key.now ≡ 4 * P.N.USIZE) }
     ensures sig { IfOk result (λ view. view ≡ sig.now) }
+    ensures whole { OnOk result (length sig.now ≡ signature_size P.scheme) }
 {
     forest_sizes::<P>();
     if key.len() != 4 * P::N::USIZE {
@@ -63,6 +65,7 @@ pub(crate) fn check_sizes<'a, P: ForsParams>(
         RefusedExactly result refusal }
     ensures key { OnOk result (length key.now ≡ 4 * P.N.USIZE) }
     ensures sig { IfOk result (λ view. view ≡ sig.now) }
+    ensures whole { OnOk result (length sig.now ≡ signature_size P.scheme) }
     ensures ctx { OnOk result (length ctx.now ≤ 255) }
     ensures msg { OnOk result (length msg.now ≤ 2 ^ 60) }
 {

@@ -1,6 +1,6 @@
 pub mod DigitSteps
 pub mod Joins
-pub mod Walks
+pub mod ActiveLists
 pub mod Chains
-pub mod WalkSteps
+pub mod ActiveSteps
 pub mod Incomparable

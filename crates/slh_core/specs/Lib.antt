@@ -6,4 +6,4 @@ pub mod Digits
 pub mod Wots
 pub mod Costs
 pub mod Steps
-pub mod Walk
+pub mod ActiveChains

@@ -34,6 +34,7 @@
 //! many steps they count.
 #![tactic(auto)]
 
+mod active_chains;
 pub mod address;
 pub mod digits;
 pub mod laws;
@@ -45,5 +46,4 @@ pub mod parts;
 pub mod set_row;
 pub mod steps;
 pub mod suite;
-mod walk;
 pub mod wots;

@@ -9,13 +9,13 @@ ghost use Rattle.slh_core.specs.Wots.{checked_ends, wots_pk_from_sig as spec_wot
 ghost use Rattle.slh_core.specs.Digits.{wots_digits};
 ghost use Rattle.slh_core.specs.Parameters.{chain_count};
 
+use crate::active_chains::ActiveChains;
 use crate::address::{WotsHash, WotsPrf};
 use crate::digits::message_digits;
 use crate::nbytes::NBytes;
 use crate::params::{MAX_CHAINS, MAX_ENDS_LEN, WotsParams, chain_sizes};
 use crate::parts::{part_of, put_part};
 use crate::steps::Steps;
-use crate::walk::Walk;
 use hybrid_array::ArraySize;
 use std::sync::ledger::Ledger;
 
@@ -330,15 +330,15 @@ pub fn finish_chains<P: WotsParams, L: Ledger>(
     ensures cost { steps.new + sum digits.now ≡ steps.old + 15 * length digits.now }
 {
     let n = P::N::USIZE;
-    let mut walk = Walk::new();
+    let mut active = ActiveChains::new();
     let mut values = [0u8; MAX_ENDS_LEN];
     for q in 0..15u16 {
-        walk.enter(digits, q, sig, n, &mut values);
-        let count = walk.count;
+        active.enter(digits, q, sig, n, &mut values);
+        let count = active.count;
         let at = adrs.at_step(0, u32::from(q));
         let row = &mut values[..count * n];
-        P::f_each(keyed, &at, &walk.numbers[..count], row, steps);
+        P::f_each(keyed, &at, &active.numbers[..count], row, steps);
     }
-    walk.enter(digits, 15, sig, n, &mut values);
-    walk.write_to(&values, n, out);
+    active.enter(digits, 15, sig, n, &mut values);
+    active.write_to(&values, n, out);
 }

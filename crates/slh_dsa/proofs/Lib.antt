@@ -1,3 +1,4 @@
 mod KeyParts
 mod Accepted
 mod FrameParts
+pub mod Equality

@@ -30,14 +30,13 @@
 //! its variant of [`Error`] names, the first in the order of the variants.
 #![tactic(auto)]
 
+mod checks;
 mod error;
 mod frame;
 pub mod laws;
 mod parameter_set;
 mod signature;
-mod signing;
 mod signing_key;
-mod sizes;
 mod traits;
 mod verifying_key;
 

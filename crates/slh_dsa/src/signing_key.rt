@@ -15,41 +15,40 @@ ghost use Rattle.slh_dsa.specs.Calls.{signing_key_refusal};
 ghost use Rattle.slh_dsa.specs.Frames.{mode_frame};
 ghost use Rattle.slh_dsa.specs.declared.error.Error.TheVariants.{Memory};
 
+use crate::checks::{check_context, check_message, check_opt_rand, check_signature, zeros};
 use crate::error::Error;
 use crate::frame::{Frame, Mode};
 use crate::parameter_set::ParameterSet;
 use crate::signature::Signature;
-use crate::signing::sign_message;
-use crate::sizes::{check_context, check_message, check_opt_rand, check_signature, zeros};
-use crate::verifying_key::VerifyingKey;
+use crate::verifying_key::{VerifyingKey, both};
 use hybrid_array::{Array, ArraySize};
 use slh_core::nbytes::NBytes;
 use slh_core::params::{MAX_MESSAGE_LEN, chain_sizes};
 use slh_core::steps::Steps;
+use slh_trees::sign::sign_message;
 use slh_trees::top_root;
 use std::alloc::{AllocError, Global};
 use std::marker::{Brand, Model};
 use std::sync::ledger::{Blank, Ledger};
 
-/// A signing key: the secret seed, the PRF key, the public seed and the root of the top tree, of n
-/// bytes each. Clauses see it as these 4n bytes.
+/// A signing key: the secret seed and the PRF key, of n bytes each, and the verifying key. Clauses
+/// see it as these 4n bytes.
 #[derive(Drop)]
 pub struct SigningKey<P: ParameterSet> {
     sk_seed: NBytes<P::N>,
     sk_prf: NBytes<P::N>,
-    pk_seed: NBytes<P::N>,
-    pk_root: NBytes<P::N>,
+    verifying_key: VerifyingKey<P>,
 }
 
 impl<P: ParameterSet> Model for SigningKey<P> {
-    ghost use Rattle.std.specs.Prelude.{◌≡◌, ℕ, List, ◌++◌, length};
+    ghost use Rattle.std.specs.Prelude.{◌≡◌, ℕ, List, ◌++◌, ◌*◌, length};
 
     ghost Value = { List ℕ };
 
-    ghost view = { λ k. k.sk_seed ++ k.sk_prf ++ k.pk_seed ++ k.pk_root };
+    ghost view = { λ k. k.sk_seed ++ k.sk_prf ++ k.verifying_key };
 
     ghost invariant = { λ k. (length k.sk_seed ≡ P.N.USIZE) × (length k.sk_prf ≡ P.N.USIZE)
-        × (length k.pk_seed ≡ P.N.USIZE) × (length k.pk_root ≡ P.N.USIZE) };
+        × (length k.verifying_key ≡ 2 * P.N.USIZE) };
 }
 
 impl<P: ParameterSet> SigningKey<P> {
@@ -97,8 +96,7 @@ impl<P: ParameterSet> SigningKey<P> {
         Ok(SigningKey {
             sk_seed,
             sk_prf: NBytes::exact(sk_prf),
-            pk_seed,
-            pk_root,
+            verifying_key: VerifyingKey { pk_seed, pk_root },
         })
     }
 
@@ -216,11 +214,12 @@ impl<P: ParameterSet> SigningKey<P> {
         ensures cost { steps.new ≡ steps.old + slh_sign_cost P.scheme }
     {
         let opt_rand = self.opt_rand_or_seed(opt_rand);
+        let public = &self.verifying_key;
         sign_message::<P, L>(
             &self.sk_seed,
             &self.sk_prf,
-            &self.pk_seed,
-            &self.pk_root,
+            &public.pk_seed,
+            &public.pk_root,
             &opt_rand,
             head,
             ctx,
@@ -323,7 +322,7 @@ impl<P: ParameterSet> SigningKey<P> {
         chain_sizes::<P>();
         match opt_rand {
             Some(bytes) => NBytes::exact(bytes),
-            None => self.pk_seed.copy(),
+            None => self.verifying_key.pk_seed.copy(),
         }
     }
 
@@ -339,12 +338,10 @@ impl<P: ParameterSet> SigningKey<P> {
         }
         let (secret, public) = bytes.split_at(2 * n);
         let (sk_seed, sk_prf) = secret.split_at(n);
-        let (pk_seed, pk_root) = public.split_at(n);
         Ok(SigningKey {
             sk_seed: NBytes::exact(sk_seed),
             sk_prf: NBytes::exact(sk_prf),
-            pk_seed: NBytes::exact(pk_seed),
-            pk_root: NBytes::exact(pk_root),
+            verifying_key: VerifyingKey::try_from(public)?,
         })
     }
 
@@ -356,11 +353,9 @@ impl<P: ParameterSet> SigningKey<P> {
         let n = P::N::USIZE;
         let (sk_seed, rest) = out.split_at_mut(n);
         let (sk_prf, public) = rest.split_at_mut(n);
-        let (pk_seed, pk_root) = public.split_at_mut(n);
         sk_seed.copy_from_slice(self.sk_seed.as_slice());
         sk_prf.copy_from_slice(self.sk_prf.as_slice());
-        pk_seed.copy_from_slice(self.pk_seed.as_slice());
-        pk_root.copy_from_slice(self.pk_root.as_slice());
+        self.verifying_key.write_to(public);
     }
 
     /// The key's 4n bytes, as an array.
@@ -383,10 +378,7 @@ impl<P: ParameterSet> SigningKey<P> {
     pub fn verifying_key(&self) -> VerifyingKey<P>
         ensures { result ≡ drop (2 * P.N.USIZE) self.now }
     {
-        VerifyingKey {
-            pk_seed: self.pk_seed.copy(),
-            pk_root: self.pk_root.copy(),
-        }
+        self.verifying_key.copy()
     }
 
     // The same key again.
@@ -396,8 +388,7 @@ impl<P: ParameterSet> SigningKey<P> {
         SigningKey {
             sk_seed: self.sk_seed.copy(),
             sk_prf: self.sk_prf.copy(),
-            pk_seed: self.pk_seed.copy(),
-            pk_root: self.pk_root.copy(),
+            verifying_key: self.verifying_key.copy(),
         }
     }
 }
@@ -425,13 +416,8 @@ impl<P: ParameterSet> PartialEq for SigningKey<P> {
     ghost laws = { Prim.search (comparing, rules) };
 
     fn eq(&self, other: &Self) -> bool {
-        chain_sizes::<P>();
-        let len = 4 * P::N::USIZE;
-        let mut ours = [0u8; 128];
-        let mut theirs = [0u8; 128];
-        self.write_to(&mut ours[..len]);
-        other.write_to(&mut theirs[..len]);
-        ours[..len] == theirs[..len]
+        let secret = both(self.sk_seed == other.sk_seed, self.sk_prf == other.sk_prf);
+        both(secret, self.verifying_key == other.verifying_key)
     }
 }
 

@@ -10,12 +10,12 @@ ghost use Rattle.slh_trees.specs.Sizes.{message_refusal};
 ghost use Rattle.slh_dsa.specs.Calls.{verify_error};
 ghost use Rattle.slh_dsa.specs.declared.error.Error.TheVariants.{Memory, MessageTooLong};
 
+use crate::checks::{check_message, zeros};
 use crate::error::Error;
 use crate::frame::Mode;
 use crate::parameter_set::ParameterSet;
 use crate::signature::Signature;
 use crate::signing_key::SigningKey;
-use crate::sizes::{check_message, zeros};
 use crate::verifying_key::VerifyingKey;
 use hybrid_array::{Array, ArraySize};
 use rand_core::Rng;

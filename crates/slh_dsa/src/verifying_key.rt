@@ -1,5 +1,6 @@
 //! Verifying keys (FIPS 205, section 9.1).
 ghost use Rattle.std.specs.Prelude.{◌≡◌, ◌≢◌, ◌≤◌, ◌+◌, ◌*◌, ◌^◌, ◌++◌, length, IfOk, IfErr, OnOk};
+ghost use Rattle.std.specs.Prelude.{◌&&◌};
 ghost use Rattle.slh_core.specs.Costs.{slh_verify_bound};
 ghost use Rattle.slh_core.specs.Steps.{IsFresh};
 ghost use Rattle.slh_dsa.specs.Calls.{hash_verify_error, root_refusal, verify_error};
@@ -9,11 +10,11 @@ ghost use Rattle.slh_trees.specs.Checking.{signature_size};
 ghost use Rattle.slh_trees.specs.Sizes.{RefusedExactly};
 ghost use Rattle.slh_dsa.specs.declared.error.Error.TheVariants.{Invalid};
 
+use crate::checks::{check_context, check_message, check_signature, zeros};
 use crate::error::Error;
 use crate::frame::{Frame, Mode};
 use crate::parameter_set::ParameterSet;
 use crate::signature::Signature;
-use crate::sizes::{check_context, check_message, check_signature, zeros};
 use hybrid_array::{Array, ArraySize};
 use slh_core::nbytes::NBytes;
 use slh_core::params::{MAX_MESSAGE_LEN, chain_sizes};
@@ -256,6 +257,13 @@ impl<P: ParameterSet> Clone for VerifyingKey<P> {
     }
 }
 
+// Whether the first parts of two keys are equal and the others are too.
+pub(crate) fn both(first: bool, rest: bool) -> bool
+    ensures { result ≡ (first && rest) }
+{
+    first && rest
+}
+
 impl<P: ParameterSet> PartialEq for VerifyingKey<P> {
     ghost use Rattle.std.specs.Prelude.{◌==◌};
     ghost use Rattle.std.specs.Cmp.Rules.{comparing};
@@ -267,13 +275,7 @@ impl<P: ParameterSet> PartialEq for VerifyingKey<P> {
     ghost laws = { Prim.search (comparing, rules) };
 
     fn eq(&self, other: &Self) -> bool {
-        chain_sizes::<P>();
-        let len = 2 * P::N::USIZE;
-        let mut ours = [0u8; 64];
-        let mut theirs = [0u8; 64];
-        self.write_to(&mut ours[..len]);
-        other.write_to(&mut theirs[..len]);
-        ours[..len] == theirs[..len]
+        both(self.pk_seed == other.pk_seed, self.pk_root == other.pk_root)
     }
 }
 

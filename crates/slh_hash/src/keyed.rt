@@ -2,7 +2,7 @@
 ghost use Rattle.digest_core.specs.Wrapped.{StandsFor as WrappedStandsFor};
 ghost use Rattle.hmac_sha256.specs.Hash.{StandsFor, StandsFor-prop, absorbed_bytes};
 ghost use Rattle.sha2.specs.Hashers.{Holds512};
-ghost use Rattle.sha512_lanes.specs.Begun.{BeginsWith, BeginsWith-prop};
+ghost use Rattle.sha512_lanes.specs.Midstate.{BeginsWith, BeginsWith-prop};
 ghost use Rattle.slh_hash.specs.Keyed.{Holds512-prop, nothing-prop};
 ghost use Rattle.slh_hash.specs.Sha2.{seed_block};
 ghost use Rattle.std.specs.Prelude.{◌≡◌, ◌+◌, ◌≤◌, [], length};
@@ -10,7 +10,7 @@ ghost use Rattle.std.specs.Prelude.{◌≡◌, ◌+◌, ◌≤◌, [], length};
 use hmac_sha256::WrappedHash;
 use hybrid_array::ArraySize;
 use sha2::Sha512;
-use sha512_lanes::Begun;
+use sha512_lanes::Midstate;
 use slh_core::nbytes::NBytes;
 
 /// A public seed, and SHA-256 as it stands after the seed and the zeros that fill its block of 64
@@ -40,15 +40,15 @@ impl<N: ArraySize> Sha2Keyed<N> {
 /// seed and the zeros that fill its block of 128 bytes (FIPS 205, section 11.2.2): once as the
 /// library keeps it, for one message of any length, and once to hash short ones side by side.
 #[derive(Drop)]
-pub struct Sha2Keyed35<N: ArraySize> {
+pub struct Sha2Keyed512<N: ArraySize> {
     pub(crate) keyed: Sha2Keyed<N>,
     pub(crate) started: Sha512,
-    pub(crate) begun: Begun,
+    pub(crate) midstate: Midstate,
     ghost holds: { Holds512 started (seed_block 128 N.USIZE keyed.pk_seed) } by { Holds512-prop started (seed_block 128 N.USIZE keyed.pk_seed) },
-    ghost begins: { BeginsWith begun (seed_block 128 N.USIZE keyed.pk_seed) } by { BeginsWith-prop begun (seed_block 128 N.USIZE keyed.pk_seed) },
+    ghost begins: { BeginsWith midstate (seed_block 128 N.USIZE keyed.pk_seed) } by { BeginsWith-prop midstate (seed_block 128 N.USIZE keyed.pk_seed) },
 }
 
-impl<N: ArraySize> Sha2Keyed35<N> {
+impl<N: ArraySize> Sha2Keyed512<N> {
     /// SHA-256 that has absorbed the public seed and the zeros that fill its block.
     pub fn started(&self) -> &WrappedHash
         ensures stands { WrappedStandsFor (StandsFor result.now.core) result.now.held

@@ -59,7 +59,7 @@ mod tests_35;
 mod tweaked;
 mod wide_rows;
 
-pub use keyed::{Sha2Keyed, Sha2Keyed35};
+pub use keyed::{Sha2Keyed, Sha2Keyed512};
 pub use mac::hmac_sha512;
 pub use mgf1::{mgf1_256, mgf1_512};
 pub use sets::{Sha2_128f, Sha2_128s, Sha2_192f, Sha2_192s, Sha2_256f, Sha2_256s};

@@ -8,7 +8,7 @@ ghost use Rattle.slh_hash.specs.Lengths.{sha2_category_3_5_digest_length};
 ghost use Rattle.slh_hash.specs.ValueBytes.{sha2_category_3_5_bytes};
 
 use crate::join::{put_three, put_two};
-use crate::keyed::Sha2Keyed35;
+use crate::keyed::Sha2Keyed512;
 use crate::mac::hmac_sha512;
 use crate::mgf1::mgf1_512;
 use crate::rows::{hash_each, repeat};
@@ -36,7 +36,7 @@ impl<N: ArraySize, M: ArraySize> HashSuite for Sha2L35<N, M> {
 
     type M = M;
 
-    type Keyed = Sha2Keyed35<N>;
+    type Keyed = Sha2Keyed512<N>;
 
     ghost suite = { sha2_category_3_5 N.USIZE M.USIZE };
 
@@ -45,13 +45,13 @@ impl<N: ArraySize, M: ArraySize> HashSuite for Sha2L35<N, M> {
     ghost keyed_suite = { λ keyed.
         seeded (sha2_category_3_5 N.USIZE M.USIZE) N.USIZE keyed.keyed.pk_seed };
 
-    fn keyed(pk_seed: &NBytes<N>) -> Sha2Keyed35<N> {
+    fn keyed(pk_seed: &NBytes<N>) -> Sha2Keyed512<N> {
         start_35(pk_seed)
     }
 
     #[inline]
     fn f<A: Address, L: Ledger>(
-        keyed: &Sha2Keyed35<N>,
+        keyed: &Sha2Keyed512<N>,
         adrs: &A,
         m: &NBytes<N>,
         steps: &mut Steps<L>,
@@ -61,7 +61,7 @@ impl<N: ArraySize, M: ArraySize> HashSuite for Sha2L35<N, M> {
     }
 
     fn h<A: Address, L: Ledger>(
-        keyed: &Sha2Keyed35<N>,
+        keyed: &Sha2Keyed512<N>,
         adrs: &A,
         m1: &NBytes<N>,
         m2: &NBytes<N>,
@@ -74,7 +74,7 @@ impl<N: ArraySize, M: ArraySize> HashSuite for Sha2L35<N, M> {
     }
 
     fn t<A: Address, L: Ledger>(
-        keyed: &Sha2Keyed35<N>,
+        keyed: &Sha2Keyed512<N>,
         adrs: &A,
         m: &[u8],
         steps: &mut Steps<L>,
@@ -85,7 +85,7 @@ impl<N: ArraySize, M: ArraySize> HashSuite for Sha2L35<N, M> {
 
     #[inline]
     fn prf_sk<A: Address, L: Ledger>(
-        keyed: &Sha2Keyed35<N>,
+        keyed: &Sha2Keyed512<N>,
         sk_seed: &NBytes<N>,
         adrs: &A,
         steps: &mut Steps<L>,
@@ -95,7 +95,7 @@ impl<N: ArraySize, M: ArraySize> HashSuite for Sha2L35<N, M> {
     }
 
     fn f_each<A: RowAddress + Drop, L: Ledger>(
-        keyed: &Sha2Keyed35<N>,
+        keyed: &Sha2Keyed512<N>,
         adrs: &A,
         numbers: &[u32],
         values: &mut [u8],
@@ -105,7 +105,7 @@ impl<N: ArraySize, M: ArraySize> HashSuite for Sha2L35<N, M> {
     }
 
     fn h_each<A: RowAddress + Drop, L: Ledger>(
-        keyed: &Sha2Keyed35<N>,
+        keyed: &Sha2Keyed512<N>,
         adrs: &A,
         numbers: &[u32],
         pairs: &[u8],
@@ -116,7 +116,7 @@ impl<N: ArraySize, M: ArraySize> HashSuite for Sha2L35<N, M> {
     }
 
     fn prf_each<A: RowAddress + Drop, L: Ledger>(
-        keyed: &Sha2Keyed35<N>,
+        keyed: &Sha2Keyed512<N>,
         sk_seed: &NBytes<N>,
         adrs: &A,
         numbers: &[u32],

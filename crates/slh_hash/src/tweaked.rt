@@ -3,12 +3,12 @@ ghost use Rattle.std.specs.Prelude.{◌≡◌, ◌≤◌, ◌++◌, length, take
 ghost use Rattle.slh_hash.specs.Sha2.{seed_block, tweaked_hash_256, tweaked_hash_512};
 
 use crate::join::put_two;
-use crate::keyed::{Sha2Keyed, Sha2Keyed35};
+use crate::keyed::{Sha2Keyed, Sha2Keyed512};
 use digest_core::{FixedOutput, Update};
 use hmac_sha256::{Hash, WrappedHash};
 use hybrid_array::ArraySize;
 use sha2::{Digest, Sha512};
-use sha512_lanes::Begun;
+use sha512_lanes::Midstate;
 use slh_core::address::Address;
 use slh_core::nbytes::NBytes;
 use slh_core::params::MAX_ENDS_LEN;
@@ -56,14 +56,14 @@ fn wide_seed_block<N: ArraySize>(pk_seed: &NBytes<N>) -> [u8; SHA512_BLOCK_LEN]
 }
 
 /// The state for a public seed in the categories 3 and 5.
-pub(crate) fn start_35<N: ArraySize>(pk_seed: &NBytes<N>) -> Sha2Keyed35<N>
+pub(crate) fn start_35<N: ArraySize>(pk_seed: &NBytes<N>) -> Sha2Keyed512<N>
     ensures { result.keyed.pk_seed ≡ pk_seed.now }
 {
     let block = wide_seed_block(pk_seed);
-    Sha2Keyed35 {
+    Sha2Keyed512 {
         keyed: start(pk_seed),
         started: Sha512::new_with_prefix(block),
-        begun: Begun::new(&block),
+        midstate: Midstate::new(&block),
     }
 }
 
@@ -103,7 +103,7 @@ pub(crate) fn long_hash<N: ArraySize, A: Address>(
 
 /// The SHA-512 hash of an address and an input.
 pub(crate) fn wide_hash<N: ArraySize, A: Address>(
-    keyed: &Sha2Keyed35<N>,
+    keyed: &Sha2Keyed512<N>,
     adrs: &A,
     input: &[u8],
 ) -> NBytes<N>

@@ -6,7 +6,7 @@ ghost use Rattle.slh_core.specs.Address.{compressed_address};
 ghost use Rattle.slh_core.specs.Bytes.{joined, part};
 ghost use Rattle.slh_hash.specs.Sha2.{seed_block, tweaked_hash_512};
 
-use crate::keyed::Sha2Keyed35;
+use crate::keyed::Sha2Keyed512;
 use crate::rows::{ADDRESS_LEN, put_hashes, tails_of};
 use hybrid_array::ArraySize;
 use sha512_lanes::{BLOCK_BYTES, MAX_TAIL};
@@ -21,7 +21,7 @@ const WIDEST: usize = 4;
 // The digests of at most four inputs of one width.
 #[inline]
 fn wide_digests_of<N: ArraySize, A: RowAddress + Drop>(
-    keyed: &Sha2Keyed35<N>,
+    keyed: &Sha2Keyed512<N>,
     adrs: &A,
     numbers: &[u32],
     inputs: &[u8],
@@ -39,11 +39,11 @@ fn wide_digests_of<N: ArraySize, A: RowAddress + Drop>(
     let len = ADDRESS_LEN + width;
     if numbers.len() > 1 {
         let tails = tails_of::<A, 4, BLOCK_BYTES>(adrs, numbers, inputs, width);
-        return keyed.begun.finalize_four(&tails, len);
+        return keyed.midstate.finalize_four(&tails, len);
     }
     let mut digests = [[0u8; 64]; WIDEST];
     let tails = tails_of::<A, 1, BLOCK_BYTES>(adrs, numbers, inputs, width);
-    digests[..1].copy_from_slice(&keyed.begun.finalize_one(&tails, len));
+    digests[..1].copy_from_slice(&keyed.midstate.finalize_one(&tails, len));
     digests
 }
 
@@ -51,7 +51,7 @@ fn wide_digests_of<N: ArraySize, A: RowAddress + Drop>(
 /// right one. Their addresses are those of a row with the numbers.
 #[tactic(auto, unfolding(slh_core::specs::Bytes::joined))]
 pub(crate) fn hash_wide_pairs<N: ArraySize, A: RowAddress + Drop, L: Ledger>(
-    keyed: &Sha2Keyed35<N>,
+    keyed: &Sha2Keyed512<N>,
     adrs: &A,
     numbers: &[u32],
     pairs: &[u8],

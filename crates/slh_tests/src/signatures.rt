@@ -1,8 +1,9 @@
 // Signatures and keys of the toy suite by value, and what is signed in each mode.
 use crate::worked::{KEY, LONG_CONTEXT, MESSAGE, SIGNATURE};
+use signature_core::SignatureEncoding;
 use slh_dsa::{Error, Frame, Mode, Signature, SigningKey, VerifyingKey};
 use slh_trees::toy::Toy;
-use std::alloc::Global;
+use std::alloc::{AllocError, Global};
 
 // The identifiers of SHA-256 and SHA-512, and the digests of `abc`.
 const BY_SHA256: [u8; 43] = [
@@ -154,6 +155,27 @@ fn a_signature_gives_its_bytes_back(rt: HostRuntime) {
     assert!(rt; is_its_view_and_the_array_that_it_was(rt.alloc()) == Ok(true));
 }
 
+// Whether the bytes of a signature by the bound, as an array and as a vector, are these.
+fn encodes<S: SignatureEncoding>(
+    alloc: Global,
+    signature: &S,
+    bytes: &[u8],
+) -> Result<bool, AllocError> {
+    let is_array = signature.to_bytes(alloc)?.as_slice() == bytes;
+    let is_vector = signature.to_vec(alloc)?.as_slice() == bytes;
+    Ok(is_array && is_vector && signature.encoded_len() == bytes.len())
+}
+
+fn encodes_by_the_bound(alloc: Global) -> Result<bool, Error> {
+    let sig = worked(alloc)?;
+    Ok(encodes(alloc, &sig, &SIGNATURE)?)
+}
+
+#[test]
+fn a_signature_gives_its_bytes_by_the_bound(rt: HostRuntime) {
+    assert!(rt; encodes_by_the_bound(rt.alloc()) == Ok(true));
+}
+
 fn is_its_clone(alloc: Global) -> Result<bool, Error> {
     let sig = worked(alloc)?;
     Ok(sig.clone(alloc)? == sig)
@@ -207,4 +229,14 @@ fn a_frame_has_an_identifier_and_a_digest(rt: HostRuntime) {
     assert!(rt; sha512.head() == [1, 2].as_slice());
     assert!(rt; sha512.ctx() == [7, 8].as_slice());
     assert!(rt; sha512.tail() == BY_SHA512.as_slice());
+}
+
+// 1, 0, the identifier and the digest: 77 bytes.
+#[test]
+fn a_frame_by_sha512_without_a_context_has_77_bytes(rt: HostRuntime) {
+    let frame = Frame::new(Mode::Sha512, &[], b"abc");
+    assert!(rt; frame.head() == [1, 0].as_slice());
+    assert!(rt; frame.ctx().is_empty());
+    assert!(rt; frame.tail() == BY_SHA512.as_slice());
+    assert!(rt; frame.head().len() + frame.tail().len() == 77);
 }

@@ -1,52 +1,10 @@
 //! Keys and signatures by the bounds of `signature_core`, with bytes of a generator that counts.
-ghost use Rattle.std.specs.Prelude.{◌+◌, ◌%◌, ◌^◌, ℕ};
-ghost use Rattle.rand_core.specs.Steps.{steps_u32, stream_of};
-
 use rand_core::Rng;
-use rand_core::utils::{self, NextWord};
+use signature_core::counter::Counter;
 use signature_core::{KeypairRef, RandomizedSigner, Signer, Verifier};
 use slh_dsa::{Error, Signature, SigningKey};
 use slh_trees::toy::Toy;
 use std::alloc::Global;
-use std::marker::Model;
-
-// A generator whose words count up.
-#[derive(Drop)]
-struct Counter {
-    next: u32,
-}
-
-impl Model for Counter {
-    ghost Value = { ℕ };
-
-    ghost view = { λ c. c.next };
-}
-
-impl NextWord<u32> for Counter {
-    ghost step = { λ s. (s, (s + 1) % 2 ^ 32) };
-
-    fn next_word(&mut self) -> u32 {
-        let word = self.next;
-        self.next = word.wrapping_add(1);
-        word
-    }
-}
-
-impl Rng for Counter {
-    ghost stream = { stream_of (steps_u32 (λ s. (s, (s + 1) % 2 ^ 32))) };
-
-    fn next_u32(&mut self) -> u32 {
-        self.next_word()
-    }
-
-    fn next_u64(&mut self) -> u64 {
-        utils::next_u64_via_u32(self)
-    }
-
-    fn fill_bytes(&mut self, dst: &mut [u8]) {
-        utils::fill_bytes_via_u32(self, dst)
-    }
-}
 
 // Whether the verifying key accepts a signature of the message.
 fn accepts<S, K: KeypairRef>(key: &K, msg: &[u8], signature: &S) -> bool
@@ -67,7 +25,7 @@ where
 
 #[test]
 fn a_new_key_takes_three_fills(rt: HostRuntime) {
-    let mut rng = Counter { next: 5 };
+    let mut rng = Counter::new(5);
     let key = SigningKey::<Toy>::new(&mut rng);
     let known = SigningKey::<Toy>::slh_keygen_internal(&[5], &[6], &[7]);
     assert!(rt; matches!(&known, Ok(known) if *known == key));
@@ -99,7 +57,7 @@ fn has_randomizer(alloc: Global, rng: &mut Counter, byte: u8) -> Result<bool, Er
 
 #[test]
 fn the_randomizer_is_the_next_byte_of_the_generator(rt: HostRuntime) {
-    let mut rng = Counter { next: 8 };
+    let mut rng = Counter::new(8);
     assert!(rt; has_randomizer(rt.alloc(), &mut rng, 8) == Ok(true));
     assert!(rt; rng.next_u32() == 9);
 }

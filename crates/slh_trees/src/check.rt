@@ -1,5 +1,5 @@
 //! What a signature leads to.
-ghost use Rattle.std.specs.Prelude.{◌≡◌, ◌+◌, ◌≤◌, ◌++◌, length};
+ghost use Rattle.std.specs.Prelude.{◌≡◌, ◌+◌, ◌≤◌, ◌++◌, length, take};
 ghost use Rattle.slh_core.specs.Costs.{slh_verify_bound};
 ghost use Rattle.slh_trees.specs.Checking.{checked_root, digest_root};
 
@@ -16,7 +16,7 @@ use std::sync::ledger::Ledger;
 
 /// The root that the bytes of a signature lead to, for a digest.
 #[tactic(auto, unfolding(crate::specs::Checking::digest_root))]
-fn root_for_digest<P: ForsParams, L: Ledger>(
+pub fn root_for_digest<P: ForsParams, L: Ledger>(
     pk_seed: &NBytes<P::N>,
     digest: &[u8],
     sig: &SigView<'_, P>,
@@ -34,6 +34,27 @@ fn root_for_digest<P: ForsParams, L: Ledger>(
     let adrs = ForsTree::new(tree, leaf);
     let key = fors_pk_from_sig::<P, L>(sig.fors(), md, &keyed, &adrs, steps);
     ht_root::<P, L>(&key, sig.layers(), &keyed, tree, leaf, steps)
+}
+
+/// Writes the digest of the message that the three slices joined are, by the randomizer of a
+/// signature (FIPS 205, algorithm 20).
+pub fn write_digest<P: ForsParams>(
+    pk_seed: &NBytes<P::N>,
+    pk_root: &NBytes<P::N>,
+    head: &[u8],
+    ctx: &[u8],
+    msg: &[u8],
+    sig: &SigView<'_, P>,
+    out: &mut [u8],
+)
+    requires message { length head.now + length ctx.now + length msg.now ≤ MAX_MESSAGE_LEN }
+    requires room { length out.old ≡ P.M.USIZE }
+    ensures { let message = head.now ++ ctx.now ++ msg.now in
+        out.new ≡ P.scheme.suite.h_msg (take P.scheme.n sig.now) pk_seed.now pk_root.now message }
+{
+    forest_sizes::<P>();
+    let rand = NBytes::<P::N>::from_view(sig.randomizer());
+    P::h_msg(&rand, pk_seed, pk_root, head, ctx, msg, out);
 }
 
 /// The root that the bytes of a signature lead to, for the message that the three slices joined are
@@ -54,9 +75,8 @@ pub fn check_root<P: ForsParams, L: Ledger>(
     ensures rises { steps.old ≤ steps.new }
 {
     forest_sizes::<P>();
-    let rand = NBytes::<P::N>::from_view(sig.randomizer());
     let mut store = [0u8; MAX_DIGEST_LEN];
     let digest = &mut store[..P::M::USIZE];
-    P::h_msg(&rand, pk_seed, pk_root, head, ctx, msg, digest);
+    write_digest::<P>(pk_seed, pk_root, head, ctx, msg, sig, digest);
     root_for_digest::<P, L>(pk_seed, digest, sig, steps)
 }

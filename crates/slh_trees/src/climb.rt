@@ -12,7 +12,7 @@ use std::sync::ledger::Ledger;
 
 /// The node some heights above `leaf`, whose index is `idx`, by the siblings of a path.
 #[tactic(auto, unfolding(crate::specs::Merkle::climb))]
-pub fn climb_path<P: WotsParams, A: NodeAddress + Drop, L: Ledger>(
+pub fn root_from_auth_path<P: WotsParams, A: NodeAddress + Drop, L: Ledger>(
     leaf: &NBytes<P::N>,
     idx: u32,
     heights: usize,

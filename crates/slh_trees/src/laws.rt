@@ -13,7 +13,7 @@ ghost use Rattle.slh_trees.specs.Signing.{digest_signature, signature_with};
 ghost use Rattle.slh_trees.specs.Xmss.{tree_place, xmss_node, auth_path, xmss_sig};
 
 use hybrid_array::ArraySize;
-pub use slh_core::laws::{chain_continues, signature_leads_to_leaf};
+pub use slh_core::laws::{chain_continues, digits_are_incomparable, signature_leads_to_leaf};
 use slh_core::params::{ForsParams, HypertreeParams, XmssParams};
 
 /// A leaf of a tree and the siblings on the way up from it lead to the tree's root.

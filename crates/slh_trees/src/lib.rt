@@ -48,6 +48,7 @@ mod leaves;
 pub mod node;
 pub mod root;
 pub mod sig_view;
+pub mod sign;
 pub mod sizes;
 mod subtree;
 pub mod toy;

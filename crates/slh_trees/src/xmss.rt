@@ -6,7 +6,7 @@ ghost use Rattle.slh_core.specs.Digits.{wots_digits};
 ghost use Rattle.slh_trees.specs.Checking.{checked_node};
 ghost use Rattle.slh_trees.specs.Xmss.{xmss_node as spec_xmss_node, xmss_sig};
 
-use crate::climb::climb_path;
+use crate::climb::root_from_auth_path;
 use crate::laws::path_leads_to_root;
 use crate::leaves::Leaves;
 use crate::treehash::{treehash, write_auth_path};
@@ -147,7 +147,7 @@ pub fn xmss_pk_from_sig<P: XmssParams, L: Ledger>(
     let height = P::HPrime::USIZE;
     let (chains, path) = sig.split_at(P::WotsSigLen::USIZE * P::N::USIZE);
     let leaf = wots_pk_from_sig::<P, L>(chains, m, keyed, &at_leaf(adrs, idx), steps);
-    climb_path::<P, HashTree, L>(&leaf, idx, height, path, keyed, &adrs.tree_adrs(), steps)
+    root_from_auth_path::<P, HashTree, L>(&leaf, idx, height, path, keyed, &adrs.tree_adrs(), steps)
 }
 
 /// Writes the signature of a message under leaf `idx`, and answers the root of the tree. Each node
@@ -179,5 +179,5 @@ pub fn xmss_sign_root<P: XmssParams, L: Ledger>(
     let leaf = wots_sign_leaf::<P, L>(m, sk_seed, keyed, &at_leaf(adrs, idx), chains, steps);
     let place = adrs.tree_adrs();
     write_auth_path::<P, HashTree, L>(sk_seed, idx, height, keyed, &place, path, steps);
-    climb_path::<P, HashTree, L>(&leaf, idx, height, path, keyed, &adrs.tree_adrs(), steps)
+    root_from_auth_path::<P, HashTree, L>(&leaf, idx, height, path, keyed, &adrs.tree_adrs(), steps)
 }

@@ -1,5 +1,5 @@
 use Rattle.std.proofs.Common.{◌≡◌, ◌∙◌, ◌*◌, drop, length-append, length-drop, length-take, take, ◌≤◌, sym, ℕ, ap, arith, length}
-use Rattle.slh_core.proofs.WalkSteps.{count_below-all, in_order, lacks-all, lacks-next, lacks-zero, nothing_held, held_next, reached_below, checked_chain-start}
+use Rattle.slh_core.proofs.ActiveSteps.{count_below-all, in_order, lacks-all, lacks-next, lacks-zero, nothing_held, held_next, reached_below, checked_chain-start}
 use Rattle.std.proofs.lemmas.Nat.{mul-le}
 use Rattle.slh_core.specs.Bytes.{part}
 use Rattle.slh_core.specs.Parameters.{chain_count}
@@ -9,9 +9,9 @@ use Rattle.slh_core.proofs.wots.finish_chains.Goals as goal
 
 pub loop-q-init : goal.loop-q-init
 loop-q-init g c = record {
-  walk = c.new-walk.ensures.walk c.args.digits.now;
+  active = c.new-active.ensures.active c.args.digits.now;
   room = search;
-  values = nothing_held _ _ _ _ c.new-walk.ensures.none;
+  values = nothing_held _ _ _ _ c.new-active.ensures.none;
   cost = omega (arith, lacks-zero c.args.digits.now);
 }
 
@@ -29,13 +29,13 @@ loop-q-preserved g c =
     let i = c.loop-q.invariant in
     let value = λ (k : ℕ). checked_chain K a.layer_adrs a.tree_adrs_low a.key_pair_adrs sig w k q in
     let held = c.enter.ensures.values value (λ k is. checked_chain-start K a.layer_adrs a.tree_adrs_low a.key_pair_adrs sig w q k is ∙ ap (λ s. part s sig k) (size ∙ sym c.USIZE-n.ensures)) i.values in
-    let few : m ≤ length c.enter.new.self.numbers = omega (arith, c.enter.ensures.few, c.enter.ensures.walk.numbers_len, c.requires.count, c.requires.n) in
+    let few : m ≤ length c.enter.new.self.numbers = omega (arith, c.enter.ensures.few, c.enter.ensures.active.numbers_len, c.requires.count, c.requires.n) in
     let shown : length (take m c.enter.new.self.numbers) ≡ m = omega (arith, length-take m c.enter.new.self.numbers, few) in
     record {
-      walk = c.enter.ensures.walk;
+      active = c.enter.ensures.active;
       room = omega (arith, c.f_each.auto.values, length-append c.f_each.new.values (drop (m * c.USIZE-n.result) c.enter.new.values), length-drop (m * c.USIZE-n.result) c.enter.new.values, length-take (m * c.USIZE-n.result) c.enter.new.values, c.enter.auto.values, i.room);
       values = held_next K a.layer_adrs a.tree_adrs_low a.key_pair_adrs sig w c.USIZE-n.result q m c.enter.new.self.numbers c.enter.new.values c.f_each.new.values law (size ∙ sym c.USIZE-n.ensures) (rw c.USIZE-n.ensures c.requires.whole)
-          c.enter.ensures.walk.number (reached_below q w c.enter.new.self c.enter.ensures.walk) held
+          c.enter.ensures.active.number (reached_below q w c.enter.new.self c.enter.ensures.active) held
           (rw (shown, c.at_step-at.ensures, c.from.ensures, ← c.USIZE-n.ensures) at c.f_each.ensures.value);
       cost = omega (arith, i.cost, lacks-next q w, c.enter.ensures.counted, c.f_each.ensures.step, shown);
     }
@@ -63,7 +63,7 @@ returns-clause-value g c =
     let value = λ (k : ℕ). checked_chain K a.layer_adrs a.tree_adrs_low a.key_pair_adrs sig w k 15 in
     let held = c.enter-2.ensures.values value (λ k is. checked_chain-start K a.layer_adrs a.tree_adrs_low a.key_pair_adrs sig w 15 k is ∙ ap (λ s. part s sig k) (size ∙ sym c.USIZE-n.ensures)) (rw last at i.values) in
     let room : chain_count K.n * n ≤ 67 * 32 = mul-le (chain_count K.n) n 67 32 (omega (arith, size, c.requires.n)) (omega (arith, c.USIZE-n.ensures, c.requires.n)) in
-    in_order K a.layer_adrs a.tree_adrs_low a.key_pair_adrs sig w n 15 (chain_count K.n) c.enter-2.new.self c.enter-2.new.values c.write_to.new.out law (size ∙ sym c.USIZE-n.ensures) (rw c.USIZE-n.ensures c.requires.whole) c.enter-2.ensures.walk (count ∙ chains) chains
+    in_order K a.layer_adrs a.tree_adrs_low a.key_pair_adrs sig w n 15 (chain_count K.n) c.enter-2.new.self c.enter-2.new.values c.write_to.new.out law (size ∙ sym c.USIZE-n.ensures) (rw c.USIZE-n.ensures c.requires.whole) c.enter-2.ensures.active (count ∙ chains) chains
     (omega (arith, room, c.enter-2.auto.values, i.room))
     (λ k low. omega (arith, c.requires.below k (omega (arith, low, chains))))
     held c.write_to.ensures

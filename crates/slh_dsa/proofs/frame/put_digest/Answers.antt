@@ -1,4 +1,4 @@
-use Rattle.std.proofs.Common.{◌≡◌, ℕ, ◌+◌, List, ◌∷◌, ◌++◌, length, drop, take, ◌∙◌, ap, sym, arith, append_assoc, length-append}
+use Rattle.std.proofs.Common.{◌≡◌, ◌+◌, ◌∷◌, ◌++◌, length, drop, take, ◌∙◌, ap, sym, arith, append_assoc, length-append}
 use Rattle.slh_core.proofs.Joins.{take_front}
 use Rattle.slh_dsa.proofs.frame.put_digest.Goals as goal
 
