@@ -1,6 +1,6 @@
 -- The fields of a line, and what a hexadecimal one stands for.
 use Rattle.std.specs.Prelude.{◌==◌, if◌then◌else◌, not, ℕ, List, [], length, map, filter, Option}
-use Rattle.std.specs.Prelude.{Some, slice_index, Bool, ◌&&◌}
+use Rattle.std.specs.Prelude.{None, Some, slice_get, slice_index, unwrap_or, Bool, ◌&&◌}
 use Rattle.std.specs.Borrow.{Bor}
 use Rattle.std.specs.List.{slice_split}
 use Rattle.std.specs.Result.{result_ok}
@@ -28,3 +28,12 @@ is_dash field = length field == 1 && slice_index field 0 == 45
 -- either case
 abbrev pub hex_value : List ℕ → Option (List ℕ)
 hex_value field = if is_dash field then Some [] else result_ok (decode_of field)
+
+-- the field at an index, with no bytes where there are not so many
+abbrev pub field_at : List (List ℕ) → ℕ → List ℕ
+field_at fields i = unwrap_or (slice_get fields i) []
+
+-- what is read on, where what was read before stands there
+abbrev pub for_some : {A B : Type 0} → Option A → (A → Option B) → Option B
+for_some None next = None
+for_some (Some value) next = next value

@@ -49,6 +49,26 @@ impl ByteString {
         self.bytes.extend_from_slice(bytes)
     }
 
+    /// Puts all bytes of another string at the end. Where there were none before it takes over the
+    /// other's memory.
+    pub fn append(&mut self, other: ByteString) -> Result<(), AllocError>
+        ensures ok { OnOk result (self.new ≡ self.old ++ other) }
+        ensures err { OnErr result (self.new ≡ self.old) }
+    {
+        if self.bytes.is_empty() {
+            *self = other;
+            return Ok(());
+        }
+        self.push_slice(other.as_slice())
+    }
+
+    /// Takes memory for so many bytes more.
+    pub fn reserve(&mut self, more: usize) -> Result<(), AllocError>
+        ensures { self.new ≡ self.old }
+    {
+        self.bytes.reserve(more)
+    }
+
     /// The bytes.
     pub fn as_slice(&self) -> &[u8]
         ensures { result.now ≡ self.now }
@@ -142,6 +162,14 @@ impl Words {
         ensures err { OnErr result (self.new ≡ self.old) }
     {
         let word = ByteString::from_slice(*self.words.allocator(), word)?;
+        self.push_string(word)
+    }
+
+    /// Puts the word itself at the end.
+    pub fn push_string(&mut self, word: ByteString) -> Result<(), AllocError>
+        ensures ok { OnOk result (self.new ≡ self.old ++ word ∷ []) }
+        ensures err { OnErr result (self.new ≡ self.old) }
+    {
         self.words.push(word)?;
         Ok(())
     }

@@ -4,7 +4,8 @@ ghost use Rattle.std.specs.Prelude.{◌≡◌, ◌≤◌, ◌++◌, length, take
 ghost use Rattle.std.specs.Prelude.{OnErr, MatchOption};
 ghost use Rattle.std.specs.Option.{option_copied};
 ghost use Rattle.std.specs.Str.Lines.{strip_carriage_return};
-ghost use Rattle.line_serve.specs.Fields.{contents, fields, hex_value, is_dash};
+ghost use Rattle.line_serve.specs.Fields.{contents, fields, field_at as spec_field_at};
+ghost use Rattle.line_serve.specs.Fields.{hex_value, is_dash};
 
 use crate::bytes::ByteString;
 use crate::digits::decode;
@@ -58,6 +59,27 @@ pub fn cut_fields<'a>(line: &'a [u8], out: &mut [&'a [u8]]) -> usize
         count += 1;
     }
     count
+}
+
+/// All fields of the line, one after another.
+pub fn all_fields<'a>(alloc: Global, line: &'a [u8]) -> Result<Vec<&'a [u8]>, AllocError>
+    ensures { IfOk result (λ all. contents all.items ≡ fields line.now) }
+{
+    let mut all: Vec<&'a [u8]> = Vec::new(alloc);
+    all.resize(count_fields(line), b"".as_slice())?;
+    let count = cut_fields(line, &mut all);
+    all.truncate(count);
+    Ok(all)
+}
+
+/// The field at an index, with no bytes where there are not so many.
+pub fn field_at<'a>(fields: &[&'a [u8]], i: usize) -> &'a [u8]
+    ensures { result.now ≡ spec_field_at (contents fields.now) i }
+{
+    match fields.get(i) {
+        Some(&found) => found,
+        None => &[],
+    }
 }
 
 fn is_only_dash(field: &[u8]) -> bool

@@ -5,7 +5,10 @@
 //! - [`Source`] and [`Sink`] are where bytes come from and where they go. [`QuietSource`],
 //!   [`MemSource`], [`MemSink`] and [`NullSink`] are such ends in memory.
 //! - [`Replier`] answers one line, and [`serve_lines`] the lines of a whole source.
-//! - [`cut_fields`], [`count_fields`], [`field`] and [`hex_field`] take a line apart.
+//! - [`all_fields`], [`cut_fields`], [`count_fields`] and [`field`] cut a line into its fields;
+//!   [`field_at`], [`hex_field`], [`decimal_value`] and [`number_at`] read one.
+//! - [`push_number`], [`push_hex`] and their lines put text together.
+//! - [`serve_words`] is a whole program of lines, with its usage text.
 //!
 //! A replier of one's own, and its replies to the lines of an input. Its ghost member says what it
 //! replies, and the prover checks that it does. The test `example_of_the_page` runs this:
@@ -46,21 +49,27 @@
 
 mod answer;
 mod bytes;
+mod decimals;
 mod digits;
 mod fields;
 pub mod laws;
 mod lines;
 mod memory;
 mod pending;
+mod program;
 mod stream;
 #[cfg(test)]
 mod tests;
+mod text;
 mod write;
 
 pub use answer::Replier;
 pub use bytes::{ByteString, Words};
-pub use fields::{count_fields, cut_fields, field, hex_field};
+pub use decimals::{decimal_value, number_at};
+pub use fields::{all_fields, count_fields, cut_fields, field, field_at, hex_field};
 pub use lines::serve_lines;
 pub use memory::{MemSink, MemSource, NullSink, QuietSource};
+pub use program::serve_words;
 pub use stream::{Failed, Sink, Source};
+pub use text::{push_hex, push_hex_line, push_number, push_number_line};
 pub use write::write_all;

@@ -53,8 +53,12 @@ impl Halt {
     }
 }
 
-// Reads the next bytes of the input into the front of the buffer, at most so many.
-fn read_some<S: Source>(source: &mut S, buffer: &mut [u8], most: u64) -> Result<usize, Failed>
+/// Reads the next bytes of the input into the front of the buffer, at most so many.
+pub(crate) fn read_some<S: Source>(
+    source: &mut S,
+    buffer: &mut [u8],
+    most: u64,
+) -> Result<usize, Failed>
     requires room { 0 < length buffer.old }
     requires some { 0 < most }
     ensures bytes { Reads (S.left source.old) (S.left source.new) most result buffer.new }

@@ -269,7 +269,9 @@ impl Sink for NullSink {
         ensures progress { IfOk result (λ n. 0 < length piece.now → 0 < n) }
         ensures cause { HasCause 0 0 result }
         ensures ok { IsOk result }
+        ensures all { IfOk result (λ n. n ≡ length piece.now) }
     {
-        Ok(piece.len())
+        let taken = piece.len();
+        Ok(taken)
     }
 }

@@ -3,9 +3,11 @@ ghost use Rattle.std.specs.Prelude.{◌++◌, ◌∷◌, [], Some, unwrap_or, sl
 ghost use Rattle.std.specs.Option.{option_map};
 ghost use Rattle.line_serve.specs.Fields.{fields};
 
+use crate::lines::read_some;
 use crate::{
     ByteString, Failed, MemSink, MemSource, NullSink, QuietSource, Replier, Source, Words,
-    count_fields, cut_fields, field, hex_field, serve_lines, write_all,
+    all_fields, count_fields, cut_fields, decimal_value, field, field_at, hex_field, number_at,
+    push_hex_line, push_number_line, serve_lines, serve_words, write_all,
 };
 use std::alloc::{AllocError, Global};
 use std::test::Fail;
@@ -169,6 +171,67 @@ fn one_byte_a_read(rt: HostRuntime) -> Result<(), Fail> {
     Ok(())
 }
 
+// The last read before the limit asks for what is left up to it.
+#[test]
+fn no_read_asks_for_more_than_is_left(rt: HostRuntime) -> Result<(), Fail> {
+    for (most, asked) in [(5, 5), (4095, 4095), (4096, 4096), (1 << 40, 4096)] {
+        let mut source = Slow {
+            quiet: QuietSource::new(b"a".to_vec(rt.alloc())?),
+            most: 0,
+        };
+        assert!(rt; read_some(&mut source, &mut [0; 4096], most) == Ok(1));
+        assert_eq!(rt; source.most, asked);
+    }
+    Ok(())
+}
+
+// Whether a run over a sink in memory ends with 4 where the sink found no memory, with 6 where
+// something else found none, and with 0 where all had enough, and whether its ends go on afterwards.
+fn ends_by_its_cause(alloc: Global) -> Result<bool, AllocError> {
+    let mut source = QuietSource::new(b"a b\nc\n".to_vec(alloc)?);
+    let mut sink = MemSink::new(alloc, Vec::new(alloc));
+    let status = serve_lines(alloc, &First, &mut source, &mut sink);
+    let right = match sink.refused() {
+        0 => status == 0 && sink.bytes() == b"a\nc\n".as_slice() || status == 6,
+        _ => status == 4 && sink.bytes().is_empty(),
+    };
+    let before = sink.bytes().len();
+    let written = write_all(&mut sink, b"more").is_ok();
+    Ok(right && written && sink.bytes().len() == before + 4)
+}
+
+// Run with each allocation failing in turn, too (`rt try --test --fail-alloc`).
+#[test]
+fn memory_that_a_sink_was_refused_is_its_fault(rt: HostRuntime) {
+    assert!(rt; ends_by_its_cause(rt.alloc()).unwrap_or(true));
+}
+
+// What a whole program of lines does, with and without a word.
+fn served(alloc: Global, word: Option<&[u8]>) -> Result<(u8, Vec<u8>), AllocError> {
+    let mut words = Words::new(alloc);
+    if let Some(word) = word {
+        words.push(word)?;
+    }
+    let mut source = QuietSource::new(b"a b\nc".to_vec(alloc)?);
+    let mut sink = MemSink::new(alloc, Vec::new(alloc));
+    let status = serve_words(alloc, &First, b"usage: x\n", &words, &mut source, &mut sink);
+    Ok((status, sink.bytes().to_vec(alloc)?))
+}
+
+fn serves(alloc: Global, word: Option<&[u8]>, status: u8, text: &[u8]) -> Result<bool, AllocError> {
+    let (ended, written) = served(alloc, word)?;
+    Ok(ended == status && written.as_slice() == text)
+}
+
+#[test]
+fn a_program_of_lines_takes_no_words(rt: HostRuntime) -> Result<(), Fail> {
+    let alloc = rt.alloc();
+    assert!(rt; serves(alloc, None, 0, b"a\nc\n")?);
+    assert!(rt; serves(alloc, Some(b"help"), 2, b"usage: x\n")?);
+    assert!(rt; serves(alloc, Some(b""), 2, b"usage: x\n")?);
+    Ok(())
+}
+
 // Long replies to the lines of one piece don't all wait for its end: the second write fails here.
 #[test]
 fn long_replies_are_written_early(rt: HostRuntime) -> Result<(), Fail> {
@@ -204,6 +267,65 @@ fn fields_of_lines(rt: HostRuntime) {
     assert!(rt; cut[0] == b"d".as_slice());
 }
 
+// Whether all fields of a line are cut as this one is.
+fn cuts(alloc: Global, line: &[u8], count: usize, second: &[u8]) -> Result<bool, AllocError> {
+    let all = all_fields(alloc, line)?;
+    Ok(all.len() == count && field_at(&all, 1) == second)
+}
+
+#[test]
+fn all_fields_of_lines(rt: HostRuntime) -> Result<(), Fail> {
+    for (line, count, second) in [
+        (b"".as_slice(), 0, b"".as_slice()),
+        (b" a  b c\r", 3, b"b"),
+        (b"a", 1, b""),
+    ] {
+        assert!(rt; cuts(rt.alloc(), line, count, second)?);
+    }
+    Ok(())
+}
+
+#[test]
+fn decimal_numbers(rt: HostRuntime) {
+    let rows: [(&[u8], Option<u32>); 10] = [
+        (b"0", Some(0)),
+        (b"0000000007", Some(7)),
+        (b"4294967295", Some(4_294_967_295)),
+        (b"4294967296", None),
+        (b"00000000007", None),
+        (b"", None),
+        (b"-", None),
+        (b"+1", None),
+        (b"1 ", None),
+        (b"a", None),
+    ];
+    for (text, number) in rows {
+        assert_eq!(rt; number_at(&[text], 0), number);
+        assert_eq!(rt; number_at(&[text], 1), None);
+    }
+    assert_eq!(rt;
+        decimal_value(b"18446744073709551615", 20, u64::MAX),
+        Some(u64::MAX)
+    );
+    assert_eq!(rt; decimal_value(b"18446744073709551616", 20, u64::MAX), None);
+    assert_eq!(rt; decimal_value(b"16", 2, 15), None);
+}
+
+fn reply_lines(alloc: Global) -> Result<ByteString, AllocError> {
+    let mut text = ByteString::new(alloc);
+    push_number_line(&mut text, b"differs ", 0)?;
+    push_number_line(&mut text, b"", u64::MAX)?;
+    push_hex_line(&mut text, b"record ", b"\x00\xff\xab")?;
+    Ok(text)
+}
+
+#[test]
+fn numbers_and_bytes_as_text(rt: HostRuntime) -> Result<(), Fail> {
+    let wanted = b"differs 0\n18446744073709551615\nrecord 00ffab\n".as_slice();
+    assert_eq!(rt; reply_lines(rt.alloc())?.as_slice(), wanted);
+    Ok(())
+}
+
 #[test]
 fn hexadecimal_fields(rt: HostRuntime) -> Result<(), Fail> {
     let alloc = rt.alloc();
@@ -219,6 +341,26 @@ fn hexadecimal_fields(rt: HostRuntime) -> Result<(), Fail> {
         let mut out = ByteString::from_slice(alloc, b"=")?;
         assert_eq!(rt; hex_field(alloc, bytes, &mut out)?, found);
         assert_eq!(rt; out.as_slice()[1..], *value);
+    }
+    Ok(())
+}
+
+// Two strings, the second put behind the first.
+fn appended(alloc: Global, first: &[u8], second: &[u8]) -> Result<ByteString, AllocError> {
+    let mut text = ByteString::from_slice(alloc, first)?;
+    text.append(ByteString::from_slice(alloc, second)?)?;
+    Ok(text)
+}
+
+#[test]
+fn strings_are_put_behind_others(rt: HostRuntime) -> Result<(), Fail> {
+    let rows: [(&[u8], &[u8], &[u8]); 3] = [
+        (b"", b"b", b"b"),
+        (b"a", b"", b"a"),
+        (b"a", b"b", b"ab"),
+    ];
+    for (first, second, whole) in rows {
+        assert_eq!(rt; appended(rt.alloc(), first, second)?.as_slice(), whole);
     }
     Ok(())
 }

@@ -1,4 +1,4 @@
--- The words of a bench and its report (README, "Bench").
+-- The words of a bench and its report (docs/LINES.md).
 use Rattle.std.specs.Prelude.{◌≡◌, ◌==◌, ◌⊎◌, ℕ, zero, suc, ◌+◌, ◌*◌, ◌%◌, ◌^◌, List, []}
 use Rattle.std.specs.Prelude.{◌++◌, length, drop, Bool, ◌&&◌, nat_le, Option, None, Some}
 use Rattle.std.specs.Prelude.{codes, decimal, if◌then◌else◌}
@@ -7,7 +7,9 @@ use Rattle.std.specs.Str.{bytes_eq}
 use Rattle.hex.specs.Hex.{encode_lower}
 use Rattle.hmac_sha256.specs.Hkdf.{hkdf_expand, hkdf_extract}
 use Rattle.hmac_sha256.specs.Sha256.{sha256}
+use Rattle.line_serve.specs.Decimals.{decimal_value}
 use Rattle.line_serve.specs.Engine.{TakesFront}
+use Rattle.line_serve.specs.Fields.{field_at, for_some}
 use Rattle.slh_core.specs.Bytes.{big_endian, joined, part}
 use Rattle.slh_core.specs.Parameters.{Scheme}
 use Rattle.slh_trees.specs.Frame.{frame}
@@ -15,15 +17,12 @@ use Rattle.slh_trees.specs.Keys.{signing_key_bytes}
 use Rattle.slh_trees.specs.Signing.{signature_of}
 use Rattle.slh_dsa.specs.Calls.{is_valid}
 use Rattle.slh_dsa.specs.declared.frame.Mode.TheVariants.{Pure}
-use Rattle.slh_run.specs.Decimals.{read_digits}
-use Rattle.slh_run.specs.EvidenceFields.{field_at, for_some}
-use Rattle.slh_run.specs.Sets.{name_of, scheme_for, set_named}
+use Rattle.slh_line.specs.Sets.{name_of, scheme_for, set_named}
 use Rattle.slh_run.specs.declared.bench.Bench.{Bench}
 
 -- NUMBER is 1 to 20 decimal digits with a value below 2^64
 abbrev pub bench_number : List ℕ → Option ℕ
-bench_number word =
-    if nat_le 1 (length word) && nat_le (length word) 20 then read_digits (2 ^ 64) 0 word else None
+bench_number word = decimal_value 20 (2 ^ 64) word
 
 -- COUNT is 1 or 2 decimal digits with a value of 1 to 64
 abbrev pub at_least_one : Option ℕ → Option ℕ
@@ -31,9 +30,7 @@ at_least_one None = None
 at_least_one (Some count) = if nat_le 1 count then Some count else None
 
 abbrev pub bench_count : List ℕ → Option ℕ
-bench_count word =
-    if nat_le 1 (length word) && nat_le (length word) 2
-    then at_least_one (read_digits 65 0 word) else None
+bench_count word = at_least_one (decimal_value 2 65 word)
 
 -- what the words `bench SET NUMBER COUNT` ask for. Other words ask for no bench
 abbrev pub bench_of : List (List ℕ) → Option Bench

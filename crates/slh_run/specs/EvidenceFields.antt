@@ -1,25 +1,12 @@
--- How evidence stands on a line (README, "Lines").
-use Rattle.std.specs.Prelude.{◌==◌, ℕ, ◌^◌, List, [], ◌++◌, length, slice_get}
-use Rattle.std.specs.Prelude.{unwrap_or, Option, None, Some, ◌&&◌, nat_le}
+-- How evidence stands on a line (docs/LINES.md).
+use Rattle.std.specs.Prelude.{◌==◌, ℕ, List, ◌++◌, length, Option, None, Some}
 use Rattle.std.specs.Prelude.{codes, decimal, if◌then◌else◌}
 use Rattle.std.specs.Str.{bytes_eq}
-use Rattle.slh_run.specs.Decimals.{read_digits}
+use Rattle.line_serve.specs.Decimals.{number_value}
+use Rattle.line_serve.specs.Fields.{field_at, for_some}
 use Rattle.slh_audit.specs.declared.evidence.Evidence.{Evidence}
 use Rattle.slh_audit.specs.declared.evidence.Evidence.TheVariants.{ForsNode, ForsRoots}
 use Rattle.slh_audit.specs.declared.evidence.Evidence.TheVariants.{ChainStep, Leaf, TreeNode, Early}
-
--- the field at an index, with no bytes where there are not so many
-abbrev pub field_at : List (List ℕ) → ℕ → List ℕ
-field_at fields i = unwrap_or (slice_get fields i) []
-
--- a number is 1 to 10 decimal digits with a value below 2^32
-abbrev pub number_value : List ℕ → Option ℕ
-number_value text =
-    if nat_le 1 (length text) && nat_le (length text) 10 then read_digits (2 ^ 32) 0 text else None
-
-abbrev pub for_some : {A B : Type 0} → Option A → (A → Option B) → Option B
-for_some None next = None
-for_some (Some value) next = next value
 
 -- evidence's numbers stand from field 7 on, behind its kind; there are as many as the kind has
 abbrev pub one_number : List (List ℕ) → (ℕ → Evidence) → Option Evidence

@@ -1,7 +1,5 @@
-pub mod Sets
 pub mod Judgement
 pub mod Errors
-pub mod Decimals
 pub mod EvidenceFields
 pub mod Requests
 pub mod Reply

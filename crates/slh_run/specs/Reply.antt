@@ -1,22 +1,19 @@
--- The reply to a line (README, "Lines").
-use Rattle.std.specs.Prelude.{◌==◌, ℕ, ◌/◌, List, [], ◌++◌, length, drop, Result, Ok, Err, codes}
+-- The reply to a line (docs/LINES.md).
+use Rattle.std.specs.Prelude.{ℕ, ◌/◌, List, [], ◌++◌, length, drop, Result, Ok, Err, codes}
 use Rattle.std.specs.Prelude.{Bool, if◌then◌else◌}
 use Rattle.hex.specs.Hex.{encode_lower}
-use Rattle.line_serve.specs.Fields.{fields}
 use Rattle.slh_audit.specs.declared.evidence.Verdict.{Verdict}
 use Rattle.slh_audit.specs.declared.evidence.Verdict.TheVariants.{Genuine, Foreign}
+use Rattle.slh_line.specs.Readings.{and_then}
+use Rattle.slh_line.specs.Replies.{Answers, reply_by}
 use Rattle.slh_run.specs.EvidenceFields.{evidence_text}
 use Rattle.slh_run.specs.Judgement.{judgement}
-use Rattle.slh_run.specs.Requests.{request_of}
-use Rattle.slh_run.specs.Sets.{scheme_for}
+use Rattle.slh_run.specs.Requests.{job_at}
 use Rattle.slh_run.specs.declared.job.Answer.{Answer}
 use Rattle.slh_run.specs.declared.job.Answer.TheVariants.{Key, Signature, Accepted, Shown}
 use Rattle.slh_run.specs.declared.job.Answer.TheVariants.{Verdict as VerdictAnswer}
 use Rattle.slh_run.specs.declared.job.Error.{Error}
 use Rattle.slh_run.specs.declared.job.Error.TheVariants as error
-use Rattle.slh_run.specs.declared.request.Fault.{Fault}
-use Rattle.slh_run.specs.declared.request.Fault.TheVariants as fault
-use Rattle.slh_run.specs.declared.request.Request.{Request}
 
 -- the verifying key is the last half of a signing key
 abbrev pub key_text : List ℕ → List ℕ
@@ -52,20 +49,10 @@ answer_text (Ok (VerdictAnswer verdict)) = verdict_text verdict
 answer_text (Ok (Shown shown)) = shown_text shown
 answer_text (Err refusal) = error_text refusal
 
-abbrev pub fault_text : Fault → List ℕ
-fault_text fault.Set = codes "error set\n"
-fault_text fault.Command = codes "error command\n"
-fault_text fault.Fields = codes "error fields\n"
-fault_text fault.Hex = codes "error hex\n"
-fault_text fault.Memory = []
+-- the reply to the fields of a line whose first field names a set
+abbrev pub job_answers : Answers
+job_answers Z name fields = and_then (job_at fields) (λ job. Ok (answer_text (judgement Z job)))
 
-abbrev pub request_text : Result Request Fault → List ℕ
-request_text (Err found) = fault_text found
-request_text (Ok request) = answer_text (judgement (scheme_for request.set) request.job)
-
--- a line without fields has no reply
-abbrev pub reply_of_fields : List (List ℕ) → List ℕ
-reply_of_fields fields = if length fields == 0 then [] else request_text (request_of fields)
-
+-- the reply to a line: none where it has no fields
 abbrev pub reply_of_line : List ℕ → List ℕ
-reply_of_line line = reply_of_fields (fields line)
+reply_of_line = reply_by job_answers

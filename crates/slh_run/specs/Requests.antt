@@ -1,19 +1,18 @@
--- What a job line asks for, by its fields (README, "Lines").
+-- What a job line asks for, by its fields (docs/LINES.md).
 use Rattle.std.specs.Prelude.{◌==◌, ℕ, List, length, Bool, true, Option, None, Some}
 use Rattle.std.specs.Prelude.{Result, Ok, Err, codes, if◌then◌else◌}
 use Rattle.std.specs.Str.{bytes_eq}
-use Rattle.line_serve.specs.Fields.{hex_value}
+use Rattle.line_serve.specs.Fields.{field_at}
 use Rattle.slh_dsa.specs.declared.frame.Mode.TheVariants.{Pure, Sha256, Sha512}
-use Rattle.slh_run.specs.EvidenceFields.{evidence_at, field_at}
-use Rattle.slh_run.specs.Sets.{set_named}
+use Rattle.slh_line.specs.Readings.{and_then, bytes_at, randomizer_at, some_or_fields}
+use Rattle.slh_line.specs.declared.line_error.LineError.{LineError}
+use Rattle.slh_line.specs.declared.line_error.LineError.TheVariants as line_error
+use Rattle.slh_run.specs.EvidenceFields.{evidence_at}
 use Rattle.slh_run.specs.declared.job.Job.{Job}
 use Rattle.slh_run.specs.declared.job.Job.TheVariants as job
-use Rattle.slh_run.specs.declared.set.Set.{Set}
 use Rattle.slh_run.specs.declared.request.Command.{Command}
 use Rattle.slh_run.specs.declared.request.Command.TheVariants.{Keygen, Sign, Verify, Audit, Check}
-use Rattle.slh_run.specs.declared.request.Fault.{Fault}
-use Rattle.slh_run.specs.declared.request.Fault.TheVariants as fault
-use Rattle.slh_run.specs.declared.request.Request.{Request}
+use Rattle.slh_run.specs.declared.request.KeyedMessage.{KeyedMessage}
 
 -- The commands, by their names. All but keygen may end with the hash function by whose digest the
 -- message is signed
@@ -48,78 +47,45 @@ has_fields (Verify mode) count = count == 6
 has_fields (Audit mode) count = count == 6
 has_fields (Check mode) count = true
 
-abbrev pub and_then : {A B : Type 0} → Result A Fault → (A → Result B Fault) → Result B Fault
-and_then (Err found) next = Err found
-and_then (Ok value) next = next value
-
--- the bytes of a field, which is "-" or hexadecimal
-abbrev pub some_or_hex : {A : Type 0} → Option A → Result A Fault
-some_or_hex None = Err fault.Hex
-some_or_hex (Some value) = Ok value
-
-abbrev pub bytes_at : List (List ℕ) → ℕ → Result (List ℕ) Fault
-bytes_at fields i = some_or_hex (hex_value (field_at fields i))
-
--- the randomizer of a field, which is "none" or a field of bytes
-abbrev pub some_bytes : Result (List ℕ) Fault → Result (Option (List ℕ)) Fault
-some_bytes (Err found) = Err found
-some_bytes (Ok bytes) = Ok (Some bytes)
-
-abbrev pub randomizer_at : List (List ℕ) → ℕ → Result (Option (List ℕ)) Fault
-randomizer_at fields i =
-    if bytes_eq (field_at fields i) (codes "none") then Ok None else some_bytes (bytes_at fields i)
-
--- the evidence of a check
-abbrev pub some_or_fields : {A : Type 0} → Option A → Result A Fault
-some_or_fields None = Err fault.Fields
-some_or_fields (Some value) = Ok value
+-- the key, the context and the message of a line
+abbrev pub keyed_message_of : List (List ℕ) → Result KeyedMessage LineError
+keyed_message_of fields =
+    and_then (bytes_at fields 2) (λ key.
+    and_then (bytes_at fields 3) (λ context.
+    and_then (bytes_at fields 4) (λ message.
+    Ok (record { key = key; context = context; message = message }))))
 
 -- the job of a command, whose line has the right number of fields
-abbrev pub job_of : Command → List (List ℕ) → Result Job Fault
+abbrev pub job_of : Command → List (List ℕ) → Result Job LineError
 job_of Keygen fields =
     and_then (bytes_at fields 2) (λ sk_seed.
     and_then (bytes_at fields 3) (λ sk_prf.
     and_then (bytes_at fields 4) (λ pk_seed.
     Ok (job.Keygen sk_seed sk_prf pk_seed))))
 job_of (Sign mode) fields =
-    and_then (bytes_at fields 2) (λ key.
-    and_then (bytes_at fields 3) (λ context.
-    and_then (bytes_at fields 4) (λ message.
+    and_then (keyed_message_of fields) (λ keyed.
     and_then (randomizer_at fields 5) (λ randomizer.
-    Ok (job.Sign mode key context message randomizer)))))
+    Ok (job.Sign mode keyed.key keyed.context keyed.message randomizer)))
 job_of (Verify mode) fields =
-    and_then (bytes_at fields 2) (λ key.
-    and_then (bytes_at fields 3) (λ context.
-    and_then (bytes_at fields 4) (λ message.
+    and_then (keyed_message_of fields) (λ keyed.
     and_then (bytes_at fields 5) (λ signature.
-    Ok (job.Verify mode key context message signature)))))
+    Ok (job.Verify mode keyed.key keyed.context keyed.message signature)))
 job_of (Audit mode) fields =
-    and_then (bytes_at fields 2) (λ key.
-    and_then (bytes_at fields 3) (λ context.
-    and_then (bytes_at fields 4) (λ message.
+    and_then (keyed_message_of fields) (λ keyed.
     and_then (bytes_at fields 5) (λ signature.
-    Ok (job.Audit mode key context message signature)))))
+    Ok (job.Audit mode keyed.key keyed.context keyed.message signature)))
 job_of (Check mode) fields =
     and_then (some_or_fields (evidence_at fields)) (λ evidence.
-    and_then (bytes_at fields 2) (λ key.
-    and_then (bytes_at fields 3) (λ context.
-    and_then (bytes_at fields 4) (λ message.
+    and_then (keyed_message_of fields) (λ keyed.
     and_then (bytes_at fields 5) (λ signature.
-    Ok (job.Check mode key context message signature evidence))))))
+    Ok (job.Check mode keyed.key keyed.context keyed.message signature evidence))))
 
 -- the job of a line whose second field was found to name a command, or to name none
-abbrev pub job_for : Option Command → List (List ℕ) → Result Job Fault
-job_for None fields = Err fault.Command
+abbrev pub job_for : Option Command → List (List ℕ) → Result Job LineError
+job_for None fields = Err line_error.Command
 job_for (Some command) fields =
-    if has_fields command (length fields) then job_of command fields else Err fault.Fields
+    if has_fields command (length fields) then job_of command fields else Err line_error.Fields
 
--- the request of a line whose first field was found to name a set, or to name none
-abbrev pub request_for : Option Set → List (List ℕ) → Result Request Fault
-request_for None fields = Err fault.Set
-request_for (Some set) fields =
-    and_then (job_for (command_named (field_at fields 1)) fields) (λ job.
-    Ok (record { set = set; job = job }))
-
--- what a line asks for, or the first thing that is wrong with it
-abbrev pub request_of : List (List ℕ) → Result Request Fault
-request_of fields = request_for (set_named (field_at fields 0)) fields
+-- the job of a line whose first field names a set, or the first thing that is wrong with it
+abbrev pub job_at : List (List ℕ) → Result Job LineError
+job_at fields = job_for (command_named (field_at fields 1)) fields

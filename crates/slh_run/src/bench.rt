@@ -1,29 +1,30 @@
-//! The words of a bench, and its report (README, "Bench").
+//! The words of a bench, and its report (docs/LINES.md).
 ghost use Rattle.std.specs.Prelude.{◌≡◌, ◌+◌, ◌*◌, ◌^◌, ◌++◌, ◌<◌, ◌≤◌, length, decimal};
 ghost use Rattle.std.specs.Prelude.{IfOk, IfSome, OnOk, IsErrOf};
 ghost use Rattle.hmac_sha256.specs.Sha256.{sha256};
 ghost use Rattle.line_serve.specs.Causes.{Rose};
 ghost use Rattle.line_serve.specs.Engine.{Takes};
+ghost use Rattle.line_serve.specs.Fields.{field_at};
 ghost use Rattle.slh_core.specs.Steps.{IsFresh};
 ghost use Rattle.slh_run.specs.Bench.{TellsBench, accepted_count, bench_accepts, bench_count};
-ghost use Rattle.slh_run.specs.Bench.{bench_key as spec_bench_key, bench_message, bench_number};
+ghost use Rattle.slh_run.specs.Bench.{bench_key as spec_bench_key, bench_message};
 ghost use Rattle.slh_run.specs.Bench.{bench_of, bench_prk as spec_bench_prk, bench_signature};
 ghost use Rattle.slh_run.specs.Bench.{bench_signatures, counts_line, digest_line, head_line};
-ghost use Rattle.slh_run.specs.Bench.{bench_report, message_size, outcome_lines, report_in};
-ghost use Rattle.slh_run.specs.EvidenceFields.{field_at};
+ghost use Rattle.slh_run.specs.Bench.{bench_report, message_size, outcome_lines};
+ghost use Rattle.slh_line.specs.Sets.{scheme_for};
 ghost use Rattle.slh_run.specs.declared.bench.Stop.TheVariants.{NoMemory, SinkFault};
 ghost use Rattle.slh_trees.specs.Checking.{signature_size};
 
-use crate::decimals::read_digits;
-use crate::set::Set;
 use hmac_sha256::{HKDF, Hash};
 use hybrid_array::ArraySize;
-use itoa::Buffer;
-use line_serve::{ByteString, Failed, Sink, Words, write_all};
+use line_serve::{
+    ByteString, Failed, Sink, Words, decimal_value, push_hex_line, push_number, push_number_line,
+    write_all,
+};
 use slh_core::params::{chain_sizes, forest_sizes, layer_sizes};
 use slh_core::steps::Steps;
 use slh_dsa::{Mode, ParameterSet, SigningKey};
-use slh_hash::{Sha2_128f, Sha2_128s, Sha2_192f, Sha2_192s, Sha2_256f, Sha2_256s};
+use slh_line::{OnSet, Set};
 use std::alloc::{AllocError, Global};
 use std::marker::Brand;
 use std::sync::ledger::{Blank, Ledger};
@@ -75,23 +76,11 @@ fn word_at(words: &Words, i: usize) -> &[u8]
     }
 }
 
-fn read_number(word: &[u8]) -> Option<u64>
-    ensures { result ≡ bench_number word.now }
-{
-    if word.is_empty() || word.len() > 20 {
-        return None;
-    }
-    read_digits(word, u64::MAX)
-}
-
 fn read_count(word: &[u8]) -> Option<u32>
     ensures value { result ≡ bench_count word.now }
     ensures few { IfSome result (λ count. count ≤ 64) }
 {
-    if word.is_empty() || word.len() > 2 {
-        return None;
-    }
-    let count = read_digits(word, 64)?;
+    let count = decimal_value(word, 2, 64)?;
     if count == 0 {
         return None;
     }
@@ -107,7 +96,7 @@ pub(crate) fn read_bench(words: &Words) -> Option<Bench>
         return None;
     }
     let set = Set::from_name(word_at(words, 1))?;
-    let number = read_number(word_at(words, 2))?;
+    let number = decimal_value(word_at(words, 2), 20, u64::MAX)?;
     let count = read_count(word_at(words, 3))?;
     Some(Bench { set, number, count })
 }
@@ -209,14 +198,6 @@ fn sign_all<P: ParameterSet, L: Ledger>(
     }
 }
 
-// Puts a number at the end.
-fn push_number(text: &mut ByteString, number: u64) -> Result<(), AllocError>
-    ensures { OnOk result (text.new ≡ text.old ++ decimal number) }
-{
-    let mut buffer = Buffer::new();
-    text.push_slice(buffer.format(number).as_bytes())
-}
-
 // Puts the first line at the end.
 #[tactic(auto, unfolding(crate::specs::Bench::head_line))]
 fn push_head_line(text: &mut ByteString, bench: Bench) -> Result<(), AllocError>
@@ -226,20 +207,7 @@ fn push_head_line(text: &mut ByteString, bench: Bench) -> Result<(), AllocError>
     text.push_slice(bench.set.name().as_bytes())?;
     text.push_slice(b" ")?;
     push_number(text, bench.number)?;
-    text.push_slice(b" ")?;
-    push_number(text, u64::from(bench.count))?;
-    text.push_slice(b"\n")
-}
-
-// Puts the line of the digest at the end.
-fn push_digest_line(text: &mut ByteString, digest: &[u8; 32]) -> Result<(), AllocError>
-    ensures { OnOk result (text.new ≡ text.old ++ digest_line digest.now) }
-{
-    let mut digits = [0u8; 64];
-    hex::encode_to_slice(digest, &mut digits).unwrap();
-    text.push_slice(b"digest ")?;
-    text.push_slice(&digits)?;
-    text.push_slice(b"\n")
+    push_number_line(text, b" ", u64::from(bench.count))
 }
 
 // Puts the last line at the end.
@@ -248,9 +216,7 @@ fn push_counts_line(text: &mut ByteString, signed: u32, accepted: u32) -> Result
 {
     text.push_slice(b"signed ")?;
     push_number(text, u64::from(signed))?;
-    text.push_slice(b" accepted ")?;
-    push_number(text, u64::from(accepted))?;
-    text.push_slice(b"\n")
+    push_number_line(text, b" accepted ", u64::from(accepted))
 }
 
 fn head_text(alloc: Global, bench: Bench) -> Result<ByteString, AllocError>
@@ -266,15 +232,53 @@ fn outcome_text(alloc: Global, count: u32, outcome: &Outcome) -> Result<ByteStri
         ≡ digest_line outcome.now.digest ++ counts_line count outcome.now.accepted) }
 {
     let mut text = ByteString::new(alloc);
-    push_digest_line(&mut text, &outcome.digest)?;
+    push_hex_line(&mut text, b"digest ", &outcome.digest)?;
     push_counts_line(&mut text, count, outcome.accepted)?;
     Ok(text)
 }
 
+// Signs and verifies, and puts together the lines after the first.
+#[tactic(auto, unfolding(crate::specs::Bench::outcome_lines))]
+fn outcome_in<P: ParameterSet, L: Ledger>(
+    alloc: Global,
+    bench: Bench,
+    blank: Blank,
+) -> Result<ByteString, AllocError>
+    requires few { bench.count ≤ 64 }
+    requires fresh { IsFresh blank L.name L.parts }
+    ensures { IfOk result (λ text. text
+        ≡ outcome_lines P.scheme (spec_bench_prk bench.number) bench.count) }
+{
+    let mut steps = Steps::<L>::new(blank);
+    let mut signature = ByteString::zeroed(alloc, P::SigLen::USIZE)?;
+    let prk = bench_prk(bench.number);
+    let outcome = sign_all::<P, L>(&prk, bench.count, signature.as_mut_slice(), &mut steps);
+    outcome_text(alloc, bench.count, &outcome)
+}
+
+// What is left to do of a bench once its first line is written.
+#[derive(Drop)]
+struct Signing {
+    alloc: Global,
+    bench: Bench,
+    ghost few: { bench.count ≤ 64 },
+}
+
+impl OnSet for Signing {
+    type Out = Result<ByteString, AllocError>;
+
+    ghost gives = { λ task Z _ result. IfOk result (λ text. text
+        ≡ outcome_lines Z (spec_bench_prk task.bench.number) task.bench.count) };
+
+    fn on<P: ParameterSet>(self) -> Result<ByteString, AllocError> {
+        outcome_in::<P, Brand>(self.alloc, self.bench, Blank::new(1))
+    }
+}
+
 fn write_head<K: Sink>(alloc: Global, bench: Bench, sink: &mut K) -> Result<(), Stop>
     ensures bytes { Takes (K.taken sink.old) (K.taken sink.new) result (head_line bench) }
-    ensures later { K.faults sink.old ≤ K.faults sink.new }
     ensures cause { IsErrOf result SinkFault → Rose (K.faults sink.old) (K.faults sink.new) }
+    ensures later { K.faults sink.old ≤ K.faults sink.new }
 {
     let text = head_text(alloc, bench)?;
     write_all(sink, text.as_slice())?;
@@ -282,74 +286,25 @@ fn write_head<K: Sink>(alloc: Global, bench: Bench, sink: &mut K) -> Result<(), 
 }
 
 // Signs and verifies, and writes the lines after the first.
-#[tactic(auto, unfolding(crate::specs::Bench::outcome_lines))]
-fn write_outcome<P: ParameterSet, L: Ledger, K: Sink>(
-    alloc: Global,
-    bench: Bench,
-    sink: &mut K,
-    signature: &mut [u8],
-    steps: &mut Steps<L>,
-) -> Result<(), Stop>
+fn write_outcome<K: Sink>(alloc: Global, bench: Bench, sink: &mut K) -> Result<(), Stop>
     requires few { bench.count ≤ 64 }
-    requires room { length signature.old ≡ signature_size P.scheme }
     ensures bytes { Takes (K.taken sink.old) (K.taken sink.new) result
-        (outcome_lines P.scheme (spec_bench_prk bench.number) bench.count) }
-    ensures later { K.faults sink.old ≤ K.faults sink.new }
+        (outcome_lines (scheme_for bench.set) (spec_bench_prk bench.number) bench.count) }
     ensures cause { IsErrOf result SinkFault → Rose (K.faults sink.old) (K.faults sink.new) }
 {
-    let prk = bench_prk(bench.number);
-    let outcome = sign_all::<P, L>(&prk, bench.count, signature, steps);
-    let text = outcome_text(alloc, bench.count, &outcome)?;
+    let text = bench.set.run(Signing { alloc, bench })?;
     write_all(sink, text.as_slice())?;
     Ok(())
 }
 
 // Writes the report, the first line before anything is signed.
-fn write_report<P: ParameterSet, L: Ledger, K: Sink>(
-    alloc: Global,
-    bench: Bench,
-    sink: &mut K,
-    blank: Blank,
-) -> Result<(), Stop>
-    requires few { bench.count ≤ 64 }
-    requires fresh { IsFresh blank L.name L.parts }
-    ensures bytes { Takes (K.taken sink.old) (K.taken sink.new) result
-        (report_in P.scheme bench) }
-    ensures cause { IsErrOf result SinkFault → Rose (K.faults sink.old) (K.faults sink.new) }
-{
-    let mut steps = Steps::<L>::new(blank);
-    let mut signature = ByteString::zeroed(alloc, P::SigLen::USIZE)?;
-    write_head(alloc, bench, sink)?;
-    write_outcome::<P, L, K>(alloc, bench, sink, signature.as_mut_slice(), &mut steps)
-}
-
-fn report_on<P: ParameterSet, K: Sink>(
-    alloc: Global,
-    bench: Bench,
-    sink: &mut K,
-) -> Result<(), Stop>
-    requires few { bench.count ≤ 64 }
-    ensures bytes { Takes (K.taken sink.old) (K.taken sink.new) result
-        (report_in P.scheme bench) }
-    ensures cause { IsErrOf result SinkFault → Rose (K.faults sink.old) (K.faults sink.new) }
-{
-    write_report::<P, Brand, K>(alloc, bench, sink, Blank::new(1))
-}
-
-// Writes the report of the set that is asked for.
-fn report_on_set<K: Sink>(alloc: Global, bench: Bench, sink: &mut K) -> Result<(), Stop>
+fn write_report<K: Sink>(alloc: Global, bench: Bench, sink: &mut K) -> Result<(), Stop>
     requires few { bench.count ≤ 64 }
     ensures bytes { Takes (K.taken sink.old) (K.taken sink.new) result (bench_report bench) }
     ensures cause { IsErrOf result SinkFault → Rose (K.faults sink.old) (K.faults sink.new) }
 {
-    match bench.set {
-        Set::Sha2_128s => report_on::<Sha2_128s, K>(alloc, bench, sink),
-        Set::Sha2_128f => report_on::<Sha2_128f, K>(alloc, bench, sink),
-        Set::Sha2_192s => report_on::<Sha2_192s, K>(alloc, bench, sink),
-        Set::Sha2_192f => report_on::<Sha2_192f, K>(alloc, bench, sink),
-        Set::Sha2_256s => report_on::<Sha2_256s, K>(alloc, bench, sink),
-        Set::Sha2_256f => report_on::<Sha2_256f, K>(alloc, bench, sink),
-    }
+    write_head(alloc, bench, sink)?;
+    write_outcome(alloc, bench, sink)
 }
 
 /// Writes the report of a bench, and answers the status of the program: 0 where it was written, 4
@@ -359,7 +314,7 @@ pub(crate) fn run_bench<K: Sink>(alloc: Global, bench: Bench, sink: &mut K) -> u
     ensures told { TellsBench (K.taken sink.old) (K.taken sink.new) result bench }
     ensures cause { result ≡ 4 → Rose (K.faults sink.old) (K.faults sink.new) }
 {
-    match report_on_set(alloc, bench, sink) {
+    match write_report(alloc, bench, sink) {
         Ok(()) => 0,
         Err(Stop::SinkFault) => 4,
         Err(Stop::NoMemory) => 6,

@@ -1,39 +1,14 @@
 //! How evidence stands on a line.
-ghost use Rattle.std.specs.Prelude.{◌≡◌, ◌≤◌, ◌++◌, length, OnOk};
+ghost use Rattle.std.specs.Prelude.{◌≡◌, ◌++◌, length, OnOk};
 ghost use Rattle.line_serve.specs.Fields.{contents};
 ghost use Rattle.slh_audit.specs.declared.evidence.Evidence.TheVariants.{ForsNode, ChainStep};
 ghost use Rattle.slh_audit.specs.declared.evidence.Evidence.TheVariants.{Leaf, TreeNode, Early};
-ghost use Rattle.slh_run.specs.EvidenceFields.{evidence_at, evidence_text, number_value, spaced};
+ghost use Rattle.slh_run.specs.EvidenceFields.{evidence_at, evidence_text, spaced};
 ghost use Rattle.slh_run.specs.EvidenceFields.{one_number, two_numbers, three_numbers};
-ghost use Rattle.slh_run.specs.EvidenceFields.{field_at as spec_field_at};
 
-use crate::decimals::read_digits;
-use itoa::Buffer;
-use line_serve::ByteString;
+use line_serve::{ByteString, field_at, number_at, push_number};
 use slh_audit::Evidence;
 use std::alloc::AllocError;
-
-/// The field at an index, with no bytes where there are not so many.
-pub(crate) fn field_at<'a>(fields: &[&'a [u8]], i: usize) -> &'a [u8]
-    ensures { result.now ≡ spec_field_at (contents fields.now) i }
-{
-    match fields.get(i) {
-        Some(&found) => found,
-        None => &[],
-    }
-}
-
-// The number that the field at an index stands for.
-fn number_at(fields: &[&[u8]], i: usize) -> Option<u32>
-    ensures { result ≡ number_value (spec_field_at (contents fields.now) i) }
-{
-    let text = field_at(fields, i);
-    if text.is_empty() || text.len() > 10 {
-        return None;
-    }
-    let number = read_digits(text, u64::from(u32::MAX))?;
-    Some(number as u32)
-}
 
 fn read_fors_node(fields: &[&[u8]]) -> Option<Evidence>
     ensures { result ≡ two_numbers (contents fields.now) (λ x y. ForsNode x y) }
@@ -120,9 +95,8 @@ pub(crate) fn read_evidence(fields: &[&[u8]]) -> Option<Evidence>
 fn push_spaced(text: &mut ByteString, number: u32) -> Result<(), AllocError>
     ensures { OnOk result (text.new ≡ text.old ++ spaced number) }
 {
-    let mut buffer = Buffer::new();
     text.push_slice(b" ")?;
-    text.push_slice(buffer.format(number).as_bytes())
+    push_number(text, u64::from(number))
 }
 
 /// Puts the text of evidence at the end.

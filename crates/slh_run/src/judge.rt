@@ -1,23 +1,21 @@
 //! Answers single jobs.
 ghost use Rattle.std.specs.Prelude.{◌≡◌, ◌≤◌, ◌*◌, ◌^◌, length, OnOk};
-ghost use Rattle.std.specs.Option.{option_copied};
 ghost use Rattle.slh_core.specs.Steps.{IsFresh};
 ghost use Rattle.slh_run.specs.Errors.{audit_error_of, error_of};
-ghost use Rattle.slh_run.specs.Judgement.{IsJudged, audit_refusal, judgement};
-ghost use Rattle.slh_run.specs.Sets.{scheme_for};
+ghost use Rattle.slh_run.specs.Judgement.{IsJudged, NeedsMemory, audit_refusal, judgement};
+ghost use Rattle.slh_line.specs.Sets.{scheme_for};
 ghost use Rattle.slh_trees.specs.Checking.{signature_size};
 ghost use Rattle.slh_trees.specs.Sizes.{RefusedExactly};
 ghost use Rattle.slh_run.specs.declared.job.Job.TheVariants.{Keygen, Sign, Verify, Audit, Check};
 
 use crate::job::{Answer, Error, Job};
-use crate::set::Set;
 use hybrid_array::ArraySize;
 use line_serve::ByteString;
 use slh_audit::{AuditError, Evidence, audit_framed, check_evidence_framed};
 use slh_core::params::chain_sizes;
 use slh_core::steps::Steps;
 use slh_dsa::{Frame, Mode, ParameterSet, SigningKey, VerifyingKey};
-use slh_hash::{Sha2_128f, Sha2_128s, Sha2_192f, Sha2_192s, Sha2_256f, Sha2_256s};
+use slh_line::{OnSet, Set, as_bytes};
 use std::alloc::{AllocError, Global};
 use std::marker::Brand;
 use std::sync::ledger::{Blank, Ledger};
@@ -64,14 +62,15 @@ impl From<AllocError> for Error {
 // A key of three seeds. Its bytes are taken once it is made, and nothing after that can fail.
 fn keygen<P: ParameterSet, L: Ledger>(
     alloc: Global,
-    sk_seed: &[u8],
-    sk_prf: &[u8],
-    pk_seed: &[u8],
+    sk_seed: &ByteString,
+    sk_prf: &ByteString,
+    pk_seed: &ByteString,
     steps: &mut Steps<L>,
 ) -> Result<Answer, Error>
     ensures { IsJudged P.scheme (Keygen sk_seed.now sk_prf.now pk_seed.now) result }
 {
     chain_sizes::<P>();
+    let (sk_seed, sk_prf, pk_seed) = (sk_seed.as_slice(), sk_prf.as_slice(), pk_seed.as_slice());
     let key = SigningKey::<P>::slh_keygen_counted(sk_seed, sk_prf, pk_seed, steps)?;
     let mut bytes = ByteString::zeroed(alloc, 4 * P::N::USIZE)?;
     key.write_to(bytes.as_mut_slice());
@@ -82,40 +81,42 @@ fn keygen<P: ParameterSet, L: Ledger>(
 fn sign<P: ParameterSet, L: Ledger>(
     alloc: Global,
     mode: Mode,
-    key: &[u8],
-    ctx: &[u8],
-    msg: &[u8],
-    randomizer: Option<&[u8]>,
+    key: &ByteString,
+    context: &ByteString,
+    message: &ByteString,
+    randomizer: &Option<ByteString>,
     steps: &mut Steps<L>,
 ) -> Result<Answer, Error>
-    ensures { let opt = option_copied randomizer.entry in
-        IsJudged P.scheme (Sign mode key.now ctx.now msg.now opt) result }
+    ensures { IsJudged P.scheme (Sign mode key.now context.now message.now randomizer.now) result }
 {
-    let key = SigningKey::<P>::try_from(key)?;
-    SigningKey::<P>::check_sign(msg, ctx, randomizer)?;
+    let (msg, ctx, opt_rand) = (message.as_slice(), context.as_slice(), as_bytes(randomizer));
+    let key = SigningKey::<P>::try_from(key.as_slice())?;
+    SigningKey::<P>::check_sign(msg, ctx, opt_rand)?;
     let mut bytes = ByteString::zeroed(alloc, P::SigLen::USIZE)?;
-    key.hash_sign_checked(mode, msg, ctx, randomizer, bytes.as_mut_slice(), steps);
+    key.hash_sign_checked(mode, msg, ctx, opt_rand, bytes.as_mut_slice(), steps);
     Ok(Answer::Signature(bytes))
 }
 
-// Whether a signature is accepted. It takes no memory.
+// Whether a signature is accepted.
 fn verify<P: ParameterSet, L: Ledger>(
     mode: Mode,
-    key: &[u8],
-    ctx: &[u8],
-    msg: &[u8],
-    signature: &[u8],
+    key: &ByteString,
+    context: &ByteString,
+    message: &ByteString,
+    signature: &ByteString,
     steps: &mut Steps<L>,
 ) -> Result<Answer, Error>
-    ensures { IsJudged P.scheme (Verify mode key.now ctx.now msg.now signature.now) result }
+    ensures { result ≡ judgement P.scheme
+        (Verify mode key.now context.now message.now signature.now) }
 {
-    let key = VerifyingKey::<P>::try_from(key)?;
-    key.hash_verify_counted(mode, msg, ctx, signature, steps)?;
+    let (msg, ctx, sig) = (message.as_slice(), context.as_slice(), signature.as_slice());
+    let key = VerifyingKey::<P>::try_from(key.as_slice())?;
+    key.hash_verify_counted(mode, msg, ctx, sig, steps)?;
     Ok(Answer::Accepted)
 }
 
 // The refusals of an audit and of a check by size.
-fn check_audit<P: ParameterSet>(
+fn check_sizes<P: ParameterSet>(
     key: &[u8],
     ctx: &[u8],
     msg: &[u8],
@@ -135,39 +136,76 @@ fn check_audit<P: ParameterSet>(
     VerifyingKey::<P>::check_verify(msg, ctx, signature)
 }
 
-// Whether a key made a signature. It takes no memory.
-fn judge_audit<P: ParameterSet>(
+// Whether a key made a signature.
+fn audit<P: ParameterSet>(
     mode: Mode,
-    key: &[u8],
-    ctx: &[u8],
-    msg: &[u8],
-    signature: &[u8],
+    key: &ByteString,
+    context: &ByteString,
+    message: &ByteString,
+    signature: &ByteString,
 ) -> Result<Answer, Error>
-    ensures { result ≡ judgement P.scheme (Audit mode key.now ctx.now msg.now signature.now) }
+    ensures { result ≡ judgement P.scheme
+        (Audit mode key.now context.now message.now signature.now) }
 {
-    check_audit::<P>(key, ctx, msg, signature)?;
+    let (key, sig) = (key.as_slice(), signature.as_slice());
+    let (msg, ctx) = (message.as_slice(), context.as_slice());
+    check_sizes::<P>(key, ctx, msg, sig)?;
     let frame = Frame::new(mode, ctx, msg);
-    let verdict = audit_framed::<P>(key, frame.head(), frame.ctx(), frame.tail(), signature)?;
+    let verdict = audit_framed::<P>(key, frame.head(), frame.ctx(), frame.tail(), sig)?;
     Ok(Answer::Verdict(verdict))
 }
 
-// Whether evidence shows. It takes no memory.
-fn judge_check<P: ParameterSet>(
+// Whether evidence shows.
+fn check<P: ParameterSet>(
     mode: Mode,
-    key: &[u8],
-    ctx: &[u8],
-    msg: &[u8],
-    signature: &[u8],
+    key: &ByteString,
+    context: &ByteString,
+    message: &ByteString,
+    signature: &ByteString,
     evidence: &Evidence,
 ) -> Result<Answer, Error>
-    ensures { let job = Check mode key.now ctx.now msg.now signature.now evidence.now in
-        result ≡ judgement P.scheme job }
+    ensures { result ≡ judgement P.scheme
+        (Check mode key.now context.now message.now signature.now evidence.now) }
 {
-    check_audit::<P>(key, ctx, msg, signature)?;
+    let (key, sig) = (key.as_slice(), signature.as_slice());
+    let (msg, ctx) = (message.as_slice(), context.as_slice());
+    check_sizes::<P>(key, ctx, msg, sig)?;
     let frame = Frame::new(mode, ctx, msg);
     let (head, ctx, tail) = (frame.head(), frame.ctx(), frame.tail());
-    let shown = check_evidence_framed::<P>(key, head, ctx, tail, signature, evidence)?;
+    let shown = check_evidence_framed::<P>(key, head, ctx, tail, sig, evidence)?;
     Ok(Answer::Shown(shown))
+}
+
+// Answers a job whose answer needs no memory.
+fn judge<P: ParameterSet, L: Ledger>(job: &Job, steps: &mut Steps<L>) -> Result<Answer, Error>
+    requires { NeedsMemory job.now → ⊥ }
+    ensures { result ≡ judgement P.scheme job.now }
+{
+    match job {
+        Job::Verify {
+            mode,
+            key,
+            context,
+            message,
+            signature,
+        } => verify::<P, L>(*mode, key, context, message, signature, steps),
+        Job::Audit {
+            mode,
+            key,
+            context,
+            message,
+            signature,
+        } => audit::<P>(*mode, key, context, message, signature),
+        Job::Check {
+            mode,
+            key,
+            context,
+            message,
+            signature,
+            evidence,
+        } => check::<P>(*mode, key, context, message, signature, evidence),
+        Job::Keygen { .. } | Job::Sign { .. } => unreachable!(),
+    }
 }
 
 // Answers a job, on a counter that is made here.
@@ -185,99 +223,45 @@ fn run_in<P: ParameterSet, L: Ledger>(
             sk_seed,
             sk_prf,
             pk_seed,
-        } => keygen::<P, L>(
-            alloc,
-            sk_seed.as_slice(),
-            sk_prf.as_slice(),
-            pk_seed.as_slice(),
-            &mut steps,
-        ),
+        } => keygen::<P, L>(alloc, sk_seed, sk_prf, pk_seed, &mut steps),
         Job::Sign {
             mode,
             key,
             context,
             message,
             randomizer,
-        } => sign::<P, L>(
-            alloc,
-            *mode,
-            key.as_slice(),
-            context.as_slice(),
-            message.as_slice(),
-            bytes_of(randomizer),
-            &mut steps,
-        ),
-        Job::Verify {
-            mode,
-            key,
-            context,
-            message,
-            signature,
-        } => verify::<P, L>(
-            *mode,
-            key.as_slice(),
-            context.as_slice(),
-            message.as_slice(),
-            signature.as_slice(),
-            &mut steps,
-        ),
-        Job::Audit {
-            mode,
-            key,
-            context,
-            message,
-            signature,
-        } => judge_audit::<P>(
-            *mode,
-            key.as_slice(),
-            context.as_slice(),
-            message.as_slice(),
-            signature.as_slice(),
-        ),
-        Job::Check {
-            mode,
-            key,
-            context,
-            message,
-            signature,
-            evidence,
-        } => judge_check::<P>(
-            *mode,
-            key.as_slice(),
-            context.as_slice(),
-            message.as_slice(),
-            signature.as_slice(),
-            evidence,
-        ),
+        } => sign::<P, L>(alloc, *mode, key, context, message, randomizer, &mut steps),
+        _ => judge::<P, L>(job, &mut steps),
     }
 }
 
-// The bytes of a byte string, where there is one.
-fn bytes_of(string: &Option<ByteString>) -> Option<&[u8]>
-    ensures { option_copied result ≡ string.now }
-{
-    match string {
-        Some(string) => Some(string.as_slice()),
-        None => None,
-    }
-}
-
-fn run_set<P: ParameterSet>(alloc: Global, job: &Job) -> Result<Answer, Error>
+/// Answers a job in a parameter set.
+pub(crate) fn run_set<P: ParameterSet>(alloc: Global, job: &Job) -> Result<Answer, Error>
     ensures { IsJudged P.scheme job.now result }
 {
     run_in::<P, Brand>(alloc, job, Blank::new(1))
+}
+
+// A job of which only the set isn't known.
+#[derive(Drop)]
+struct OfSet<'a> {
+    alloc: Global,
+    job: &'a Job,
+}
+
+impl<'a> OnSet for OfSet<'a> {
+    type Out = Result<Answer, Error>;
+
+    ghost gives = { λ task Z _ result. IsJudged Z task.job.now result };
+
+    fn on<P: ParameterSet>(self) -> Result<Answer, Error> {
+        run_set::<P>(self.alloc, self.job)
+    }
 }
 
 /// Answers a job of a parameter set: the answer that is judged, or `Memory`. The job is unchanged.
 pub fn run(alloc: Global, set: Set, job: &Job) -> Result<Answer, Error>
     ensures judged { IsJudged (scheme_for set) job.now result }
 {
-    match set {
-        Set::Sha2_128s => run_set::<Sha2_128s>(alloc, job),
-        Set::Sha2_128f => run_set::<Sha2_128f>(alloc, job),
-        Set::Sha2_192s => run_set::<Sha2_192s>(alloc, job),
-        Set::Sha2_192f => run_set::<Sha2_192f>(alloc, job),
-        Set::Sha2_256s => run_set::<Sha2_256s>(alloc, job),
-        Set::Sha2_256f => run_set::<Sha2_256f>(alloc, job),
-    }
+    set.run(OfSet { alloc, job })
 }

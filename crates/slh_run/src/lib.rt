@@ -1,4 +1,4 @@
-//! Jobs of SLH-DSA, and the program that answers them line by line (README, "Lines").
+//! Jobs of SLH-DSA, and the program that answers them line by line (docs/LINES.md).
 //!
 //! [`run`] answers one [`Job`], and [`serve`] the job lines of a whole source. The ends of the
 //! program and the engine for lines are those of `line_serve`, handed on by name.
@@ -27,7 +27,6 @@
 #![tactic(auto)]
 
 mod bench;
-mod decimals;
 mod evidence;
 mod job;
 mod judge;
@@ -35,7 +34,6 @@ pub mod laws;
 mod program;
 mod reply;
 mod request;
-mod set;
 
 pub use job::{Answer, Error, Job};
 pub use judge::run;
@@ -44,6 +42,6 @@ pub use line_serve::{
     count_fields, cut_fields, field, hex_field, serve_lines, write_all,
 };
 pub use program::serve;
-pub use set::Set;
 pub use slh_audit::{Evidence, Verdict};
 pub use slh_dsa::Mode;
+pub use slh_line::Set;

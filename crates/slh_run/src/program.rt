@@ -10,7 +10,8 @@ ghost use Rattle.slh_run.specs.Usage.{TellsUsage};
 
 use crate::bench::{read_bench, run_bench};
 use crate::reply::Jobs;
-use line_serve::{Sink, Source, Words, serve_lines, write_all};
+use line_serve::{Sink, Source, Words, serve_words};
+use slh_line::Lines;
 use std::alloc::Global;
 
 const USAGE: &[u8] = b"usage: slh_cli [bench SET NUMBER COUNT]\n";
@@ -51,14 +52,8 @@ pub fn serve<S: Source, K: Sink>(alloc: Global, words: &Words, source: &mut S, s
     ensures unread { words.now ≢ [] → source.new ≡ source.old }
     ensures usage_only { result ≡ 2 → (words.now ≢ []) × (bench_of words.now ≡ None) }
 {
-    if words.len() == 0 {
-        return serve_lines(alloc, &Jobs, source, sink);
-    }
     if let Some(bench) = read_bench(words) {
         return run_bench(alloc, bench, sink);
     }
-    match write_all(sink, USAGE) {
-        Ok(()) => 2,
-        Err(_) => 4,
-    }
+    serve_words(alloc, &Lines(Jobs), USAGE, words, source, sink)
 }

@@ -1,47 +1,24 @@
 //! What a job line asks for.
 ghost use Rattle.std.specs.Prelude.{◌≡◌, ◌⊎◌, Err};
 ghost use Rattle.line_serve.specs.Fields.{contents};
-ghost use Rattle.slh_run.specs.Requests.{bytes_at, command_named, job_for, job_of};
-ghost use Rattle.slh_run.specs.EvidenceFields.{field_at as spec_field_at};
-ghost use Rattle.slh_run.specs.Requests.{randomizer_at, request_of};
-ghost use Rattle.slh_run.specs.declared.request.Command.TheVariants.{Keygen, Sign, Verify, Audit, Check};
-ghost use Rattle.slh_run.specs.declared.request.Fault.TheVariants.{Memory};
+ghost use Rattle.slh_line.specs.declared.line_error.LineError.TheVariants.{Memory};
+ghost use Rattle.slh_run.specs.Requests.{command_named, job_at, job_of, keyed_message_of};
+ghost use Rattle.slh_run.specs.declared.request.Command.TheVariants.{Keygen, Sign, Verify, Audit};
+ghost use Rattle.slh_run.specs.declared.request.Command.TheVariants.{Check};
 
-use crate::evidence::{field_at, read_evidence};
+use crate::evidence::read_evidence;
 use crate::job::Job;
-use crate::set::Set;
-use line_serve::{ByteString, hex_field};
+use line_serve::{ByteString, field_at};
 use slh_dsa::Mode;
-use std::alloc::{AllocError, Global};
+use slh_line::{LineError, bytes_at, randomizer_at};
+use std::alloc::Global;
 
-/// How many fields of a line are kept: one more than a line of any command has, so that a line of
-/// more is still one of too many.
-pub(crate) const KEPT_FIELDS: usize = 11;
-
-/// A job for a parameter set.
+// The key, the context and the message of a line, which all commands but keygen have.
 #[derive(Drop)]
-pub(crate) struct Request {
-    pub(crate) set: Set,
-    pub(crate) job: Job,
-}
-
-/// Why a line is no job, in the order in which the causes are looked for; or that there was no
-/// memory to read it.
-#[derive(Clone, Copy, Debug, PartialEq, Eq)]
-pub(crate) enum Fault {
-    Set,
-    Command,
-    Fields,
-    Hex,
-    Memory,
-}
-
-impl From<AllocError> for Fault {
-    ghost from_gives = { λ _ e. e ≡ Memory };
-
-    fn from(_: AllocError) -> Self {
-        Fault::Memory
-    }
+struct KeyedMessage {
+    key: ByteString,
+    context: ByteString,
+    message: ByteString,
 }
 
 #[derive(Clone, Copy, Debug, PartialEq, Eq)]
@@ -89,29 +66,20 @@ impl Command {
     }
 }
 
-// The bytes that the field at an index stands for.
-fn bytes_at(alloc: Global, fields: &[&[u8]], i: usize) -> Result<ByteString, Fault>
-    ensures { (result ≡ bytes_at (contents fields.now) i) ⊎ (result ≡ Err Memory) }
+fn read_keyed_message(alloc: Global, fields: &[&[u8]]) -> Result<KeyedMessage, LineError>
+    ensures { (result ≡ keyed_message_of (contents fields.now)) ⊎ (result ≡ Err Memory) }
 {
-    let mut bytes = ByteString::new(alloc);
-    if hex_field(alloc, field_at(fields, i), &mut bytes)? {
-        Ok(bytes)
-    } else {
-        Err(Fault::Hex)
-    }
+    let key = bytes_at(alloc, fields, 2)?;
+    let context = bytes_at(alloc, fields, 3)?;
+    let message = bytes_at(alloc, fields, 4)?;
+    Ok(KeyedMessage {
+        key,
+        context,
+        message,
+    })
 }
 
-// The randomizer that the field at an index stands for, which may be none.
-fn randomizer_at(alloc: Global, fields: &[&[u8]], i: usize) -> Result<Option<ByteString>, Fault>
-    ensures { (result ≡ randomizer_at (contents fields.now) i) ⊎ (result ≡ Err Memory) }
-{
-    if field_at(fields, i) == b"none".as_slice() {
-        return Ok(None);
-    }
-    Ok(Some(bytes_at(alloc, fields, i)?))
-}
-
-fn read_keygen(alloc: Global, fields: &[&[u8]]) -> Result<Job, Fault>
+fn read_keygen(alloc: Global, fields: &[&[u8]]) -> Result<Job, LineError>
     ensures { (result ≡ job_of Keygen (contents fields.now)) ⊎ (result ≡ Err Memory) }
 {
     let sk_seed = bytes_at(alloc, fields, 2)?;
@@ -124,81 +92,72 @@ fn read_keygen(alloc: Global, fields: &[&[u8]]) -> Result<Job, Fault>
     })
 }
 
-fn read_sign(alloc: Global, mode: Mode, fields: &[&[u8]]) -> Result<Job, Fault>
+fn read_sign(alloc: Global, mode: Mode, fields: &[&[u8]]) -> Result<Job, LineError>
     ensures { (result ≡ job_of (Sign mode) (contents fields.now)) ⊎ (result ≡ Err Memory) }
 {
-    let key = bytes_at(alloc, fields, 2)?;
-    let context = bytes_at(alloc, fields, 3)?;
-    let message = bytes_at(alloc, fields, 4)?;
+    let keyed = read_keyed_message(alloc, fields)?;
     let randomizer = randomizer_at(alloc, fields, 5)?;
     Ok(Job::Sign {
         mode,
-        key,
-        context,
-        message,
+        key: keyed.key,
+        context: keyed.context,
+        message: keyed.message,
         randomizer,
     })
 }
 
-fn read_verify(alloc: Global, mode: Mode, fields: &[&[u8]]) -> Result<Job, Fault>
+fn read_verify(alloc: Global, mode: Mode, fields: &[&[u8]]) -> Result<Job, LineError>
     ensures { (result ≡ job_of (Verify mode) (contents fields.now)) ⊎ (result ≡ Err Memory) }
 {
-    let key = bytes_at(alloc, fields, 2)?;
-    let context = bytes_at(alloc, fields, 3)?;
-    let message = bytes_at(alloc, fields, 4)?;
+    let keyed = read_keyed_message(alloc, fields)?;
     let signature = bytes_at(alloc, fields, 5)?;
     Ok(Job::Verify {
         mode,
-        key,
-        context,
-        message,
+        key: keyed.key,
+        context: keyed.context,
+        message: keyed.message,
         signature,
     })
 }
 
-fn read_audit(alloc: Global, mode: Mode, fields: &[&[u8]]) -> Result<Job, Fault>
+fn read_audit(alloc: Global, mode: Mode, fields: &[&[u8]]) -> Result<Job, LineError>
     ensures { (result ≡ job_of (Audit mode) (contents fields.now)) ⊎ (result ≡ Err Memory) }
 {
-    let key = bytes_at(alloc, fields, 2)?;
-    let context = bytes_at(alloc, fields, 3)?;
-    let message = bytes_at(alloc, fields, 4)?;
+    let keyed = read_keyed_message(alloc, fields)?;
     let signature = bytes_at(alloc, fields, 5)?;
     Ok(Job::Audit {
         mode,
-        key,
-        context,
-        message,
+        key: keyed.key,
+        context: keyed.context,
+        message: keyed.message,
         signature,
     })
 }
 
-fn read_check(alloc: Global, mode: Mode, fields: &[&[u8]]) -> Result<Job, Fault>
+fn read_check(alloc: Global, mode: Mode, fields: &[&[u8]]) -> Result<Job, LineError>
     ensures { (result ≡ job_of (Check mode) (contents fields.now)) ⊎ (result ≡ Err Memory) }
 {
     let Some(evidence) = read_evidence(fields) else {
-        return Err(Fault::Fields);
+        return Err(LineError::Fields);
     };
-    let key = bytes_at(alloc, fields, 2)?;
-    let context = bytes_at(alloc, fields, 3)?;
-    let message = bytes_at(alloc, fields, 4)?;
+    let keyed = read_keyed_message(alloc, fields)?;
     let signature = bytes_at(alloc, fields, 5)?;
     Ok(Job::Check {
         mode,
-        key,
-        context,
-        message,
+        key: keyed.key,
+        context: keyed.context,
+        message: keyed.message,
         signature,
         evidence,
     })
 }
 
-// The job of a line of these fields, by its command.
-fn read_job(alloc: Global, fields: &[&[u8]]) -> Result<Job, Fault>
-    ensures { let all = contents fields.now in
-        (result ≡ job_for (command_named (spec_field_at all 1)) all) ⊎ (result ≡ Err Memory) }
+/// The job of a line whose first field names a set, or the first thing that is wrong with it.
+pub(crate) fn read_job(alloc: Global, fields: &[&[u8]]) -> Result<Job, LineError>
+    ensures { (result ≡ job_at (contents fields.now)) ⊎ (result ≡ Err Memory) }
 {
     let Some(command) = Command::from_name(field_at(fields, 1)) else {
-        return Err(Fault::Command);
+        return Err(LineError::Command);
     };
     match command {
         Command::Keygen if fields.len() == 5 => read_keygen(alloc, fields),
@@ -206,17 +165,6 @@ fn read_job(alloc: Global, fields: &[&[u8]]) -> Result<Job, Fault>
         Command::Verify(mode) if fields.len() == 6 => read_verify(alloc, mode, fields),
         Command::Audit(mode) if fields.len() == 6 => read_audit(alloc, mode, fields),
         Command::Check(mode) => read_check(alloc, mode, fields),
-        _ => Err(Fault::Fields),
+        _ => Err(LineError::Fields),
     }
-}
-
-/// What a line of these fields asks for, or the first thing that is wrong with it.
-pub(crate) fn read_request(alloc: Global, fields: &[&[u8]]) -> Result<Request, Fault>
-    ensures { (result ≡ request_of (contents fields.now)) ⊎ (result ≡ Err Memory) }
-{
-    let Some(set) = Set::from_name(field_at(fields, 0)) else {
-        return Err(Fault::Set);
-    };
-    let job = read_job(alloc, fields)?;
-    Ok(Request { set, job })
 }

@@ -27,6 +27,11 @@ pub(crate) fn joined(alloc: Global, pieces: &[&[u8]]) -> Result<ByteString, Allo
     Ok(all)
 }
 
+// The bytes of hexadecimal digits.
+pub(crate) fn decoded(alloc: Global, digits: &[u8]) -> Result<ByteString, Fail> {
+    ByteString::from_slice(alloc, &hex::decode(alloc, digits)?).map_err(Fail::from)
+}
+
 // What `serve` writes where its source gives these pieces, and its status.
 fn served(alloc: Global, pieces: &[&[u8]]) -> Result<(u8, ByteString), AllocError> {
     let input = joined(alloc, pieces)?;

@@ -47,6 +47,24 @@ fn a_write_that_fails_ends_with_a_part_of_the_replies(rt: HostRuntime) -> Result
     Ok(())
 }
 
+// The first read has 4096 bytes: a line with seeds, and 1986 lines that name no set. Their replies are
+// the first write.
+#[test]
+fn where_the_second_write_fails_the_first_stands(rt: HostRuntime) -> Result<(), Fail> {
+    let alloc = rt.alloc();
+    let mut input = Vec::from_slice(alloc, KEYGEN)?;
+    for _ in 0..3000 {
+        input.extend_from_slice(b"x\n")?;
+    }
+    let mut source = MemSource::new(input, Vec::new(alloc));
+    let mut sink = MemSink::new(alloc, vec![in alloc; 1]?);
+    assert_eq!(rt; serve(alloc, &Words::new(alloc), &mut source, &mut sink), 4);
+    assert_eq!(rt; sink.bytes().len(), KEY_REPLY.len() + 1986 * 10);
+    assert!(rt; sink.bytes().starts_with(KEY_REPLY));
+    assert!(rt; sink.bytes().ends_with(b"error set\n"));
+    Ok(())
+}
+
 #[test]
 fn of_two_faults_the_first_is_answered(rt: HostRuntime) -> Result<(), Fail> {
     // The read comes first.

@@ -1,5 +1,5 @@
 //! Job lines and their replies, against values that the Rust crate gives, and against the line format
-//! as the README has it.
+//! as docs/LINES.md has it.
 use crate::ends::{KEY, KEY_REPLY, KEYGEN, PUBLIC, answers, hashes_to, signed};
 use std::test::Fail;
 

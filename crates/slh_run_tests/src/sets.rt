@@ -2,6 +2,7 @@
 //! those of the Rust crate `slh-dsa` 0.1.0.
 ghost use Rattle.std.specs.Prelude.{◌≤◌, ◌^◌};
 
+use crate::ends::decoded;
 use hmac_sha256::Hash;
 use slh_run::{Answer, ByteString, Job, Mode, Set, run};
 use std::alloc::Global;
@@ -18,10 +19,6 @@ struct Known {
     root: &'static [u8],
     signature_len: usize,
     signature_hash: &'static [u8],
-}
-
-fn decoded(alloc: Global, digits: &[u8]) -> Result<ByteString, Fail> {
-    ByteString::from_slice(alloc, &hex::decode(alloc, digits)?).map_err(Fail::from)
 }
 
 // The key of the three seeds.

@@ -1,17 +1,12 @@
 use Rattle.std.proofs.Common.{refl}
 use Rattle.std.proofs.lemmas.Result.{err_from_is_err_and}
 use Rattle.line_serve.proofs.Runs.{takes_after}
-use Rattle.slh_run.proofs.Reports.{front_taken, nothing_taken}
+use Rattle.slh_run.proofs.Reports.{front_taken}
 use Rattle.slh_run.proofs.bench.write_report.Goals as goal
-
-pub returns-in_err-signature-clause-bytes : goal.returns-in_err-signature-clause-bytes
-returns-in_err-signature-clause-bytes g c =
-    let p = err_from_is_err_and c.from_residual.result c.from_residual.ensures.1 in
-    rw p.1 (nothing_taken _ _)
 
 pub returns-in_err-write_head-clause-bytes : goal.returns-in_err-write_head-clause-bytes
 returns-in_err-write_head-clause-bytes g c =
-    let p = err_from_is_err_and c.from_residual-in_err-write_head.result c.from_residual-in_err-write_head.ensures.1 in
+    let p = err_from_is_err_and c.from_residual.result c.from_residual.ensures.1 in
     rw p.1 (front_taken _ _ _ _ c.in_err-write_head.ensures.bytes)
 
 pub returns-clause-bytes : goal.returns-clause-bytes

@@ -1,0 +1,10 @@
+//! Standard input, output and words for programs of lines.
+#![tactic(auto)]
+
+mod stdio;
+#[cfg(test)]
+mod stdio_tests;
+mod words;
+
+pub use stdio::{StdSink, StdSource};
+pub use words::words_of;

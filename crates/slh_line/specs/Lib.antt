@@ -1,0 +1,4 @@
+pub mod LineErrors
+pub mod Readings
+pub mod Replies
+pub mod Sets

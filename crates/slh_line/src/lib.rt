@@ -1,0 +1,15 @@
+//! The grammar of lines `SET command fields..`.
+#![tactic(auto)]
+
+mod fields;
+mod line_error;
+mod replier;
+mod set;
+
+pub use fields::{
+    all_bytes_at, as_bytes, bytes_at, checked_randomizer, field_bytes, randomizer_at, signing_key,
+    verifying_key,
+};
+pub use line_error::LineError;
+pub use replier::{Commands, Lines};
+pub use set::{OnSet, Set};
