@@ -1,0 +1,131 @@
+//! Batches of messages under one signature.
+ghost use Rattle.std.specs.Prelude.{◌≡◌, ◌++◌, ◌∷◌, [], length, IfErr, IfOk, OnErr, OnOk};
+ghost use Rattle.std.specs.Option.{option_copied, ForSome};
+ghost use Rattle.slh_trees.specs.Frame.{frame};
+ghost use Rattle.slh_trees.specs.Signing.{signature_of};
+ghost use Rattle.slh_trees.specs.Sizes.{RefusedExactly};
+ghost use Rattle.slh_batch.specs.Calls.{RefusedOrNoMemory, push_refusal, randomizer_refusal};
+ghost use Rattle.slh_batch.specs.Calls.{seal_refusal};
+ghost use Rattle.slh_batch.specs.Receipts.{batch_context, batch_message};
+ghost use Rattle.slh_batch.specs.Tree.{batch_leaf};
+ghost use Rattle.slh_batch.specs.declared.error.BatchError.TheVariants.{Memory};
+
+use crate::checking::{CONTEXT, ROOT_MESSAGE_LEN, root_message};
+use crate::error::BatchError;
+use crate::hashing::{DIGEST_LEN, leaf_digest};
+use crate::levels::Levels;
+use crate::sealed::Sealed;
+use crate::sides::MAX_MESSAGES;
+use hybrid_array::ArraySize;
+use slh_dsa::{ParameterSet, Signature, SigningKey};
+use slh_trees::sizes::MAX_MESSAGE;
+use std::alloc::Global;
+use std::marker::Model;
+
+/// Messages that are to be signed together, at most [`MAX_MESSAGES`]. Clauses see it as the list of
+/// their digests.
+#[derive(Drop)]
+pub struct Batch {
+    leaves: Vec<[u8; DIGEST_LEN]>,
+}
+
+impl Model for Batch {
+    ghost use Rattle.std.specs.Prelude.{List, ℕ, ◌^◌, ◌≤◌, length};
+
+    ghost Value = { List (List ℕ) };
+
+    ghost view = { λ b. b.leaves.items };
+
+    ghost invariant = { λ b. length b.leaves.items ≤ 2 ^ 20 };
+}
+
+impl Batch {
+    /// A batch of no messages. Takes no memory before a message is added.
+    pub fn new(alloc: Global) -> Self
+        ensures { result ≡ [] }
+    {
+        Batch {
+            leaves: Vec::new(alloc),
+        }
+    }
+
+    /// Adds a message, which is hashed once and not kept. `Message`; `Full`; `Memory`. After a
+    /// refusal the batch is as it was.
+    pub fn push(&mut self, msg: &[u8]) -> Result<(), BatchError>
+        ensures refusal { RefusedOrNoMemory result (push_refusal self.old msg.now) }
+        ensures value { OnOk result (self.new ≡ self.old ++ batch_leaf msg.now ∷ []) }
+        ensures same { OnErr result (self.new ≡ self.old) }
+    {
+        if msg.len() > MAX_MESSAGE {
+            return Err(BatchError::Message);
+        }
+        if self.leaves.len() >= MAX_MESSAGES as usize {
+            return Err(BatchError::Full);
+        }
+        match self.leaves.push(leaf_digest(msg)) {
+            Ok(()) => Ok(()),
+            Err(_) => Err(BatchError::Memory),
+        }
+    }
+
+    /// Signs the number and the root of the messages. Each node is hashed once. Where no `opt_rand`
+    /// is given the public seed stands for it. `Empty`; `Randomizer`; `Memory`.
+    pub fn seal<P: ParameterSet>(
+        self,
+        alloc: Global,
+        key: &SigningKey<P>,
+        opt_rand: Option<&[u8]>,
+    ) -> Result<Sealed<P>, BatchError>
+        ensures refusal { let opt_rand = option_copied opt_rand.entry in
+            RefusedOrNoMemory result (seal_refusal P.scheme self opt_rand) }
+        ensures leaves { IfOk result (λ sealed. sealed.leaves ≡ self) }
+        ensures signature { let opt_rand = option_copied opt_rand.entry in
+            let message = frame batch_context (batch_message self) in
+            IfOk result (λ sealed. sealed.signature
+            ≡ signature_of P.scheme key.now opt_rand message) }
+    {
+        let leaves = self.leaves;
+        if leaves.is_empty() {
+            return Err(BatchError::Empty);
+        }
+        check_opt_rand::<P>(opt_rand)?;
+        let levels = Levels::over(leaves)?;
+        let message = root_message(levels.len(), levels.root());
+        let signature = sign_root(alloc, key, &message, opt_rand)?;
+        Ok(Sealed { levels, signature })
+    }
+}
+
+// `Randomizer` for an `opt_rand` that is given and doesn't have n bytes.
+fn check_opt_rand<P: ParameterSet>(opt_rand: Option<&[u8]>) -> Result<(), BatchError>
+    ensures refusal { let opt_rand = option_copied opt_rand.entry in
+        RefusedExactly result (randomizer_refusal P.scheme opt_rand) }
+    ensures fits { OnOk result
+        (ForSome (option_copied opt_rand.entry) (λ bytes. length bytes ≡ P.N.USIZE)) }
+{
+    if let Some(bytes) = opt_rand
+        && bytes.len() != P::N::USIZE
+    {
+        return Err(BatchError::Randomizer);
+    }
+    Ok(())
+}
+
+// The signature of a batch's root. `Memory`.
+fn sign_root<P: ParameterSet>(
+    alloc: Global,
+    key: &SigningKey<P>,
+    message: &[u8; ROOT_MESSAGE_LEN],
+    opt_rand: Option<&[u8]>,
+) -> Result<Signature<P>, BatchError>
+    requires { ForSome (option_copied opt_rand) (λ bytes. length bytes ≡ P.N.USIZE) }
+    ensures memory { IfErr result (λ e. e ≡ Memory) }
+    ensures value { let opt_rand = option_copied opt_rand.entry in
+        IfOk result (λ signature. signature
+        ≡ signature_of P.scheme key.now opt_rand (frame batch_context message.now)) }
+{
+    match key.try_sign_with_context(alloc, message, CONTEXT, opt_rand) {
+        Ok(signature) => Ok(signature),
+        Err(_) => Err(BatchError::Memory),
+    }
+}

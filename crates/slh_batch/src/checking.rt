@@ -1,0 +1,77 @@
+//! Checking receipts.
+ghost use Rattle.std.specs.Prelude.{◌≡◌, ◌≤◌, ◌++◌, length, if◌then◌else◌, None, Some};
+ghost use Rattle.slh_core.specs.Bytes.{big_endian};
+ghost use Rattle.slh_core.specs.Steps.{IsFresh};
+ghost use Rattle.slh_dsa.specs.Calls.{is_valid};
+ghost use Rattle.slh_dsa.specs.declared.frame.Mode.TheVariants.{Pure};
+ghost use Rattle.slh_trees.specs.Checking.{signature_size};
+ghost use Rattle.slh_trees.specs.Sizes.{RefusedExactly};
+ghost use Rattle.slh_batch.specs.Calls.{accept_error};
+ghost use Rattle.slh_batch.specs.Receipts.{batch_context, root_message};
+ghost use Rattle.slh_batch.specs.declared.error.ReceiptError.TheVariants.{Invalid};
+
+use crate::climb::climb;
+use crate::error::ReceiptError;
+use crate::hashing::{DIGEST_LEN, leaf_digest};
+use crate::parts::parts_of;
+use slh_core::steps::Steps;
+use slh_dsa::{ParameterSet, VerifyingKey};
+use slh_trees::sizes::MAX_MESSAGE;
+use std::marker::Brand;
+use std::sync::ledger::{Blank, Ledger};
+
+/// The context under which the root of a batch is signed.
+pub(crate) const CONTEXT: &[u8] = b"slh-batch";
+
+/// How many bytes are signed for a batch.
+pub(crate) const ROOT_MESSAGE_LEN: usize = 4 + DIGEST_LEN;
+
+/// What is signed for a root over `count` digests.
+pub(crate) fn root_message(count: u32, root: &[u8; DIGEST_LEN]) -> [u8; ROOT_MESSAGE_LEN]
+    ensures { result ≡ root_message count root.now }
+{
+    let mut message = [0u8; ROOT_MESSAGE_LEN];
+    message[..4].copy_from_slice(&count.to_be_bytes());
+    message[4..].copy_from_slice(root);
+    message
+}
+
+// Whether a signature of a batch's root is the key's, on a counter that is made here. `Invalid`.
+fn verify_root<P: ParameterSet, L: Ledger>(
+    vk: &VerifyingKey<P>,
+    message: &[u8; ROOT_MESSAGE_LEN],
+    sig: &[u8],
+    blank: Blank,
+) -> Result<(), ReceiptError>
+    requires sig { length sig.now ≡ signature_size P.scheme }
+    requires fresh { IsFresh blank L.name L.parts }
+    ensures { RefusedExactly result
+        (if is_valid P.scheme Pure vk.now batch_context message.now sig.now then None
+        else Some Invalid) }
+{
+    let mut steps = Steps::<L>::new(blank);
+    match vk.slh_verify_counted(message, CONTEXT, sig, &mut steps) {
+        Ok(()) => Ok(()),
+        Err(_) => Err(ReceiptError::Invalid),
+    }
+}
+
+/// Checks the receipt of a message under the key of its batch. `Form`; `Message`; `Invalid`: the
+/// signature isn't one of the number and the root that the receipt leads to. Takes no memory.
+pub fn accept<P: ParameterSet>(
+    vk: &VerifyingKey<P>,
+    msg: &[u8],
+    receipt: &[u8],
+) -> Result<(), ReceiptError>
+    ensures { RefusedExactly result (accept_error P.scheme vk.now msg.now receipt.now) }
+{
+    let Some(parts) = parts_of::<P>(receipt) else {
+        return Err(ReceiptError::Form);
+    };
+    if msg.len() > MAX_MESSAGE {
+        return Err(ReceiptError::Message);
+    }
+    let root = climb(&leaf_digest(msg), &parts.sides, parts.path);
+    let message = root_message(parts.count, &root);
+    verify_root::<P, Brand>(vk, &message, parts.sig, Blank::new(1))
+}

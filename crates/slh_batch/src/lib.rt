@@ -1,0 +1,64 @@
+//! Batches: one signature for many messages, and for each message a receipt that is verified alone.
+//!
+//! The SHA-256 digests of the messages are the leaves of a binary tree, in their order. A leaf is
+//! the digest of the byte 0 and the message, and a node the digest of the byte 1 and the two
+//! digests below it. Of several leaves, the left half has as many as the largest power of two below
+//! their number. The number of messages, in 4 bytes, and the tree's root are signed under the
+//! context `slh-batch`. A receipt is the message's index and the number of messages, 4 bytes each
+//! with the highest first, the siblings on the way from the leaf to the root, 32 bytes each, and
+//! the signature.
+//!
+//! The receipt of one of several messages, and what a verifying key says of it. The test
+//! `example_of_the_page_of_batches` of `slh_batch_tests` runs this:
+//!
+//! ```
+//! use slh_batch::{Batch, BatchError, ReceiptError, accept};
+//! use slh_dsa::{Sha2_128f, SigningKey, VerifyingKey};
+//! use std::alloc::Global;
+//!
+//! fn receipt_of_second(
+//!     alloc: Global,
+//!     key: &SigningKey<Sha2_128f>,
+//!     messages: &[&[u8]],
+//! ) -> Result<Vec<u8>, BatchError> {
+//!     let mut batch = Batch::new(alloc);
+//!     for message in messages {
+//!         batch.push(message)?;
+//!     }
+//!     let sealed = batch.seal(alloc, key, None)?;
+//!     sealed.receipt(alloc, 1)
+//! }
+//!
+//! fn accepted(
+//!     key: &VerifyingKey<Sha2_128f>,
+//!     message: &[u8],
+//!     receipt: &[u8],
+//! ) -> Result<(), ReceiptError> {
+//!     accept(key, message, receipt)
+//! }
+//! ```
+//!
+//! A batch keeps at most 64 bytes a message and a part that doesn't grow. [`accept`] and [`clash`]
+//! take no memory. Each refusal comes for the cause that its variant names, the first in the order
+//! of the variants. Who has receipts with one index, one number and one root for two messages has
+//! two inputs with one SHA-256 digest: [`clash`] says where.
+#![tactic(auto)]
+
+mod batch;
+mod checking;
+mod clashing;
+mod climb;
+mod error;
+mod hashing;
+pub mod laws;
+mod levels;
+mod parts;
+mod sealed;
+mod sides;
+
+pub use batch::Batch;
+pub use checking::accept;
+pub use clashing::clash;
+pub use error::{BatchError, ReceiptError};
+pub use sealed::Sealed;
+pub use sides::MAX_MESSAGES;

@@ -1,0 +1,64 @@
+//! The parts of a receipt.
+ghost use Rattle.std.specs.Prelude.{◌≡◌, ◌+◌, ◌*◌, ◌≤◌, length, take, drop};
+ghost use Rattle.std.specs.Prelude.{IsTrue, IfSome, is_some};
+ghost use Rattle.slh_core.specs.Bytes.{number_of};
+ghost use Rattle.slh_batch.specs.Parts.{ArePartsOf};
+ghost use Rattle.slh_batch.specs.Receipts.{has_right_form};
+
+use crate::hashing::DIGEST_LEN;
+use crate::sides::{MAX_MESSAGES, Sides, sides_of};
+use hybrid_array::ArraySize;
+use slh_dsa::ParameterSet;
+
+/// How many bytes stand before the path.
+pub(crate) const NUMBERS_LEN: usize = 8;
+
+/// What a receipt of right form has.
+#[derive(Drop)]
+pub(crate) struct Parts<'a> {
+    pub(crate) index: u32,
+    pub(crate) count: u32,
+    pub(crate) sides: Sides,
+    pub(crate) path: &'a [u8],
+    pub(crate) sig: &'a [u8],
+}
+
+// The number of the four bytes at a place.
+fn number_at(bytes: &[u8], at: usize) -> u32
+    requires { at + 4 ≤ length bytes.now }
+    ensures { result ≡ number_of (take 4 (drop at bytes.now)) }
+{
+    u32::from_be_bytes([bytes[at], bytes[at + 1], bytes[at + 2], bytes[at + 3]])
+}
+
+/// The parts of a receipt, `None` where its form isn't right.
+pub(crate) fn parts_of<P: ParameterSet>(receipt: &[u8]) -> Option<Parts<'_>>
+    ensures form { is_some result ≡ has_right_form P.scheme receipt.now }
+    ensures parts { IfSome result (λ parts. ArePartsOf P.scheme receipt.now parts) }
+{
+    if receipt.len() < NUMBERS_LEN {
+        return None;
+    }
+    let index = number_at(receipt, 0);
+    let count = number_at(receipt, 4);
+    if count > MAX_MESSAGES || index >= count {
+        return None;
+    }
+    let sides = sides_of(index, count);
+    let path_len = DIGEST_LEN * sides.len();
+    let rest = &receipt[NUMBERS_LEN..];
+    if rest.len() < path_len {
+        return None;
+    }
+    let (path, sig) = rest.split_at(path_len);
+    if sig.len() != P::SigLen::USIZE {
+        return None;
+    }
+    Some(Parts {
+        index,
+        count,
+        sides,
+        path,
+        sig,
+    })
+}

@@ -1,0 +1,62 @@
+//! Signed batches, and the receipts of their messages.
+ghost use Rattle.std.specs.Prelude.{◌≡◌, ◌<◌, length, IfOk};
+ghost use Rattle.slh_batch.specs.Calls.{RefusedOrNoMemory, index_refusal};
+ghost use Rattle.slh_batch.specs.Receipts.{receipt_of};
+
+use crate::error::BatchError;
+use crate::hashing::DIGEST_LEN;
+use crate::levels::Levels;
+use crate::parts::NUMBERS_LEN;
+use crate::sides::sides_of;
+use slh_dsa::{ParameterSet, Signature};
+use std::alloc::{AllocError, Global};
+use std::marker::Model;
+
+/// A signed batch. Clauses see it as the list of its messages' digests and the signature.
+#[derive(Drop)]
+pub struct Sealed<P: ParameterSet> {
+    pub(crate) levels: Levels,
+    pub(crate) signature: Signature<P>,
+}
+
+impl<P: ParameterSet> Model for Sealed<P> {
+    ghost use Rattle.slh_batch.specs.Sealing.{SealedBatch};
+
+    ghost Value = { SealedBatch };
+
+    ghost view = { λ s. record { leaves = s.levels; signature = s.signature } };
+}
+
+// The receipt of leaf `i` with a signature.
+fn write_receipt(
+    alloc: Global,
+    levels: &Levels,
+    signature: &[u8],
+    i: u32,
+) -> Result<Vec<u8>, AllocError>
+    requires { i < length levels.now }
+    ensures { IfOk result (λ receipt. receipt.items ≡ receipt_of levels.now signature.now i) }
+{
+    let path_len = DIGEST_LEN * sides_of(i, levels.len()).len();
+    let mut out = Vec::with_capacity(alloc, NUMBERS_LEN + path_len + signature.len())?;
+    out.extend_from_slice(&i.to_be_bytes())?;
+    out.extend_from_slice(&levels.len().to_be_bytes())?;
+    levels.push_path(&mut out, i)?;
+    out.extend_from_slice(signature)?;
+    Ok(out)
+}
+
+impl<P: ParameterSet> Sealed<P> {
+    /// The receipt of message `i`, counted from 0: 8 bytes, at most 20 digests of 32 bytes, and the
+    /// signature. Hashes nothing. `Index`; `Memory`.
+    pub fn receipt(&self, alloc: Global, i: u32) -> Result<Vec<u8>, BatchError>
+        ensures refusal { RefusedOrNoMemory result (index_refusal self.now.leaves i) }
+        ensures value { IfOk result (λ receipt. receipt.items
+            ≡ receipt_of self.now.leaves self.now.signature i) }
+    {
+        if i >= self.levels.len() {
+            return Err(BatchError::Index);
+        }
+        Ok(write_receipt(alloc, &self.levels, self.signature.as_slice(), i)?)
+    }
+}

@@ -1,0 +1,135 @@
+//! `SET seal KEY RAND MSG ..` gives a receipt for each message.
+ghost use Rattle.std.specs.Prelude.{◌≡◌, ◌⊎◌, ◌<◌, ◌≤◌, [], length, map, slice_index_or};
+ghost use Rattle.std.specs.Prelude.{true, false, Ok, Err, IfOk};
+ghost use Rattle.std.specs.List.{list_any};
+ghost use Rattle.std.specs.Option.{option_copied};
+ghost use Rattle.line_serve.specs.Fields.{contents};
+ghost use Rattle.slh_batch.specs.Tree.{batch_leaf};
+ghost use Rattle.slh_batch.specs.declared.error.BatchError.TheVariants.{Message};
+ghost use Rattle.slh_batch_cli.specs.Replies.{is_long, receipt_lines, seal_answer};
+ghost use Rattle.slh_batch_cli.specs.Replies.{seal_request as spec_seal_request};
+ghost use Rattle.slh_batch_cli.specs.Replies.{seal_text as spec_seal_text};
+ghost use Rattle.slh_line.specs.Readings.{all_bytes_at as spec_all_bytes_at};
+ghost use Rattle.slh_line.specs.declared.line_error.LineError.TheVariants.{Memory};
+
+use line_serve::{ByteString, Words, push_hex_line};
+use slh_batch::{Batch, BatchError, Sealed};
+use slh_dsa::{ParameterSet, SigningKey};
+use slh_line::{
+    LineError, all_bytes_at, as_bytes, bytes_at, checked_randomizer, randomizer_at, signing_key,
+};
+use std::alloc::Global;
+
+// A line has a set, the command, a key, a randomizer, and 1 to 64 messages.
+const FIRST_MESSAGE: usize = 4;
+
+const MAX_FIELDS: usize = FIRST_MESSAGE + 64;
+
+// The messages of a line that has few enough fields.
+fn messages_of(alloc: Global, fields: &[&[u8]]) -> Result<Words, LineError>
+    requires few { length fields.now ≤ MAX_FIELDS }
+    ensures value { (result ≡ spec_all_bytes_at (contents fields.now) 4) ⊎ (result ≡ Err Memory) }
+    ensures few { IfOk result (λ messages. length messages ≤ 64) }
+{
+    all_bytes_at(alloc, fields, FIRST_MESSAGE)
+}
+
+// The message at an index.
+fn message_at(messages: &Words, i: usize) -> &[u8]
+    requires { i < length messages.now }
+    ensures { result.now ≡ slice_index_or messages.now i [] }
+{
+    match messages.get(i) {
+        Some(message) => message,
+        None => &[],
+    }
+}
+
+// The batch of these messages. `Message`: one of them is too long.
+fn batch_of(alloc: Global, messages: &Words) -> Result<Batch, BatchError>
+    ensures value { IfOk result (λ batch. batch ≡ map batch_leaf messages.now) }
+    ensures fits { IfOk result (λ _. list_any is_long messages.now ≡ false) }
+    ensures long { result ≡ Err Message → list_any is_long messages.now ≡ true }
+{
+    let mut batch = Batch::new(alloc);
+    'each_message: for i in 0..messages.len() {
+        batch.push(message_at(messages, i))?;
+    }
+    Ok(batch)
+}
+
+// A line for each of the first receipts, so many.
+fn lines_of<P: ParameterSet>(
+    alloc: Global,
+    sealed: &Sealed<P>,
+    count: u32,
+) -> Result<ByteString, LineError>
+    ensures { (result ≡ Ok (receipt_lines sealed.now.leaves sealed.now.signature count))
+        ⊎ (result ≡ Err Memory) }
+{
+    let mut text = ByteString::new(alloc);
+    'each_message: for i in 0..count {
+        match sealed.receipt(alloc, i) {
+            Ok(receipt) => push_hex_line(&mut text, b"receipt ", &receipt)?,
+            Err(_) => return Err(LineError::Memory),
+        }
+    }
+    Ok(text)
+}
+
+// The lines for a batch of these messages, of which there are few enough.
+fn seal_text<P: ParameterSet>(
+    alloc: Global,
+    key: &SigningKey<P>,
+    opt_rand: Option<&[u8]>,
+    messages: &Words,
+) -> Result<ByteString, LineError>
+    requires few { length messages.now ≤ 64 }
+    ensures { let opt_rand = option_copied opt_rand.entry in
+        (result ≡ Ok (spec_seal_text P.scheme key.now opt_rand messages.now))
+        ⊎ (result ≡ Err Memory) }
+{
+    let batch = match batch_of(alloc, messages) {
+        Ok(batch) => batch,
+        Err(BatchError::Message) => {
+            return Ok(ByteString::from_slice(alloc, b"error message\n")?);
+        }
+        Err(_) => return Err(LineError::Memory),
+    };
+    match batch.seal(alloc, key, opt_rand) {
+        Ok(sealed) => lines_of(alloc, &sealed, messages.len() as u32),
+        Err(_) => Err(LineError::Memory),
+    }
+}
+
+// The reply to a key, a randomizer and messages.
+fn seal_request<P: ParameterSet>(
+    alloc: Global,
+    key: &[u8],
+    opt_rand: Option<ByteString>,
+    messages: &Words,
+) -> Result<ByteString, LineError>
+    requires few { length messages.now ≤ 64 }
+    ensures { (result ≡ spec_seal_request P.scheme key.now opt_rand messages.now)
+        ⊎ (result ≡ Err Memory) }
+{
+    let key = signing_key::<P>(key)?;
+    let opt_rand = checked_randomizer::<P>(opt_rand)?;
+    seal_text(alloc, &key, as_bytes(&opt_rand), messages)
+}
+
+/// The reply to a `seal` line.
+pub(crate) fn seal_line<P: ParameterSet>(
+    alloc: Global,
+    fields: &[&[u8]],
+) -> Result<ByteString, LineError>
+    ensures { (result ≡ seal_answer P.scheme (contents fields.now)) ⊎ (result ≡ Err Memory) }
+{
+    if fields.len() <= FIRST_MESSAGE || fields.len() > MAX_FIELDS {
+        return Err(LineError::Fields);
+    }
+    let key = bytes_at(alloc, fields, 2)?;
+    let opt_rand = randomizer_at(alloc, fields, 3)?;
+    let messages = messages_of(alloc, fields)?;
+    seal_request::<P>(alloc, key.as_slice(), opt_rand, &messages)
+}
