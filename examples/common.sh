@@ -1,4 +1,4 @@
-# What the recipes share: the program, the commands of bin/, a folder to work in that is removed
+# What the recipes share: the programs, the commands of bin/, a folder to work in that is removed
 # in the end, and `expect`.
 set -eu
 examples=$(cd "$(dirname "$0")" && pwd)
@@ -6,7 +6,15 @@ case ${SLH_PROGRAM:=$examples/../slh_cli} in
 /*) ;;
 *) SLH_PROGRAM=$PWD/$SLH_PROGRAM ;;
 esac
-export SLH_PROGRAM
+case ${SLH_BATCH_PROGRAM:=$examples/../slh_batch_cli} in
+/*) ;;
+*) SLH_BATCH_PROGRAM=$PWD/$SLH_BATCH_PROGRAM ;;
+esac
+case ${SLH_CHAIN_PROGRAM:=$examples/../slh_chain_cli} in
+/*) ;;
+*) SLH_CHAIN_PROGRAM=$PWD/$SLH_CHAIN_PROGRAM ;;
+esac
+export SLH_PROGRAM SLH_BATCH_PROGRAM SLH_CHAIN_PROGRAM
 PATH=$examples/bin:$PATH
 
 work=$(mktemp -d)
