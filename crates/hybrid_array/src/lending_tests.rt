@@ -124,6 +124,16 @@ fn set_in_view(slice: &mut [u8])
     });
 }
 
+// All items of a view, by the slice that it lends.
+fn set_by_slice(slice: &mut [u8])
+    requires { length slice.old ≡ 4 }
+    ensures { slice.new ≡ slice_set (slice_set slice.old 1 7) 2 8 }
+{
+    let mut view = ArrayMut::<u8, U4>::of(slice);
+    view.set(1, 7);
+    view.as_mut_slice()[2] = 8;
+}
+
 // The view's own reference, after a write by the view.
 fn set_and_write(slice: &mut [u8])
     requires { length slice.old ≡ 4 }
@@ -200,6 +210,13 @@ fn items_of_a_view_and_of_a_core_array(rt: HostRuntime) {
     set_in_view(&mut items);
     set_core(&mut items);
     assert!(rt; items == [4, 7, 8, 7]);
+}
+
+#[test]
+fn items_of_a_view_by_its_slice(rt: HostRuntime) {
+    let mut items = [1u8, 2, 3, 4];
+    set_by_slice(&mut items);
+    assert!(rt; items == [1, 7, 8, 4]);
 }
 
 #[test]

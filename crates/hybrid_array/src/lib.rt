@@ -25,9 +25,10 @@
 //! The test `the_example_of_the_page` runs these lines.
 //!
 //! Through a view that a call answers in an `Option`, a `Result` or a pair, as
-//! `ArrayMut::try_from` does, a caller writes into the slice, but its contract can't say what the
-//! slice holds then. Where it has to, it takes plain references from `whole_mut`, `halves_mut` and
-//! their kin, and makes its views of them, as above.
+//! `ArrayMut::try_from` does, a caller writes into the slice. A clause of the call says what the
+//! slice ends as, but a caller's own proof doesn't read it. Where its contract says what the slice
+//! holds, it takes plain references from `whole_mut`, `halves_mut` and their kin, and makes its
+//! views of them, as above.
 #![tactic(auto)]
 
 mod array;

@@ -1,7 +1,9 @@
 //! Views of slices, by functions that name neither array nor view.
 
 ghost use Rattle.std.specs.Prelude.{◌≡◌, ◌↔◌, ◌<◌, length, take, drop, IsSome, IfSome};
+ghost use Rattle.std.specs.Borrow.{sem, name_if_some};
 ghost use Rattle.hybrid_array.specs.Chunks.{whole_count};
+ghost use Rattle.hybrid_array.specs.Lending.{LendsAllIf, LendsParts};
 
 use crate::{Array, ArrayMut, ArrayRef, ArraySize, Chunks, ChunksMut};
 
@@ -24,6 +26,8 @@ impl SliceExt {
     /// `whole_mut` lends.
     #[inline]
     pub fn as_mut_hybrid_array<T, U: ArraySize>(slice: &mut [T]) -> Option<ArrayMut<'_, T, U>>
+        ensures* writes_back { sem 𝓛 (LendsAllIf T.row slice.entry
+            (name_if_some (λ view. view.items.ghost_name) result)) }
         ensures some { IsSome result ↔ (length slice.old ≡ U.USIZE) }
         ensures same_reference { IfSome result (λ view.
             view.items.ghost_name ≡ slice.entry.ghost_name) }
@@ -51,6 +55,8 @@ impl SliceExt {
     #[inline]
     pub fn as_hybrid_chunks_mut<T, U: ArraySize>(slice: &mut [T]) -> (ChunksMut<'_, T, U>, &mut [T])
         requires { 0 < U.USIZE }
+        ensures* writes_back { sem 𝓛 (LendsParts T.row slice.entry
+            result.0.items.ghost_name result.1.ghost_name) }
         ensures chunks { result.0.items.now
             ≡ take (whole_count U.USIZE (length slice.old)) slice.old }
         ensures rest { result.1.now ≡ drop (whole_count U.USIZE (length slice.old)) slice.old }

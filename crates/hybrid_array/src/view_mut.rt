@@ -1,14 +1,30 @@
 //! A borrowed slice whose length a type gives, for writing.
 
 ghost use Rattle.std.specs.Prelude.{◌≡◌, ◌↔◌, ◌+◌, ◌<◌, [], ◌∷◌, length, take, drop, IsOk, IfOk, IsSome, IfSome, slice_set, slice_index_or};
-ghost use Rattle.std.specs.Borrow.{sem, follows, Array as Slots};
+ghost use Rattle.std.specs.Borrow.{sem, follows, name_if_ok, name_if_some, Array as Slots};
+ghost use Rattle.hybrid_array.specs.Lending.{LendsAllIf};
 ghost use Rattle.std.specs.Fn.{FnOnceReturnsAtMut};
+ghost use Rattle.std.specs.Result.{result_ok};
 ghost use Rattle.std.specs.Mem.{FitsInMemory};
 
 use crate::lending::halves_mut;
 use crate::sizes::U1;
 use crate::{Array, ArraySize, Size, TryFromSliceError};
-use std::marker::PhantomData;
+use std::marker::{Model, PhantomData};
+
+// The length that a type gives.
+#[derive(Drop)]
+struct Length<U: ArraySize> {
+    size: PhantomData<U>,
+}
+
+impl<U: ArraySize> Model for Length<U> {
+    ghost use Rattle.std.specs.Prelude.{ℕ};
+
+    ghost Value = { ℕ };
+
+    ghost view = { λ _. U.USIZE };
+}
 
 /// A borrowed slice of exactly `U::USIZE` items, for writing.
 ///
@@ -18,11 +34,13 @@ use std::marker::PhantomData;
 #[derive(Drop)]
 pub struct ArrayMut<'a, T, U: ArraySize> {
     pub items: &'a mut [T],
-    size: PhantomData<U>,
+    size: Length<U>,
     ghost sized: { length items.now ≡ U.USIZE },
 }
 
 impl<'a, T, U: ArraySize> ArrayMut<'a, T, U> {
+    ghost use Rattle.hybrid_array.specs.Viewed.{LendsView};
+
     /// The view of a slice of this length.
     ///
     /// Its caller knows what the slice holds once the view is gone.
@@ -34,7 +52,7 @@ impl<'a, T, U: ArraySize> ArrayMut<'a, T, U> {
     {
         ArrayMut {
             items: slice,
-            size: PhantomData,
+            size: Length { size: PhantomData },
         }
     }
 
@@ -44,6 +62,8 @@ impl<'a, T, U: ArraySize> ArrayMut<'a, T, U> {
     /// `whole_mut` lends.
     #[inline]
     pub fn try_from(slice: &'a mut [T]) -> Result<Self, TryFromSliceError>
+        ensures* writes_back { sem 𝓛 (LendsAllIf T.row slice.entry
+            (name_if_ok (λ view. view.items.ghost_name) result)) }
         ensures ok { IsOk result ↔ (length slice.old ≡ U.USIZE) }
         ensures same_reference { IfOk result (λ view.
             view.items.ghost_name ≡ slice.entry.ghost_name) }
@@ -64,10 +84,18 @@ impl<'a, T, U: ArraySize> ArrayMut<'a, T, U> {
         self.items
     }
 
+    /// The items, for writing.
+    #[inline]
+    pub fn as_mut_slice(&mut self) -> &mut [T]
+        ensures* writes_back { sem 𝓛 (LendsView T.row U.row U.ArraySize self.entry
+            result.ghost_name) }
+        ensures value { result.now ≡ self.old.items.now }
+        ensures len { length result.now ≡ U.USIZE }
+    {
+        &mut *self.items
+    }
+
     /// Has a closure write the items.
-    ///
-    /// It stands in place of a call that lends them: contracts can't follow a slice that is lent
-    /// through a view, since its length is a fact of the view.
     #[inline]
     pub fn with_mut_slice<F: FnOnce(&mut [T])>(&mut self, f: F)
         requires { F.IsAlwaysCallable f }
@@ -114,8 +142,33 @@ impl<'a, T, U: ArraySize> ArrayMut<'a, T, U> {
     }
 }
 
+// The view, if there is one.
+#[inline]
+fn view_if_ok<'a, T, U: ArraySize>(
+    view: Result<ArrayMut<'a, T, U>, TryFromSliceError>,
+) -> Option<ArrayMut<'a, T, U>>
+    ensures { result ≡ result_ok view.entry }
+{
+    view.ok()
+}
+
+// Views of the two parts.
+#[inline]
+fn views_of_parts<'a, T, N: ArraySize, R: ArraySize>(
+    parts: (&'a mut [T], &'a mut [T]),
+) -> (ArrayMut<'a, T, N>, ArrayMut<'a, T, R>)
+    requires first_len { length parts.0.now ≡ N.USIZE }
+    requires rest_len { length parts.1.now ≡ R.USIZE }
+    ensures first_reference { result.0.items.ghost_name ≡ parts.entry.0.ghost_name }
+    ensures first { result.0.items.now ≡ parts.entry.0.now }
+    ensures rest_reference { result.1.items.ghost_name ≡ parts.entry.1.ghost_name }
+    ensures rest { result.1.items.now ≡ parts.entry.1.now }
+{
+    (ArrayMut::of(parts.0), ArrayMut::of(parts.1))
+}
+
 impl<T, U: ArraySize> Array<T, U> {
-    ghost use Rattle.hybrid_array.specs.Lending.{LendsTo};
+    ghost use Rattle.hybrid_array.specs.Lending.{LendsTo, LendsHalves};
 
     /// A view of all items, for writing.
     ///
@@ -139,11 +192,12 @@ impl<T, U: ArraySize> Array<T, U> {
         &mut self,
     ) -> (ArrayMut<'_, T, N>, ArrayMut<'_, T, R>)
         requires { N.USIZE + R.USIZE ≡ U.USIZE }
+        ensures* writes_back { sem 𝓛 (LendsHalves T.row U.row U.ArraySize self.entry
+            result.0.items.ghost_name result.1.items.ghost_name) }
         ensures first { result.0.items.now ≡ take N.USIZE self.old }
         ensures rest { result.1.items.now ≡ drop N.USIZE self.old }
     {
-        let (first, rest) = halves_mut::<T, N, R>(self.as_mut_slice());
-        (ArrayMut::of(first), ArrayMut::of(rest))
+        views_of_parts(halves_mut::<T, N, R>(self.as_mut_slice()))
     }
 
     /// A view of all of `slice`, for writing.
@@ -152,12 +206,14 @@ impl<T, U: ArraySize> Array<T, U> {
     /// `whole_mut` lends.
     #[inline]
     pub fn slice_as_mut_array(slice: &mut [T]) -> Option<ArrayMut<'_, T, U>>
+        ensures* writes_back { sem 𝓛 (LendsAllIf T.row slice.entry
+            (name_if_some (λ view. view.items.ghost_name) result)) }
         ensures some { IsSome result ↔ (length slice.old ≡ U.USIZE) }
         ensures same_reference { IfSome result (λ view.
             view.items.ghost_name ≡ slice.entry.ghost_name) }
         ensures value { IfSome result (λ view. view.items.now ≡ slice.old) }
     {
-        ArrayMut::try_from(slice).ok()
+        view_if_ok(ArrayMut::try_from(slice))
     }
 }
 

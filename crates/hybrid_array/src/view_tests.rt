@@ -261,17 +261,24 @@ fn writes_two_items(view: &mut ArrayMut<'_, u8, U3>) -> bool {
     view.as_slice() == [4, 5, 3].as_slice()
 }
 
+// Whether the view shows the item that is written by its slice.
+fn writes_by_slice(view: &mut ArrayMut<'_, u8, U3>) -> bool {
+    view.as_mut_slice()[1] = 8;
+    view.as_slice() == [4, 8, 3].as_slice()
+}
+
 #[test]
 fn views_for_writing(rt: HostRuntime) {
     let mut items = [1u8, 2, 3];
     match ArrayMut::<u8, U3>::try_from(&mut items) {
         Ok(mut view) => {
             assert!(rt; writes_two_items(&mut view));
+            assert!(rt; writes_by_slice(&mut view));
             view.into_mut_slice()[2] = 6;
         }
         Err(_) => assert!(rt; false, "no view of three items"),
     }
-    assert!(rt; items == [4, 5, 6]);
+    assert!(rt; items == [4, 8, 6]);
 }
 
 fn write_parts(array: &mut Array<u8, U3>) {
