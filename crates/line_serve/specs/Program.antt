@@ -11,8 +11,8 @@ TellsUsage usage taken taken' status =
     ((status ≡ 2) × Appends taken taken' usage)
     ⊎ ((status ≡ 4) × TakesFront taken taken' usage)
 
--- The clauses of a program whose replies to lines are `reply`: S1 to S6 and S8. Each end had and has
--- its bytes and its count of faults.
+-- The clauses of a program whose replies to lines are `reply`. Each end had and has its bytes and
+-- its count of faults.
 pub record ServesLines (reply : List ℕ → List ℕ) (usage : List ℕ) (words : List (List ℕ))
     (left left' taken taken' : Option (List ℕ)) (reads reads' writes writes' status : ℕ)
     : Type 0 where

@@ -65,10 +65,13 @@ pub fn cut_fields<'a>(line: &'a [u8], out: &mut [&'a [u8]]) -> usize
 pub fn all_fields<'a>(alloc: Global, line: &'a [u8]) -> Result<Vec<&'a [u8]>, AllocError>
     ensures { IfOk result (λ all. contents all.items ≡ fields line.now) }
 {
-    let mut all: Vec<&'a [u8]> = Vec::new(alloc);
-    all.resize(count_fields(line), b"".as_slice())?;
-    let count = cut_fields(line, &mut all);
-    all.truncate(count);
+    let parts = without_return(line)
+        .split(|b| *b == b' ')
+        .filter(|part| !part.is_empty());
+    let mut all = Vec::new(alloc);
+    for part in parts {
+        all.push(part)?;
+    }
     Ok(all)
 }
 

@@ -3,8 +3,8 @@ ghost use Rattle.std.specs.Prelude.{◌≡◌, ◌++◌, ◌∷◌, [], length, 
 ghost use Rattle.std.specs.Option.{option_copied, ForSome};
 ghost use Rattle.slh_trees.specs.Frame.{frame};
 ghost use Rattle.slh_trees.specs.Signing.{signature_of};
-ghost use Rattle.slh_trees.specs.Sizes.{RefusedExactly};
-ghost use Rattle.slh_batch.specs.Calls.{RefusedOrNoMemory, push_refusal, randomizer_refusal};
+ghost use Rattle.slh_trees.specs.Sizes.{RefusedExactly, RefusedOrNoMemory};
+ghost use Rattle.slh_batch.specs.Calls.{push_refusal, randomizer_refusal};
 ghost use Rattle.slh_batch.specs.Calls.{seal_refusal};
 ghost use Rattle.slh_batch.specs.Receipts.{batch_context, batch_message};
 ghost use Rattle.slh_batch.specs.Tree.{batch_leaf};
@@ -52,7 +52,7 @@ impl Batch {
     /// Adds a message, which is hashed once and not kept. `Message`; `Full`; `Memory`. After a
     /// refusal the batch is as it was.
     pub fn push(&mut self, msg: &[u8]) -> Result<(), BatchError>
-        ensures refusal { RefusedOrNoMemory result (push_refusal self.old msg.now) }
+        ensures refusal { RefusedOrNoMemory Memory result (push_refusal self.old msg.now) }
         ensures value { OnOk result (self.new ≡ self.old ++ batch_leaf msg.now ∷ []) }
         ensures same { OnErr result (self.new ≡ self.old) }
     {
@@ -77,7 +77,7 @@ impl Batch {
         opt_rand: Option<&[u8]>,
     ) -> Result<Sealed<P>, BatchError>
         ensures refusal { let opt_rand = option_copied opt_rand.entry in
-            RefusedOrNoMemory result (seal_refusal P.scheme self opt_rand) }
+            RefusedOrNoMemory Memory result (seal_refusal P.scheme self opt_rand) }
         ensures leaves { IfOk result (λ sealed. sealed.leaves ≡ self) }
         ensures signature { let opt_rand = option_copied opt_rand.entry in
             let message = frame batch_context (batch_message self) in

@@ -1,7 +1,9 @@
 //! Signed batches, and the receipts of their messages.
 ghost use Rattle.std.specs.Prelude.{◌≡◌, ◌<◌, length, IfOk};
-ghost use Rattle.slh_batch.specs.Calls.{RefusedOrNoMemory, index_refusal};
+ghost use Rattle.slh_batch.specs.Calls.{index_refusal};
 ghost use Rattle.slh_batch.specs.Receipts.{receipt_of};
+ghost use Rattle.slh_trees.specs.Sizes.{RefusedOrNoMemory};
+ghost use Rattle.slh_batch.specs.declared.error.BatchError.TheVariants.{Memory};
 
 use crate::error::BatchError;
 use crate::hashing::DIGEST_LEN;
@@ -50,7 +52,7 @@ impl<P: ParameterSet> Sealed<P> {
     /// The receipt of message `i`, counted from 0: 8 bytes, at most 20 digests of 32 bytes, and the
     /// signature. Hashes nothing. `Index`; `Memory`.
     pub fn receipt(&self, alloc: Global, i: u32) -> Result<Vec<u8>, BatchError>
-        ensures refusal { RefusedOrNoMemory result (index_refusal self.now.leaves i) }
+        ensures refusal { RefusedOrNoMemory Memory result (index_refusal self.now.leaves i) }
         ensures value { IfOk result (λ receipt. receipt.items
             ≡ receipt_of self.now.leaves self.now.signature i) }
     {

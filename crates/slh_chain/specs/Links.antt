@@ -2,15 +2,15 @@
 -- values of n bytes.
 use Rattle.std.specs.Prelude.{◌≡◌, ◌==◌, ◌≤◌, ℕ, ◌+◌, ◌*◌, List, [], ◌∷◌, ◌++◌}
 use Rattle.std.specs.Prelude.{length, take, drop}
-use Rattle.std.specs.Prelude.{Bool, true, ◌&&◌, nat_le, Option, None, Some, Result, MatchResult}
-use Rattle.std.specs.Prelude.{if◌then◌else◌, codes, slice_index, slice_range, unwrap_or}
+use Rattle.std.specs.Prelude.{Bool, true, ◌&&◌, nat_le, Option, None, Some}
+use Rattle.std.specs.Prelude.{if◌then◌else◌, codes, slice_index, slice_range}
 use Rattle.slh_core.specs.Parameters.{Scheme}
 use Rattle.slh_trees.specs.Checking.{signature_size}
 use Rattle.slh_trees.specs.Frame.{frame}
 use Rattle.slh_trees.specs.Signing.{signature_of}
 use Rattle.slh_trees.specs.Sizes.{first_refusal}
 use Rattle.slh_chain.specs.declared.error.LinkError.{LinkError}
-use Rattle.slh_chain.specs.declared.error.LinkError.TheVariants.{Name, Depth, Randomizer, Memory}
+use Rattle.slh_chain.specs.declared.error.LinkError.TheVariants.{Name, Depth, Randomizer}
 
 -- the context that bodies are signed with
 abbrev pub chain_context : List ℕ
@@ -43,11 +43,6 @@ randomizer_refusal Z (Some bytes) = if length bytes == Z.n then None else Some R
 abbrev pub delegate_refusal : Scheme → List ℕ → ℕ → Option (List ℕ) → Option LinkError
 delegate_refusal Z name depth opt_rand = first_refusal
     (name_refusal name ∷ depth_refusal depth ∷ randomizer_refusal Z opt_rand ∷ [])
-
--- the call is refused for exactly this cause. Where there is none it may still find no memory.
-abbrev pub RefusedOrNoMemory : {T : Type 0} → Result T LinkError → Option LinkError → Type 0
-RefusedOrNoMemory result refusal =
-    MatchResult result (λ _. refusal ≡ None) (λ e. e ≡ unwrap_or refusal Memory)
 
 -- The parts of a link that some bytes begin with, by their places.
 abbrev pub link_depth : List ℕ → ℕ

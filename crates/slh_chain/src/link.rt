@@ -6,12 +6,13 @@ ghost use Rattle.slh_core.specs.Steps.{IsFresh};
 ghost use Rattle.slh_trees.specs.Checking.{signature_size};
 ghost use Rattle.slh_trees.specs.Frame.{frame};
 ghost use Rattle.slh_trees.specs.Signing.{signature_of};
-ghost use Rattle.slh_trees.specs.Sizes.{RefusedExactly};
+ghost use Rattle.slh_trees.specs.Sizes.{RefusedExactly, RefusedOrNoMemory};
 ghost use Rattle.slh_dsa.specs.Calls.{IsSignable};
-ghost use Rattle.slh_chain.specs.Links.{RefusedOrNoMemory, after_link, body_of, body_size};
+ghost use Rattle.slh_chain.specs.Links.{after_link, body_of, body_size};
 ghost use Rattle.slh_chain.specs.Links.{chain_context};
 ghost use Rattle.slh_chain.specs.Links.{delegate_refusal, has_form, link_body, link_depth};
 ghost use Rattle.slh_chain.specs.Links.{link_signature, link_subject, signed_link};
+ghost use Rattle.slh_chain.specs.declared.error.LinkError.TheVariants.{Memory};
 
 use crate::error::LinkError;
 use hybrid_array::ArraySize;
@@ -135,7 +136,7 @@ pub fn delegate<P: ParameterSet>(
     opt_rand: Option<&[u8]>,
 ) -> Result<Vec<u8>, LinkError>
     ensures refusal { let opt_rand = option_copied opt_rand.entry in
-        RefusedOrNoMemory result (delegate_refusal P.scheme name.now depth opt_rand) }
+        RefusedOrNoMemory Memory result (delegate_refusal P.scheme name.now depth opt_rand) }
     ensures link { let opt_rand = option_copied opt_rand.entry in
         let body = link_body depth name.now subject.now in
         IfOk result (λ link. link.items ≡ signed_link P.scheme key.now opt_rand body) }

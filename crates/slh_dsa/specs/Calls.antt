@@ -1,8 +1,7 @@
 -- What the calls on keys answer (FIPS 205, sections 9 and 10). Z is the scheme, of values of n
 -- bytes.
 use Rattle.std.specs.Prelude.{◌≡◌, ◌==◌, ℕ, ◌*◌, ◌^◌, ◌≤◌, List, [], ◌∷◌, length, Bool}
-use Rattle.std.specs.Prelude.{Option, None, Some, Result, IfOk, MatchResult, if◌then◌else◌}
-use Rattle.std.specs.Prelude.{unwrap_or}
+use Rattle.std.specs.Prelude.{Option, None, Some, Result, IfOk, if◌then◌else◌}
 use Rattle.std.specs.Option.{ForSome}
 use Rattle.std.specs.Str.{bytes_eq}
 use Rattle.slh_core.specs.Bytes.{part}
@@ -14,7 +13,7 @@ use Rattle.slh_trees.specs.Sizes.{message_refusal}
 use Rattle.slh_dsa.specs.Frames.{mode_frame}
 use Rattle.slh_dsa.specs.declared.error.Error.{Error}
 use Rattle.slh_dsa.specs.declared.error.Error.TheVariants.{Length, ContextTooLong, RandomizerLength}
-use Rattle.slh_dsa.specs.declared.error.Error.TheVariants.{MessageTooLong, Invalid, Memory}
+use Rattle.slh_dsa.specs.declared.error.Error.TheVariants.{MessageTooLong, Invalid}
 use Rattle.slh_dsa.specs.declared.frame.Mode.{Mode}
 use Rattle.slh_dsa.specs.declared.frame.Mode.TheVariants.{Pure}
 
@@ -91,11 +90,6 @@ sign_internal_refusal Z opt_rand message = first_refusal
 abbrev pub verify_internal_error : Scheme → List ℕ → List ℕ → List ℕ → Option Error
 verify_internal_error Z key message sig = first_refusal
     (message_refusal MessageTooLong message ∷ root_refusal Z key message sig ∷ [])
-
--- the call is refused for exactly this cause. Where there is none it may still find no memory.
-abbrev pub RefusedOrNoMemory : {T : Type 0} → Result T Error → Option Error → Type 0
-RefusedOrNoMemory result refusal =
-    MatchResult result (λ _. refusal ≡ None) (λ e. e ≡ unwrap_or refusal Memory)
 
 -- what is to be signed has sizes that signing takes, for values of n bytes
 pub record IsSignable (n : ℕ) (context : List ℕ) (opt_rand : Option (List ℕ)) (message : List ℕ)

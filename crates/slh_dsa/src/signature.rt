@@ -1,7 +1,9 @@
 //! Signatures (FIPS 205, section 9.2).
 ghost use Rattle.std.specs.Prelude.{◌≡◌, length, IfOk};
-ghost use Rattle.slh_dsa.specs.Calls.{RefusedOrNoMemory, signature_refusal};
+ghost use Rattle.slh_dsa.specs.Calls.{signature_refusal};
 ghost use Rattle.slh_trees.specs.Checking.{signature_size};
+ghost use Rattle.slh_trees.specs.Sizes.{RefusedOrNoMemory};
+ghost use Rattle.slh_dsa.specs.declared.error.Error.TheVariants.{Memory};
 
 use crate::error::Error;
 use crate::parameter_set::ParameterSet;
@@ -31,7 +33,7 @@ impl<P: ParameterSet> Model for Signature<P> {
 impl<P: ParameterSet> Signature<P> {
     /// The signature of a slice's bytes. `Length`: they aren't as many as a signature has; `Memory`.
     pub fn try_from(alloc: Global, bytes: &[u8]) -> Result<Self, Error>
-        ensures refusal { RefusedOrNoMemory result
+        ensures refusal { RefusedOrNoMemory Memory result
             (signature_refusal P.scheme (length bytes.now)) }
         ensures value { IfOk result (λ sig. sig ≡ bytes.now) }
     {

@@ -8,8 +8,8 @@ ghost use Rattle.slh_core.specs.Steps.{IsFresh};
 ghost use Rattle.slh_trees.specs.Checking.{signature_size};
 ghost use Rattle.slh_trees.specs.Frame.{frame};
 ghost use Rattle.slh_trees.specs.Signing.{signature_of};
-ghost use Rattle.slh_trees.specs.Sizes.{RefusedExactly};
-ghost use Rattle.slh_dsa.specs.Calls.{IsKeygenAnswer, IsSignable, RefusedOrNoMemory};
+ghost use Rattle.slh_trees.specs.Sizes.{RefusedExactly, RefusedOrNoMemory};
+ghost use Rattle.slh_dsa.specs.Calls.{IsKeygenAnswer, IsSignable};
 ghost use Rattle.slh_dsa.specs.Calls.{sign_input_refusal, sign_internal_refusal, sign_refusal};
 ghost use Rattle.slh_dsa.specs.Calls.{signing_key_refusal};
 ghost use Rattle.slh_dsa.specs.Frames.{mode_frame};
@@ -263,7 +263,7 @@ impl<P: ParameterSet> SigningKey<P> {
         opt_rand: Option<&[u8]>,
     ) -> Result<Signature<P>, Error>
         ensures refusal { let opt_rand = option_copied opt_rand.entry in
-            RefusedOrNoMemory result (sign_internal_refusal P.scheme opt_rand msg.now) }
+            RefusedOrNoMemory Memory result (sign_internal_refusal P.scheme opt_rand msg.now) }
         ensures value { let opt_rand = option_copied opt_rand.entry in
             IfOk result (λ sig. sig ≡ signature_of P.scheme self.now opt_rand msg.now) }
     {
@@ -283,7 +283,7 @@ impl<P: ParameterSet> SigningKey<P> {
         opt_rand: Option<&[u8]>,
     ) -> Result<Signature<P>, Error>
         ensures refusal { let opt_rand = option_copied opt_rand.entry in
-            RefusedOrNoMemory result (sign_input_refusal P.scheme ctx.now opt_rand msg.now) }
+            RefusedOrNoMemory Memory result (sign_input_refusal P.scheme ctx.now opt_rand msg.now) }
         ensures value { let opt_rand = option_copied opt_rand.entry in
             let message = frame ctx.now msg.now in
             IfOk result (λ sig. sig ≡ signature_of P.scheme self.now opt_rand message) }
@@ -302,7 +302,7 @@ impl<P: ParameterSet> SigningKey<P> {
         opt_rand: Option<&[u8]>,
     ) -> Result<Signature<P>, Error>
         ensures refusal { let opt_rand = option_copied opt_rand.entry in
-            RefusedOrNoMemory result (sign_input_refusal P.scheme ctx.now opt_rand msg.now) }
+            RefusedOrNoMemory Memory result (sign_input_refusal P.scheme ctx.now opt_rand msg.now) }
         ensures value { let opt_rand = option_copied opt_rand.entry in
             let message = mode_frame mode ctx.now msg.now in
             IfOk result (λ sig. sig ≡ signature_of P.scheme self.now opt_rand message) }

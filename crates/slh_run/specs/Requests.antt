@@ -38,8 +38,8 @@ command_named name =
 --   SET sign KEY CTX MSG RAND
 --   SET verify VK CTX MSG SIG
 --   SET audit KEY CTX MSG SIG
--- and whether it has them, in every mode. That of check, SET check KEY CTX MSG SIG KIND NUMBERS, has as many as
--- its kind of evidence asks for, which are judged with the kind itself
+-- and whether it has them, in every mode. That of check, SET check KEY CTX MSG SIG KIND NUMBERS,
+-- has as many as its kind of evidence asks for, which are judged with the kind itself
 abbrev pub has_fields : Command → ℕ → Bool
 has_fields Keygen count = count == 5
 has_fields (Sign mode) count = count == 6

@@ -1,4 +1,4 @@
-//! What benches report, and what tells sets and refusals apart, as contracts.
+//! What benches report, and what tells refusals apart, as contracts.
 ghost use Rattle.std.specs.Prelude.{◌≡◌, ◌↔◌, ℕ, List, IsTrue};
 ghost use Rattle.slh_run.specs.Bench.{accepted_count};
 ghost use Rattle.slh_line.specs.Sets.{scheme_for};
@@ -33,14 +33,6 @@ pub fn bench_accepts_all(set: Set)
     ensures { (prk : List ℕ) (count : ℕ) → accepted_count (scheme_for set) prk count ≡ count }
 {
     set.run(AcceptsAll);
-}
-
-/// A clone of a set is that set, and `==` holds exactly where both are the same.
-pub fn clone_and_equality_of_sets(a: &Set, b: &Set) -> (Set, bool)
-    ensures clone { result.0 ≡ a.now }
-    ensures equal { IsTrue result.1 ↔ (a.now ≡ b.now) }
-{
-    (a.clone().unwrap(), a == b)
 }
 
 /// A clone of a refusal is that refusal, and `==` holds exactly where both are the same.

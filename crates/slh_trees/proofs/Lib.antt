@@ -8,3 +8,4 @@ pub mod Numbers
 pub mod Forests
 pub mod Signatures
 pub mod Ascents
+pub mod Refusals

@@ -1,5 +1,5 @@
--- Where the values of a signature stand in its bytes (FIPS 205, section 9.2 for the whole, 8.3 for the
--- forest's part, 5.2 and 6.2 for a layer's).
+-- Where the values of a signature stand in its bytes (FIPS 205, section 9.2 for the whole, 8.3 for
+-- the forest's part, 5.2 and 6.2 for a layer's).
 use Rattle.std.specs.Prelude.{ℕ, ◌+◌, ◌*◌, List, take, drop}
 use Rattle.slh_core.specs.Bytes.{part}
 use Rattle.slh_core.specs.Parameters.{Scheme, chain_count}

@@ -1,6 +1,6 @@
 -- Refusals for the sizes of what a call is given. Each call says by which of its errors it refuses.
 use Rattle.std.specs.Prelude.{◌≡◌, ◌==◌, ℕ, ◌^◌, List, [], ◌∷◌, length, nat_lt}
-use Rattle.std.specs.Prelude.{Option, None, Some, Result, MatchResult, if◌then◌else◌}
+use Rattle.std.specs.Prelude.{Option, None, Some, Result, MatchResult, if◌then◌else◌, unwrap_or}
 
 -- the first of the refusals that stand
 abbrev pub first_refusal : {E : Type 0} → List (Option E) → Option E
@@ -11,6 +11,11 @@ first_refusal (Some refusal ∷ later) = Some refusal
 -- the call is refused for exactly this cause, and not at all where there is none
 abbrev pub RefusedExactly : {T E : Type 0} → Result T E → Option E → Type 0
 RefusedExactly result refusal = MatchResult result (λ _. refusal ≡ None) (λ e. refusal ≡ Some e)
+
+-- the same, but where there is no cause the call may still find no memory, and says so by `memory`
+abbrev pub RefusedOrNoMemory : {T E : Type 0} → E → Result T E → Option E → Type 0
+RefusedOrNoMemory memory result refusal =
+    MatchResult result (λ _. refusal ≡ None) (λ e. e ≡ unwrap_or refusal memory)
 
 -- there are so many bytes
 abbrev pub length_refusal : {E : Type 0} → E → ℕ → ℕ → Option E
