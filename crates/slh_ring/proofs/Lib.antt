@@ -1,0 +1,9 @@
+mod Numbers
+mod Entries
+mod Forms
+mod Scans
+mod Inserts
+mod Written
+mod Restored
+mod Adds
+mod Costs

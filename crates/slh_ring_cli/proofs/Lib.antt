@@ -1,0 +1,4 @@
+mod Numbers
+mod Paths
+mod Adds
+mod Texts

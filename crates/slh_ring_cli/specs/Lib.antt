@@ -1,0 +1,2 @@
+pub mod PathFields
+pub mod Replies

@@ -1,0 +1,23 @@
+//! The program of key rings: lines on standard input, replies on standard output. docs/LINES.md has
+//! both.
+#![tactic(auto)]
+
+mod keys;
+mod path_fields;
+mod recording;
+mod restoring;
+mod serve;
+
+use line_stdio::{StdSink, StdSource, words_of};
+use serve::ring_serve;
+use std::io;
+use std::process::ExitCode;
+
+fn main(rt: HostRuntime) -> ExitCode {
+    let Ok(words) = words_of(&rt) else {
+        return ExitCode::from(6);
+    };
+    let mut source = StdSource::new(rt.reader());
+    let mut sink = StdSink::new(io::writer(&rt));
+    ExitCode::from(ring_serve(rt.alloc(), &words, &mut source, &mut sink))
+}
