@@ -1,0 +1,11 @@
+pub mod Stores
+pub mod Measures
+pub mod Fronts
+pub mod Lists
+pub mod Errors
+pub mod Whole
+pub mod Sealed
+pub mod ReadBack
+pub mod Accepted
+pub mod Named
+pub mod Written

@@ -1,0 +1,78 @@
+-- What is answered where a manifest is built. Z is the scheme, of values of n bytes.
+use Rattle.std.specs.Prelude.{◌≡◌, ◌≤◌, ◌^◌, ℕ, List, [], ◌∷◌, ◌++◌, length, nat_lt}
+use Rattle.std.specs.Prelude.{Option, None, Some, Result, MatchResult, if◌then◌else◌, unwrap_or}
+use Rattle.std.specs.Prelude.{◌⊎◌, ◌==◌}
+use Rattle.hmac_sha256.specs.Sha256.{sha256}
+use Rattle.slh_core.specs.Parameters.{Scheme}
+use Rattle.slh_trees.specs.Frame.{frame}
+use Rattle.slh_trees.specs.Signing.{signature_of}
+use Rattle.slh_trees.specs.Sizes.{first_refusal}
+use Rattle.slh_manifest.specs.Files.{Files, bytes_of}
+use Rattle.slh_manifest.specs.Manifest.{Rise, body_bytes, manifest_context, may_follow}
+use Rattle.slh_manifest.specs.declared.entry.Entry.{Entry}
+use Rattle.slh_manifest.specs.declared.error.BuildError.{BuildError}
+use Rattle.slh_manifest.specs.declared.error.BuildError.TheVariants.{Name, Full, Fault, Missing}
+use Rattle.slh_manifest.specs.declared.error.BuildError.TheVariants.{TooLarge, Empty, Randomizer}
+use Rattle.slh_manifest.specs.declared.error.BuildError.TheVariants.{Memory}
+
+-- what a builder keeps: entries of a manifest, or none yet
+pub record IsBuilt (entries : List Entry) : Type 0 where
+  pub few : length entries ≤ 4096
+  pub rise : Rise [] entries
+
+-- the name of the last entry after this name, which is the last where there are none
+abbrev pub last_name : List ℕ → List Entry → List ℕ
+last_name last [] = last
+last_name last (entry ∷ entries) = last_name entry.name entries
+
+-- why a name isn't taken, whatever the store has
+abbrev pub name_refusal : List Entry → List ℕ → Option BuildError
+name_refusal entries name = first_refusal
+    ((if may_follow (last_name [] entries) name then None else Some Name)
+    ∷ (if nat_lt (length entries) 4096 then None else Some Full) ∷ [])
+
+-- why what the store has under it isn't
+abbrev pub bytes_refusal : Option (List ℕ) → Option BuildError
+bytes_refusal None = Some Missing
+bytes_refusal (Some bytes) = if nat_lt (2 ^ 32) (length bytes) then Some TooLarge else None
+
+-- why a name isn't added, from a store with these files
+abbrev pub add_refusal : List Entry → List ℕ → Files → Option BuildError
+add_refusal entries name files = first_refusal
+    (name_refusal entries name ∷ bytes_refusal (bytes_of files name) ∷ [])
+
+-- the entry of a name with these bytes
+abbrev pub entry_of : List ℕ → List ℕ → Entry
+entry_of name bytes = record { name = name; len = length bytes; digest = sha256 bytes }
+
+-- one more entry, of this name
+pub record IsAdded (old : List Entry) (name : List ℕ) (new : List Entry) : Type 0 where
+  pub entry : Entry
+  pub name_is : entry.name ≡ name
+  pub entries : new ≡ old ++ entry ∷ []
+
+-- the call is refused for exactly this cause, or for want of memory where there is none; or it ends
+-- by a fault
+abbrev pub RefusedOrFault : {T : Type 0} → Result T BuildError → Option BuildError → Type 0
+RefusedOrFault result refusal = MatchResult result (λ _. refusal ≡ None)
+    (λ e. (e ≡ Fault) ⊎ (e ≡ unwrap_or refusal Memory))
+
+-- there are entries
+abbrev pub empty_refusal : List Entry → Option BuildError
+empty_refusal entries = if length entries == 0 then Some Empty else None
+
+-- opt_rand has n bytes where it is given
+abbrev pub randomizer_refusal : Scheme → Option (List ℕ) → Option BuildError
+randomizer_refusal Z None = None
+randomizer_refusal Z (Some bytes) = if length bytes == Z.n then None else Some Randomizer
+
+-- why no manifest is made of these entries
+abbrev pub seal_refusal : Scheme → List Entry → Option (List ℕ) → Option BuildError
+seal_refusal Z entries opt_rand =
+    first_refusal (empty_refusal entries ∷ randomizer_refusal Z opt_rand ∷ [])
+
+-- a manifest: the body of these entries, and its signature
+abbrev pub manifest_of : Scheme → List ℕ → Option (List ℕ) → List Entry → List ℕ
+manifest_of Z key opt_rand entries =
+    let body = body_bytes entries in
+    body ++ signature_of Z key opt_rand (frame manifest_context body)

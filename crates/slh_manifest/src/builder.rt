@@ -1,0 +1,207 @@
+//! Manifests made from what a store has.
+ghost use Rattle.std.specs.Prelude.{◌≡◌, ◌≢◌, ◌↔◌, ◌≤◌, ◌<◌, ◌^◌, ◌++◌, ◌∷◌, [], Some, IsSome};
+ghost use Rattle.std.specs.Prelude.{IsErrOf, OnOk, OnErr, IfOk, IfErr, IfSome, IsTrue, length};
+ghost use Rattle.std.specs.Option.{option_copied, ForSome};
+ghost use Rattle.line_serve.specs.Causes.{Rose};
+ghost use Rattle.slh_trees.specs.Frame.{frame};
+ghost use Rattle.slh_trees.specs.Signing.{signature_of};
+ghost use Rattle.slh_trees.specs.Sizes.{RefusedExactly, RefusedOrNoMemory};
+ghost use Rattle.slh_manifest.specs.Building.{IsAdded, IsBuilt, RefusedOrFault};
+ghost use Rattle.slh_manifest.specs.Building.{add_refusal, entry_of, manifest_of, name_refusal};
+ghost use Rattle.slh_manifest.specs.Building.{last_name as spec_last_name, randomizer_refusal};
+ghost use Rattle.slh_manifest.specs.Building.{seal_refusal};
+ghost use Rattle.slh_manifest.specs.Files.{bytes_of};
+ghost use Rattle.slh_manifest.specs.Manifest.{HasForm, body_bytes, entry_bytes, manifest_context};
+ghost use Rattle.slh_manifest.specs.Manifest.{may_follow as spec_may_follow};
+ghost use Rattle.slh_manifest.specs.declared.error.BuildError.TheVariants.{Name, Full, Fault};
+ghost use Rattle.slh_manifest.specs.declared.error.BuildError.TheVariants.{Empty, Randomizer};
+ghost use Rattle.slh_manifest.specs.declared.error.BuildError.TheVariants.{Memory};
+
+use crate::entry::{Entry, MAX_ENTRIES, MAX_LEN, may_follow};
+use crate::error::BuildError;
+use crate::measure::{Found, measure};
+use crate::store::Store;
+use hybrid_array::ArraySize;
+use line_serve::ByteString;
+use slh_dsa::{ParameterSet, Signature, SigningKey};
+use std::alloc::{AllocError, Global};
+use std::marker::Model;
+
+/// The context under which bodies are signed.
+pub(crate) const CONTEXT: &[u8] = b"slh-manifest";
+
+/// Entries of a manifest to be. Clauses see it as their list.
+#[derive(Drop)]
+pub struct Builder {
+    entries: Vec<Entry>,
+}
+
+impl Model for Builder {
+    ghost use Rattle.std.specs.Prelude.{List};
+    ghost use Rattle.slh_manifest.specs.declared.entry.Entry.{Entry};
+    ghost use Rattle.slh_manifest.specs.Building.{IsBuilt};
+
+    ghost Value = { List Entry };
+
+    ghost view = { λ b. b.entries.items };
+
+    ghost invariant = { λ b. IsBuilt b.entries.items };
+}
+
+impl Builder {
+    /// No entries. Takes no memory before one is added.
+    pub fn new(alloc: Global) -> Self
+        ensures { result ≡ [] }
+    {
+        Builder {
+            entries: Vec::new(alloc),
+        }
+    }
+
+    /// Adds an entry of what the store has under a name, which is read once, to its end. `Name`;
+    /// `Full`; `Fault`; `Missing`; `TooLarge`; `Memory`. After a refusal there are the entries that
+    /// there were.
+    pub fn add<T: Store>(&mut self, name: &[u8], store: &mut T) -> Result<(), BuildError>
+        ensures name { IsErrOf result Name ↔ (name_refusal self.old name.now ≡ Some Name) }
+        ensures full { IsErrOf result Full ↔ (name_refusal self.old name.now ≡ Some Full) }
+        ensures only { IfErr result (λ e. (e ≢ Empty) × (e ≢ Randomizer)) }
+        ensures fault { IsErrOf result Fault → Rose (T.faults store.old) (T.faults store.new) }
+        ensures told { IfSome (T.files store.old)
+            (λ files. RefusedOrFault result (add_refusal self.old name.now files)) }
+        ensures exact { IfSome (T.files store.old) (λ files.
+            ¬ Rose (T.faults store.old) (T.faults store.new)
+            → RefusedOrNoMemory Memory result (add_refusal self.old name.now files)) }
+        ensures entry { OnOk result (IfSome (T.files store.old) (λ files.
+            IfSome (bytes_of files name.now)
+            (λ bytes. self.new ≡ self.old ++ entry_of name.now bytes ∷ []))) }
+        ensures added { OnOk result (IsAdded self.old name.now self.new) }
+        ensures same { OnErr result (self.new ≡ self.old) }
+        ensures unread { IsSome (name_refusal self.old name.now) → store.new ≡ store.old }
+        ensures kept { T.files store.new ≡ T.files store.old }
+        ensures later { T.faults store.old ≤ T.faults store.new }
+    {
+        if !may_follow(last_name(&self.entries), name) {
+            return Err(BuildError::Name);
+        }
+        if self.entries.len() >= MAX_ENTRIES {
+            return Err(BuildError::Full);
+        }
+        match measure(store, name, MAX_LEN) {
+            Err(_) => Err(BuildError::Fault),
+            Ok(Found::Missing) => Err(BuildError::Missing),
+            Ok(Found::Longer) => Err(BuildError::TooLarge),
+            Ok(Found::Whole { len, digest }) => Ok(self.push(name, len, &digest)?),
+        }
+    }
+
+    /// The manifest of the entries: their body, signed in mode `Pure` (FIPS 205, algorithm 22)
+    /// under the context `slh-manifest`. Where no `opt_rand` is given the public seed stands for
+    /// it. `Empty`; `Randomizer`; `Memory`.
+    pub fn seal<P: ParameterSet>(
+        self,
+        alloc: Global,
+        key: &SigningKey<P>,
+        opt_rand: Option<&[u8]>,
+    ) -> Result<Vec<u8>, BuildError>
+        ensures refusal { let opt_rand = option_copied opt_rand.entry in
+            RefusedOrNoMemory Memory result (seal_refusal P.scheme self opt_rand) }
+        ensures value { let opt_rand = option_copied opt_rand.entry in
+            IfOk result (λ manifest. manifest.items
+            ≡ manifest_of P.scheme key.now opt_rand self) }
+        ensures form { OnOk result (HasForm self) }
+    {
+        if self.entries.is_empty() {
+            return Err(BuildError::Empty);
+        }
+        check_opt_rand::<P>(opt_rand)?;
+        let mut manifest = body(alloc, &self.entries)?;
+        let signature = sign_body(alloc, key, &manifest, opt_rand)?;
+        manifest.extend_from_slice(signature.as_slice())?;
+        Ok(manifest)
+    }
+
+    // Puts an entry at the end.
+    fn push(&mut self, name: &[u8], len: u64, digest: &[u8; 32]) -> Result<(), AllocError>
+        requires room { length self.old < 4096 }
+        requires name { IsTrue (spec_may_follow (spec_last_name [] self.old) name.now) }
+        requires len { len ≤ 2 ^ 32 }
+        ensures ok { OnOk result (self.new
+            ≡ self.old ++ record { name = name.now; len = len; digest = digest.now } ∷ []) }
+        ensures err { OnErr result (self.new ≡ self.old) }
+    {
+        let name = ByteString::from_slice(*self.entries.allocator(), name)?;
+        let digest = *digest;
+        self.entries.push(Entry { name, len, digest })?;
+        Ok(())
+    }
+}
+
+// `Randomizer` for an `opt_rand` that is given and doesn't have n bytes.
+fn check_opt_rand<P: ParameterSet>(opt_rand: Option<&[u8]>) -> Result<(), BuildError>
+    ensures refusal { let opt_rand = option_copied opt_rand.entry in
+        RefusedExactly result (randomizer_refusal P.scheme opt_rand) }
+    ensures fits { OnOk result
+        (ForSome (option_copied opt_rand.entry) (λ bytes. length bytes ≡ P.N.USIZE)) }
+{
+    if let Some(bytes) = opt_rand
+        && bytes.len() != P::N::USIZE
+    {
+        return Err(BuildError::Randomizer);
+    }
+    Ok(())
+}
+
+// The signature of a body. `Memory`.
+fn sign_body<P: ParameterSet>(
+    alloc: Global,
+    key: &SigningKey<P>,
+    body: &[u8],
+    opt_rand: Option<&[u8]>,
+) -> Result<Signature<P>, BuildError>
+    requires body { length body.now ≤ 2 ^ 60 }
+    requires opt_rand { ForSome (option_copied opt_rand) (λ bytes. length bytes ≡ P.N.USIZE) }
+    ensures memory { IfErr result (λ e. e ≡ Memory) }
+    ensures value { let opt_rand = option_copied opt_rand.entry in
+        IfOk result (λ signature. signature
+        ≡ signature_of P.scheme key.now opt_rand (frame manifest_context body.now)) }
+{
+    match key.try_sign_with_context(alloc, body, CONTEXT, opt_rand) {
+        Ok(signature) => Ok(signature),
+        Err(_) => Err(BuildError::Memory),
+    }
+}
+
+// The name of the last entry, or the empty one.
+fn last_name(entries: &[Entry]) -> &[u8]
+    ensures { result.now ≡ spec_last_name [] entries.now }
+{
+    match entries.last() {
+        Some(entry) => entry.name.as_slice(),
+        None => &[],
+    }
+}
+
+// The body of a manifest with these entries.
+fn body(alloc: Global, entries: &[Entry]) -> Result<Vec<u8>, AllocError>
+    requires built { IsBuilt entries.now }
+    ensures value { IfOk result (λ body. body.items ≡ body_bytes entries.now) }
+    ensures short { IfOk result (λ body. length body.items ≤ 2 ^ 60) }
+{
+    let mut body = Vec::new(alloc);
+    body.extend_from_slice(&(entries.len() as u32).to_be_bytes())?;
+    for entry in entries {
+        put_entry(&mut body, entry)?;
+    }
+    Ok(body)
+}
+
+// Puts an entry at the end of a body.
+fn put_entry(body: &mut Vec<u8>, entry: &Entry) -> Result<(), AllocError>
+    requires name { length entry.now.name ≤ 255 }
+    ensures ok { OnOk result (body.new.items ≡ body.old.items ++ entry_bytes entry.now) }
+{
+    body.push(entry.name.len() as u8)?;
+    body.extend_from_slice(entry.name.as_slice())?;
+    body.extend_from_slice(&entry.len.to_be_bytes())?;
+    body.extend_from_slice(&entry.digest)
+}

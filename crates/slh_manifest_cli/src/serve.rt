@@ -1,0 +1,52 @@
+//! The commands of the program.
+ghost use Rattle.std.specs.Prelude.{◌≡◌, ◌≢◌, []};
+ghost use Rattle.line_serve.specs.Program.{ServesLines};
+ghost use Rattle.slh_line.specs.Replies.{reply_by};
+ghost use Rattle.slh_manifest_cli.specs.Replies.{manifest_answers, usage};
+
+use crate::checking::check_line;
+use crate::sealing::seal_line;
+use line_serve::{ByteString, Sink, Source, Words, field_at, serve_words};
+use slh_dsa::ParameterSet;
+use slh_line::{Commands, LineError, Lines};
+use std::alloc::Global;
+
+// `seal` and `check`.
+#[derive(Drop)]
+struct Manifests;
+
+impl Commands for Manifests {
+    ghost answers = { manifest_answers };
+
+    fn answer<P: ParameterSet>(
+        &self,
+        alloc: Global,
+        fields: &[&[u8]],
+    ) -> Result<ByteString, LineError> {
+        let command = field_at(fields, 1);
+        if command == b"seal".as_slice() {
+            seal_line::<P>(alloc, fields)
+        } else if command == b"check".as_slice() {
+            check_line::<P>(alloc, fields)
+        } else {
+            Err(LineError::Command)
+        }
+    }
+}
+
+/// With no words, answers each line of the source; with any, writes the usage text. The result is
+/// the program's status, as docs/LINES.md lists them.
+pub fn manifest_serve<S: Source, K: Sink>(
+    alloc: Global,
+    words: &Words,
+    source: &mut S,
+    sink: &mut K,
+) -> u8
+    ensures serves { ServesLines (reply_by manifest_answers) usage words.now
+        (S.left source.old) (S.left source.new) (K.taken sink.old) (K.taken sink.new)
+        (S.faults source.old) (S.faults source.new) (K.faults sink.old) (K.faults sink.new) result }
+    ensures unread { words.now ≢ [] → source.new ≡ source.old }
+{
+    let usage = b"usage: slh_manifest_cli\n";
+    serve_words(alloc, &Lines(Manifests), usage, words, source, sink)
+}
