@@ -1,0 +1,30 @@
+//! SLH-DSA (FIPS 205) over SHA-2 for callers in C, and by it for any language that calls C.
+//!
+//! A static library: its header is `include/slh_dsa.h`, which has the sizes and the statuses. Each
+//! export calls the functions of `slh_dsa` and `slh_audit` on the caller's memory, and answers a
+//! status: 0, or the number of the first cause that stands. None takes memory, none keeps
+//! anything between calls, and none calls back.
+//!
+//! The contracts hold where the caller's pointers and lengths describe its memory: no pointer is
+//! null, what a call writes is apart from all else that it is given, and the stack has room.
+#![tactic(auto)]
+
+mod audit;
+mod evidence;
+mod keygen;
+pub mod laws;
+mod mode;
+mod set;
+mod sign;
+mod sizes;
+mod status;
+#[cfg(test)]
+mod tests;
+mod verify;
+
+pub use audit::{slh_dsa_sha2_audit, slh_dsa_sha2_check_evidence};
+pub use evidence::CEvidence;
+pub use keygen::slh_dsa_sha2_keygen;
+pub use sign::{slh_dsa_sha2_sign, slh_dsa_sha2_sign_deterministic};
+pub use sizes::{slh_dsa_sha2_n, slh_dsa_sha2_signature_bytes};
+pub use verify::slh_dsa_sha2_verify;

@@ -1,0 +1,157 @@
+//! The numbers that `include/slh_dsa.h` has too, and each export once with SLH-DSA-SHA2-128f.
+use crate::audit::{slh_dsa_sha2_audit, slh_dsa_sha2_check_evidence};
+use crate::evidence::CEvidence;
+use crate::keygen::slh_dsa_sha2_keygen;
+use crate::sign::{slh_dsa_sha2_sign, slh_dsa_sha2_sign_deterministic};
+use crate::sizes::{slh_dsa_sha2_n, slh_dsa_sha2_signature_bytes};
+use crate::verify::slh_dsa_sha2_verify;
+
+// A set's number, its n and the bytes of its signatures (FIPS 205, section 11, table 2).
+const SIZES: [(u32, usize, usize); 6] = [
+    (1, 16, 7856),
+    (2, 16, 17088),
+    (3, 24, 16224),
+    (4, 24, 35664),
+    (5, 32, 29792),
+    (6, 32, 49856),
+];
+
+#[test]
+fn sizes_are_those_of_the_table(rt: HostRuntime) {
+    for (set, n, signature_bytes) in SIZES {
+        assert!(rt; slh_dsa_sha2_n(set) == n);
+        assert!(rt; slh_dsa_sha2_signature_bytes(set) == signature_bytes);
+    }
+}
+
+#[test]
+fn a_number_without_a_set_has_no_sizes(rt: HostRuntime) {
+    for set in [0, 7, u32::MAX] {
+        assert!(rt; slh_dsa_sha2_n(set) == 0);
+        assert!(rt; slh_dsa_sha2_signature_bytes(set) == 0);
+    }
+}
+
+const SET: u32 = 2;
+
+const LEN: usize = 17088;
+
+type Key = [u8; 64];
+
+type Public = [u8; 32];
+
+type Sig = [u8; LEN];
+
+// The key of the seeds of sixteen bytes 01, 02 and 03.
+fn keys() -> (u32, Key, Public) {
+    let mut seeds = [1u8; 48];
+    seeds[16..32].fill(2);
+    seeds[32..].fill(3);
+    let (mut key, mut public) = ([0u8; 64], [0u8; 32]);
+    let status = slh_dsa_sha2_keygen(SET, &seeds, &mut key, &mut public);
+    (status, key, public)
+}
+
+// The root of these seeds that the Rust crate `slh-dsa` 0.1.0 gives.
+const ROOT: [u8; 16] = [
+    0x40, 0x52, 0xe0, 0x73, 0x3e, 0x69, 0xe7, 0x87, 0x39, 0xd6, 0xe6, 0x7c, 0x77, 0xf9, 0xa3, 0x7d,
+];
+
+#[test]
+fn a_made_key_has_the_root_of_the_rust_crate(rt: HostRuntime) {
+    let (status, key, public) = keys();
+    assert!(rt; status == 0);
+    assert!(rt; key[32..48] == [3; 16] && &key[48..] == ROOT.as_slice());
+    assert!(rt; public[..16] == [3; 16] && &public[16..] == ROOT.as_slice());
+}
+
+fn sign(mode: u32, ctx: &[u8], randomizer: &[u8]) -> (u32, Sig) {
+    let (_, key, _) = keys();
+    let mut sig = [0u8; LEN];
+    let status = slh_dsa_sha2_sign(SET, mode, &key, b"Hello", ctx, randomizer, &mut sig);
+    (status, sig)
+}
+
+fn verify(mode: u32, ctx: &[u8], sig: &[u8]) -> u32 {
+    let (_, _, public) = keys();
+    slh_dsa_sha2_verify(SET, mode, &public, b"Hello", ctx, sig)
+}
+
+fn audit(sig: &[u8], evidence: &mut CEvidence) -> u32 {
+    let (_, key, _) = keys();
+    slh_dsa_sha2_audit(SET, 0, &key, b"Hello", b"", sig, evidence)
+}
+
+#[test]
+fn what_is_signed_is_verified_in_its_mode_alone(rt: HostRuntime) {
+    for mode in [0, 1, 2] {
+        let (status, sig) = sign(mode, b"ctx", &[4; 16]);
+        assert!(rt; status == 0);
+        assert!(rt; verify(mode, b"ctx", &sig) == 0);
+        assert!(rt; verify((mode + 1) % 3, b"ctx", &sig) == 1);
+        assert!(rt; verify(mode, b"", &sig) == 1);
+    }
+}
+
+// The public seed in place of random bytes is the deterministic variant (FIPS 205, section 9.2).
+#[test]
+fn without_random_bytes_the_public_seed_stands_for_them(rt: HostRuntime) {
+    let (_, key, _) = keys();
+    let mut sig = [0u8; LEN];
+    let status = slh_dsa_sha2_sign_deterministic(SET, 0, &key, b"Hello", b"", &mut sig);
+    assert!(rt; status == 0);
+    assert!(rt; sig == sign(0, b"", &[3; 16]).1);
+}
+
+#[test]
+fn a_refused_call_names_the_first_cause_and_writes_nothing(rt: HostRuntime) {
+    let (_, key, _) = keys();
+    let mut sig = [7u8; LEN];
+    let long = [0u8; 256];
+    assert!(rt; slh_dsa_sha2_sign(0, 3, &[], b"", &long, &[], &mut []) == 9);
+    assert!(rt; slh_dsa_sha2_sign(SET, 3, &[], b"", &long, &[], &mut []) == 10);
+    assert!(rt; slh_dsa_sha2_sign(SET, 0, &[], b"", &long, &[], &mut sig) == 5);
+    assert!(rt; slh_dsa_sha2_sign(SET, 0, &key, b"", &long, &[], &mut sig[1..]) == 5);
+    assert!(rt; slh_dsa_sha2_sign(SET, 0, &key, b"", &long, &[], &mut sig) == 6);
+    assert!(rt; slh_dsa_sha2_sign(SET, 0, &key, b"", b"", &[], &mut sig) == 7);
+    assert!(rt; sig == [7; LEN]);
+    assert!(rt; slh_dsa_sha2_keygen(SET, &[0; 47], &mut [0; 64], &mut [0; 32]) == 5);
+}
+
+fn no_evidence() -> CEvidence {
+    CEvidence {
+        kind: 0,
+        layer: 0,
+        index: 0,
+        level: 0,
+    }
+}
+
+#[test]
+fn a_made_signature_is_genuine_and_a_changed_one_invalid(rt: HostRuntime) {
+    let mut evidence = no_evidence();
+    let (_, mut sig) = sign(0, b"", &[4; 16]);
+    assert!(rt; audit(&sig, &mut evidence) == 0);
+    sig[LEN - 1] ^= 1;
+    assert!(rt; audit(&sig, &mut evidence) == 1);
+    assert!(rt; evidence.kind == 0);
+}
+
+fn check(kind: u32) -> u32 {
+    let (_, key, _) = keys();
+    let evidence = CEvidence {
+        kind,
+        ..no_evidence()
+    };
+    slh_dsa_sha2_check_evidence(SET, 0, &key, b"Hello", b"", &[0; LEN], &evidence)
+}
+
+#[test]
+fn evidence_has_six_kinds(rt: HostRuntime) {
+    for kind in 1..7 {
+        assert!(rt; check(kind) != 11);
+    }
+    for kind in [0, 7, u32::MAX] {
+        assert!(rt; check(kind) == 11);
+    }
+}

@@ -1,0 +1,213 @@
+/*
+ * Holds the library to its header: each refusal, what is left unwritten, each mode. It writes
+ * "as the header says", and answers 0. Build it with -fsanitize=address,undefined to see each
+ * access of the C side, and that the library writes no byte beyond a buffer's end.
+ */
+#include <stdio.h>
+#include <stdlib.h>
+#include <string.h>
+
+#include "slh_dsa.h"
+
+static int failures;
+
+static void want(int line, size_t got, size_t wanted)
+{
+    if (got != wanted) {
+        printf("line %d: %zu in place of %zu\n", line, got, wanted);
+        failures++;
+    }
+}
+
+#define WANT(call, wanted) want(__LINE__, (call), (wanted))
+
+/* One set with its key, a message and a context, each in memory of exactly its size. */
+struct bench {
+    uint32_t set;
+    size_t n, sig_bytes;
+    uint8_t *seeds, *key, *public_key, *sig, *rand, *msg, *ctx;
+};
+
+enum { MSG = 100, CTX = 256 };
+
+static uint8_t *filled(size_t bytes)
+{
+    uint8_t *made = malloc(bytes);
+
+    if (made == NULL)
+        abort();
+    memset(made, 0x5a, bytes);
+    return made;
+}
+
+static int is_filled(const uint8_t *at, size_t bytes)
+{
+    while (bytes > 0 && *at == 0x5a)
+        at++, bytes--;
+    return bytes == 0;
+}
+
+static struct bench make_bench(uint32_t set)
+{
+    struct bench b = {.set = set, .n = slh_dsa_sha2_n(set)};
+
+    b.sig_bytes = slh_dsa_sha2_signature_bytes(set);
+    b.seeds = filled(SLH_DSA_SEEDS_BYTES(b.n));
+    b.key = filled(SLH_DSA_SIGNING_KEY_BYTES(b.n));
+    b.public_key = filled(SLH_DSA_VERIFYING_KEY_BYTES(b.n));
+    b.sig = filled(b.sig_bytes);
+    b.rand = filled(SLH_DSA_RANDOMIZER_BYTES(b.n));
+    b.msg = filled(MSG);
+    b.ctx = filled(CTX);
+    return b;
+}
+
+static void free_bench(struct bench *b)
+{
+    uint8_t *all[] = {b->seeds, b->key, b->public_key, b->sig, b->rand, b->msg, b->ctx};
+
+    for (size_t i = 0; i < sizeof all / sizeof all[0]; i++)
+        free(all[i]);
+}
+
+static uint32_t keygen(const struct bench *b, uint32_t set, size_t less_seeds, size_t less_key)
+{
+    return slh_dsa_sha2_keygen(set, b->seeds, 3 * b->n - less_seeds, b->key, 4 * b->n - less_key,
+                               b->public_key, 2 * b->n);
+}
+
+static uint32_t sign(const struct bench *b, uint32_t mode, size_t msg, size_t ctx, size_t rand)
+{
+    return slh_dsa_sha2_sign(b->set, mode, b->key, 4 * b->n, b->msg, msg, b->ctx, ctx, b->rand,
+                             rand, b->sig, b->sig_bytes);
+}
+
+static uint32_t verify(const struct bench *b, uint32_t mode, size_t msg, size_t ctx, size_t sig)
+{
+    return slh_dsa_sha2_verify(b->set, mode, b->public_key, 2 * b->n, b->msg, msg, b->ctx, ctx,
+                               b->sig, sig);
+}
+
+static uint32_t audit(const struct bench *b, uint32_t mode, slh_dsa_evidence *evidence)
+{
+    return slh_dsa_sha2_audit(b->set, mode, b->key, 4 * b->n, b->msg, MSG, b->ctx, 255, b->sig,
+                              b->sig_bytes, evidence);
+}
+
+static uint32_t check(const struct bench *b, uint32_t kind, uint32_t at)
+{
+    slh_dsa_evidence evidence = {kind, at, at, at};
+
+    return slh_dsa_sha2_check_evidence(b->set, SLH_DSA_PURE, b->key, 4 * b->n, b->msg, MSG, b->ctx,
+                                       255, b->sig, b->sig_bytes, &evidence);
+}
+
+static void keys(const struct bench *b)
+{
+    WANT(keygen(b, 0, 0, 0), SLH_DSA_UNKNOWN_SET);
+    WANT(keygen(b, 7, 0, 0), SLH_DSA_UNKNOWN_SET);
+    WANT(keygen(b, b->set, 1, 0), SLH_DSA_LENGTH);
+    WANT(keygen(b, b->set, 3 * b->n, 0), SLH_DSA_LENGTH);
+    WANT(keygen(b, b->set, 0, 1), SLH_DSA_LENGTH);
+    WANT(is_filled(b->key, 4 * b->n) && is_filled(b->public_key, 2 * b->n), 1);
+    WANT(keygen(b, b->set, 0, 0), SLH_DSA_OK);
+    WANT(memcmp(b->key, b->seeds, 3 * b->n) == 0, 1);
+    WANT(memcmp(b->key + 2 * b->n, b->public_key, 2 * b->n) == 0, 1);
+}
+
+static void refused(const struct bench *b)
+{
+    const size_t too_long = ((size_t)1 << 60) + 1;
+
+    WANT(sign(b, 3, MSG, 256, b->n), SLH_DSA_UNKNOWN_MODE);
+    WANT(sign(b, SLH_DSA_PURE, too_long, 256, b->n - 1), SLH_DSA_CONTEXT_TOO_LONG);
+    WANT(sign(b, SLH_DSA_PURE, too_long, 255, b->n - 1), SLH_DSA_RANDOMIZER_LENGTH);
+    WANT(sign(b, SLH_DSA_PURE, too_long, 255, 0), SLH_DSA_RANDOMIZER_LENGTH);
+    WANT(sign(b, SLH_DSA_PURE, too_long, 255, b->n), SLH_DSA_MESSAGE_TOO_LONG);
+    WANT(is_filled(b->sig, b->sig_bytes), 1);
+    WANT(verify(b, 3, MSG, 256, 0), SLH_DSA_UNKNOWN_MODE);
+    WANT(verify(b, SLH_DSA_PURE, too_long, 256, b->sig_bytes - 1), SLH_DSA_LENGTH);
+    WANT(verify(b, SLH_DSA_PURE, too_long, 256, b->sig_bytes), SLH_DSA_CONTEXT_TOO_LONG);
+    WANT(verify(b, SLH_DSA_PURE, too_long, 255, b->sig_bytes), SLH_DSA_MESSAGE_TOO_LONG);
+}
+
+static void signed_in(const struct bench *b, uint32_t mode)
+{
+    slh_dsa_evidence evidence = {77, 77, 77, 77};
+    const size_t sig = b->sig_bytes;
+
+    WANT(sign(b, mode, 0, 0, b->n), SLH_DSA_OK);
+    WANT(verify(b, mode, 0, 0, sig), SLH_DSA_OK);
+    WANT(sign(b, mode, MSG, 255, b->n), SLH_DSA_OK);
+    WANT(verify(b, mode, MSG, 255, sig), SLH_DSA_OK);
+    WANT(verify(b, (mode + 1) % 3, MSG, 255, sig), SLH_DSA_INVALID);
+    WANT(verify(b, mode, MSG - 1, 255, sig), SLH_DSA_INVALID);
+    WANT(verify(b, mode, MSG, 254, sig), SLH_DSA_INVALID);
+    WANT(audit(b, mode, &evidence), SLH_DSA_OK);
+    for (size_t at = 0; at < sig; at += sig / 7) {
+        b->sig[at] ^= 1;
+        WANT(verify(b, mode, MSG, 255, sig), SLH_DSA_INVALID);
+        WANT(audit(b, mode, &evidence), SLH_DSA_INVALID);
+        b->sig[at] ^= 1;
+    }
+    b->key[4 * b->n - 1] ^= 1;
+    WANT(audit(b, mode, &evidence), SLH_DSA_KEY_MISMATCH);
+    b->key[4 * b->n - 1] ^= 1;
+    WANT(evidence.kind, 77);
+}
+
+static void evidences(const struct bench *b)
+{
+    for (uint32_t kind = 0; kind < 9; kind++) {
+        uint32_t wanted = kind >= SLH_DSA_FORS_NODE && kind <= SLH_DSA_EARLY
+                              ? SLH_DSA_NOT_SHOWN
+                              : SLH_DSA_UNKNOWN_EVIDENCE;
+
+        WANT(check(b, kind, 1), wanted);
+        WANT(check(b, kind, UINT32_MAX), wanted);
+    }
+}
+
+#define WANT_SIZES(name) \
+    do { \
+        WANT(slh_dsa_sha2_n(SLH_DSA_SHA2_##name), SLH_DSA_SHA2_##name##_N); \
+        WANT(slh_dsa_sha2_signature_bytes(SLH_DSA_SHA2_##name), \
+             SLH_DSA_SHA2_##name##_SIGNATURE_BYTES); \
+        WANT(SLH_DSA_SHA2_##name##_N <= SLH_DSA_MAX_RANDOMIZER_BYTES, 1); \
+        WANT(SLH_DSA_SHA2_##name##_SIGNATURE_BYTES <= SLH_DSA_MAX_SIGNATURE_BYTES, 1); \
+    } while (0)
+
+static void sizes(void)
+{
+    WANT_SIZES(128S);
+    WANT_SIZES(128F);
+    WANT_SIZES(192S);
+    WANT_SIZES(192F);
+    WANT_SIZES(256S);
+    WANT_SIZES(256F);
+    WANT(slh_dsa_sha2_n(0) == 0 && slh_dsa_sha2_n(7) == 0, 1);
+    WANT(slh_dsa_sha2_signature_bytes(0) == 0 && slh_dsa_sha2_signature_bytes(7) == 0, 1);
+    WANT(SLH_DSA_SEEDS_BYTES(SLH_DSA_MAX_RANDOMIZER_BYTES), SLH_DSA_MAX_SEEDS_BYTES);
+    WANT(SLH_DSA_SIGNING_KEY_BYTES(SLH_DSA_MAX_RANDOMIZER_BYTES), SLH_DSA_MAX_SIGNING_KEY_BYTES);
+    WANT(SLH_DSA_VERIFYING_KEY_BYTES(SLH_DSA_MAX_RANDOMIZER_BYTES),
+         SLH_DSA_MAX_VERIFYING_KEY_BYTES);
+}
+
+int main(void)
+{
+    const uint32_t sets[] = {SLH_DSA_SHA2_128F, SLH_DSA_SHA2_192F, SLH_DSA_SHA2_256F};
+
+    sizes();
+    for (size_t i = 0; i < sizeof sets / sizeof sets[0]; i++) {
+        struct bench b = make_bench(sets[i]);
+
+        keys(&b);
+        refused(&b);
+        for (uint32_t mode = SLH_DSA_PURE; mode <= SLH_DSA_SHA512; mode++)
+            signed_in(&b, mode);
+        evidences(&b);
+        free_bench(&b);
+    }
+    puts(failures == 0 ? "as the header says" : "not as the header says");
+    return failures != 0;
+}
