@@ -1,20 +1,22 @@
+# shellcheck shell=sh
 # What the recipes share: the programs, the commands of bin/, a folder to work in that is removed
 # in the end, and `expect`.
 set -eu
 examples=$(cd "$(dirname "$0")" && pwd)
-case ${SLH_PROGRAM:=$examples/../slh_cli} in
-/*) ;;
-*) SLH_PROGRAM=$PWD/$SLH_PROGRAM ;;
-esac
-case ${SLH_BATCH_PROGRAM:=$examples/../slh_batch_cli} in
-/*) ;;
-*) SLH_BATCH_PROGRAM=$PWD/$SLH_BATCH_PROGRAM ;;
-esac
-case ${SLH_CHAIN_PROGRAM:=$examples/../slh_chain_cli} in
-/*) ;;
-*) SLH_CHAIN_PROGRAM=$PWD/$SLH_CHAIN_PROGRAM ;;
-esac
-export SLH_PROGRAM SLH_BATCH_PROGRAM SLH_CHAIN_PROGRAM
+# absolute FILE: a name that holds in any folder
+absolute() {
+    case $1 in
+    /* | '') echo "$1" ;;
+    *) echo "$PWD/$1" ;;
+    esac
+}
+SLH_PROGRAM=$(absolute "${SLH_PROGRAM:-$examples/../slh_cli}")
+SLH_BATCH_PROGRAM=$(absolute "${SLH_BATCH_PROGRAM:-$examples/../slh_batch_cli}")
+SLH_CHAIN_PROGRAM=$(absolute "${SLH_CHAIN_PROGRAM:-$examples/../slh_chain_cli}")
+SLH_MANIFEST_PROGRAM=$(absolute "${SLH_MANIFEST_PROGRAM:-$examples/../slh_manifest_cli}")
+SLH_RING_PROGRAM=$(absolute "${SLH_RING_PROGRAM:-$examples/../slh_ring_cli}")
+SLH_C_LIBRARY=$(absolute "${SLH_C_LIBRARY:-}")
+export SLH_PROGRAM SLH_BATCH_PROGRAM SLH_CHAIN_PROGRAM SLH_MANIFEST_PROGRAM SLH_RING_PROGRAM
 PATH=$examples/bin:$PATH
 
 work=$(mktemp -d)
@@ -31,6 +33,18 @@ fail() {
 skip() {
     echo "skipped: $*"
     exit 77
+}
+
+# c_library: sets `library` to a folder that has the library for C: SLH_C_LIBRARY, or it is built
+c_library() {
+    command -v "${CC:-cc}" >/dev/null || skip "no ${CC:-cc}"
+    if [ -n "$SLH_C_LIBRARY" ]; then
+        library=$SLH_C_LIBRARY
+        return
+    fi
+    command -v rt >/dev/null || skip 'no rt'
+    library=$work/library
+    "$examples/c/build" "$library"
 }
 
 # expect STATUS OUTPUT COMMAND..: runs a command and shows how it ends, which must be so
