@@ -2,6 +2,9 @@ mod Words
 pub mod Schedule
 pub mod Absorbing
 mod Vectors
+mod EightWords
+mod Windows
+pub mod EightHashes
 mod Keys
 pub mod Digest
 pub mod Expanding

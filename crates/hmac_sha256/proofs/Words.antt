@@ -1,9 +1,12 @@
 -- The words' functions in fewer operations than the standard's, bit by bit.
 use Rattle.std.proofs.Common.{◌≡◌, ℕ, ◌+◌, ◌-◌, ◌*◌, ◌/◌, ◌%◌, ◌^◌, ◌<◌, ◌≤◌, min, max, bit_and, bit_or, bit_xor, refl, sym, ap, ◌∙◌, inl, inr, arith, mod-lt, pow_pos, shr-shr, add-zero}
 use Rattle.std.proofs.lemmas.Bool.{cases_lt}
-use Rattle.std.proofs.lemmas.Nat.{and_le_l, and_le_r, or_lt, shr_le, xor_lt}
-use Rattle.std.proofs.lemmas.Nat.Bits.{bit_at-lt, bit_at-zero, bit_at_above, bit_at_and, bit_at_cat_high, bit_at_cat_low, bit_at_not, bit_at_or, bit_at_xor, same_from_bits, same_from_bits_below}
-use Rattle.std.specs.Int.{bit_at, bit_not, w32}
+use Rattle.std.proofs.lemmas.Nat.{and_le_l, and_le_r, and_mask, or_lt, shr_le, xor_lt}
+use Rattle.std.proofs.lemmas.Nat.Bits.{and_high_mask, bit_at-lt, bit_at-zero, bit_at_above, bit_at_and, bit_at_cat_high, bit_at_cat_low, bit_at_not, bit_at_or, bit_at_xor, same_from_bits, same_from_bits_below}
+use Rattle.std.specs.Int.{bit_at, bit_not, rotate_right, w32}
+use Rattle.std.specs.Int.Bits.{or_shifted_r}
+use Rattle.hmac_sha256.specs.Eight.{front_word, middle_word}
+use Rattle.hmac_sha256.specs.Sha256.{sum32}
 
 chosen_bit : (p q r : ℕ) → p < 2 → q < 2 → r < 2 → (r + min p ((q + r) % 2)) % 2 ≡ (min p q + min (1 - p) r) % 2
 chosen_bit p q r hp hq hr = omega arith
@@ -139,3 +142,21 @@ turned_three x a b c within fits =
       bit_at_turned x (a + b + c) i within fits low,
     )
     (omega arith))
+
+-- the last half of a word, and the first half of the next
+pub halves_meet : (x y : ℕ) → x < 2 ^ 32 → y < 2 ^ 32
+    → rotate_right w32 (sum32 (bit_and x 65535) (bit_and y 4294901760)) 16 ≡ middle_word x y
+halves_meet x y fits other =
+    let low : bit_and x 65535 ≡ x % 2 ^ 16 = and_mask x 16 in
+    let high : bit_and y 4294901760 ≡ y / 2 ^ 16 * 2 ^ 16 = and_high_mask 32 16 (omega arith) y other in
+    let whole : (x % 2 ^ 16 + y / 2 ^ 16 * 2 ^ 16) % 2 ^ 32 ≡ x % 2 ^ 16 + y / 2 ^ 16 * 2 ^ 16 = omega arith in
+    let front : (x % 2 ^ 16 + y / 2 ^ 16 * 2 ^ 16) / 2 ^ 16 ≡ y / 2 ^ 16 = omega arith in
+    let back : (x % 2 ^ 16 + y / 2 ^ 16 * 2 ^ 16) * 2 ^ 16 % 2 ^ 32 ≡ x % 2 ^ 16 * 2 ^ 16 = omega arith in
+    rw (low, high, whole, front, back) (or_shifted_r (x % 2 ^ 16) 16 (y / 2 ^ 16) (omega arith))
+
+-- the first half of a word, and the first half of another
+pub fronts_meet : (x y : ℕ) → x < 2 ^ 32 → y < 2 ^ 32
+    → sum32 (bit_and x 4294901760) (y / 2 ^ 16) ≡ front_word x y
+fronts_meet x y fits other =
+    let high : bit_and x 4294901760 ≡ x / 2 ^ 16 * 2 ^ 16 = and_high_mask 32 16 (omega arith) x fits in
+    rw high (omega arith)

@@ -25,10 +25,12 @@
 
 mod comparison;
 mod compression;
+mod eight;
 mod hashing;
 mod hkdf;
 #[cfg(test)]
 mod hkdf_tests;
+mod lanes;
 pub mod laws;
 mod mac;
 #[cfg(test)]
@@ -40,5 +42,6 @@ mod wrapped_tests;
 
 pub use hashing::{BLOCK_BYTES, Hash, MAX_BYTES, MAX_TAIL};
 pub use hkdf::HKDF;
+pub use lanes::{Eight, Heads};
 pub use mac::HMAC;
 pub use wrapped::WrappedHash;

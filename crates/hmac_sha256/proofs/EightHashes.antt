@@ -1,0 +1,64 @@
+-- The digests of eight messages that end in one block.
+use Rattle.std.proofs.Common.{◌≡◌, ℕ, ◌+◌, ◌-◌, replicate, ◌≤◌, List, ◌++◌, length, length-drop, length-take, drop, take, refl, ap, ◌∙◌, arith, length-append}
+use Rattle.std.proofs.lemmas.List.{length-take-le, take_all, take-append-le}
+use Rattle.std.proofs.lemmas.Slice.{take-put_mid}
+use borrow.Rule.Slice.PartMut.{put_mid}
+use Rattle.hmac_sha256.specs.Eight.{ended_block, head_bytes, lane_bytes, word_in}
+use Rattle.hmac_sha256.specs.Hash.{HasAbsorbed, StandsFor, absorbed_bytes}
+use Rattle.hmac_sha256.specs.Lanes.{variables}
+use Rattle.hmac_sha256.specs.Sha256.{compress, sha256, word_bytes}
+use Rattle.hmac_sha256.specs.declared.hashing.Hash.{Hash}
+use Rattle.hmac_sha256.specs.declared.lanes.Eight.{Eight}
+use Rattle.hmac_sha256.specs.declared.lanes.Heads.{Heads}
+use Rattle.hmac_sha256.proofs.Absorbing.{HasAbsorbed_tail, sha256_in_one_block}
+
+pub length-head_bytes : (heads : Heads) (j : ℕ) → length (head_bytes heads j) ≡ 22
+unfolding head_bytes
+length-head_bytes heads j = refl
+
+pub length-lane_bytes : (values : Eight) (j : ℕ) → length (lane_bytes values j) ≡ 32
+unfolding lane_bytes
+length-lane_bytes values j = refl
+
+-- what is hashed after the first block
+pub length-tail : (heads : Heads) (values : Eight) (n j : ℕ) → n ≤ 32
+    → length (head_bytes heads j ++ take n (lane_bytes values j)) ≡ 22 + n
+length-tail heads values n j small =
+    let all = length-lane_bytes values j in
+    omega (
+      arith,
+      length-append (head_bytes heads j) (take n (lane_bytes values j)),
+      length-head_bytes heads j,
+      length-take-le n (lane_bytes values j) (omega (arith, all)),
+    )
+
+-- the bytes of the words of a digest
+pub digest_of_lane : (hash : Hash) (m : List ℕ) (heads : Heads) (values digests : Eight) (n j : ℕ)
+    → StandsFor hash m → absorbed_bytes hash ≡ 64 → n ≤ 32
+    → variables (λ lanes. word_in lanes j) digests.words
+    ≡ compress hash.state (ended_block (head_bytes heads j ++ take n (lane_bytes values j)) (86 + n))
+    → lane_bytes digests j ≡ sha256 (m ++ (head_bytes heads j ++ take n (lane_bytes values j)))
+unfolding lane_bytes absorbed_bytes
+digest_of_lane hash m heads values digests n j held one small is =
+    let d : List ℕ = head_bytes heads j ++ take n (lane_bytes values j) in
+    let len : length d ≡ 22 + n = length-tail heads values n j small in
+    let after : HasAbsorbed hash.state d (86 + n) (m ++ d) =
+    HasAbsorbed_tail hash m d (86 + n) held (omega arith) (omega arith) (omega arith) in
+    ap word_bytes is ∙ sha256_in_one_block hash.state d (86 + n) (m ++ d) _ after (omega arith) refl
+
+-- both at the front of a block
+pub tail_joined : (heads : Heads) (values : Eight) (n j : ℕ) → n ≤ 32 → (head value : List ℕ)
+    → head ≡ head_bytes heads j
+    → value ≡ take (length (take (22 + n - 22) (drop 22 (head ++ replicate 42 0)))) (lane_bytes values j)
+    → take (22 + n) (put_mid 22 (22 + n - 22) (head ++ replicate 42 0) value) ≡ head_bytes heads j ++ take n (lane_bytes values j)
+tail_joined heads values n j small head value is_head is_value =
+    let all = length-lane_bytes values j in
+    let front : length head ≡ 22 = ap length is_head ∙ length-head_bytes heads j in
+    let zeros : List ℕ = replicate 42 0 in
+    let room : length (take (22 + n - 22) (drop 22 (head ++ zeros))) ≡ n =
+    omega (arith, length-take (22 + n - 22) (drop 22 (head ++ zeros)), length-drop 22 (head ++ zeros), length-append head zeros) in
+    let first : value ≡ take n (lane_bytes values j) = is_value ∙ ap (λ k. take k (lane_bytes values j)) room in
+    let size : length value ≡ n = ap length first ∙ length-take-le n (lane_bytes values j) (omega (arith, all)) in
+    take-put_mid 22 (22 + n - 22) (head ++ zeros) value (22 + n) (omega arith) (omega (arith, length-append head zeros))
+    ∙ ap (λ l. l ++ value) (take-append-le 22 head zeros (omega arith) ∙ take_all 22 head (omega arith))
+    ∙ rw (is_head, first) refl
