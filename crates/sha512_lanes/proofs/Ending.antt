@@ -45,15 +45,15 @@ two_blocks : (ini p : List ℕ) → hash_after ini p 2 ≡ compress (compress in
 unfolding hash_after
 two_blocks ini p = refl
 
-digest_is : (message : List ℕ) → sha512 message ≡ digest_bytes (hash_after initial_hash_512 (padded_message message) (length (padded_message message) / 128)) 8
+pub digest_is : (message : List ℕ) → sha512 message ≡ digest_bytes (hash_after initial_hash_512 (padded_message message) (length (padded_message message) / 128)) 8
 unfolding sha512
 digest_is message = refl
 
 -- the front of a known length, and what follows it
-take_front : (n : ℕ) (xs ys : List ℕ) → length xs ≡ n → take n (xs ++ ys) ≡ xs
+pub take_front : (n : ℕ) (xs ys : List ℕ) → length xs ≡ n → take n (xs ++ ys) ≡ xs
 take_front n xs ys size = rw (← size) (take-append_seam xs ys)
 
-drop_front : (n : ℕ) (xs ys : List ℕ) → length xs ≡ n → drop n (xs ++ ys) ≡ ys
+pub drop_front : (n : ℕ) (xs ys : List ℕ) → length xs ≡ n → drop n (xs ++ ys) ≡ ys
 drop_front n xs ys size = rw (← size) (drop-append_seam xs ys)
 
 -- the digest of a first block and a tail

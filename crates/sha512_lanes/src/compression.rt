@@ -266,7 +266,7 @@ fn four_rounds<W: Word>(v: Variables<W>, words: (W, W, W, W), t: usize) -> Varia
 
 /// The hash value after a block of sixteen words, in each lane.
 #[inline(never)]
-fn compressed<W: Word>(state: Variables<W>, words: Window<W>) -> Variables<W>
+pub(crate) fn compressed<W: Word>(state: Variables<W>, words: Window<W>) -> Variables<W>
     ensures { (j : ℕ) → j < W.lanes → (b : List ℕ)
         → window (λ x. W.lane x j) words ≡ block_words b
         → variables (λ x. W.lane x j) result ≡ compress (variables (λ x. W.lane x j) state) b }
@@ -297,7 +297,7 @@ fn compressed<W: Word>(state: Variables<W>, words: Window<W>) -> Variables<W>
 
 // The words of each block, side by side.
 #[inline(always)]
-fn window_of<W: Word, const N: usize>(blocks: &[[u8; 128]; N]) -> Window<W>
+pub(crate) fn window_of<W: Word, const N: usize>(blocks: &[[u8; 128]; N]) -> Window<W>
     requires count { N ≡ W.lanes }
     requires few { N ≤ 4 }
     ensures { (j : ℕ) → j < W.lanes
@@ -325,7 +325,7 @@ fn window_of<W: Word, const N: usize>(blocks: &[[u8; 128]; N]) -> Window<W>
 
 // The same eight words in each lane.
 #[inline(always)]
-fn spread<W: Word>(words: &[u64; 8]) -> Variables<W>
+pub(crate) fn spread<W: Word>(words: &[u64; 8]) -> Variables<W>
     ensures { (j : ℕ) → j < W.lanes → variables (λ x. W.lane x j) result ≡ words.now }
 {
     Variables {
@@ -342,7 +342,7 @@ fn spread<W: Word>(words: &[u64; 8]) -> Variables<W>
 
 // The eight words of lane `j`.
 #[inline(always)]
-fn row<W: Word>(v: Variables<W>, j: usize) -> [u64; 8]
+pub(crate) fn row<W: Word>(v: Variables<W>, j: usize) -> [u64; 8]
     requires { j < W.lanes }
     ensures { result ≡ variables (λ x. W.lane x j) v }
 {

@@ -88,7 +88,7 @@ fn word_bytes(words: &[u64; 8]) -> [u8; 64]
 
 // The digests that end with these words.
 #[inline(always)]
-fn digests_of<const N: usize>(words: &[[u64; 8]; N]) -> [[u8; 64]; N]
+pub(crate) fn digests_of<const N: usize>(words: &[[u64; 8]; N]) -> [[u8; 64]; N]
     ensures { result ≡ map (λ w. digest_bytes w 8) words.now }
 {
     let mut digests = [[0u8; 64]; N];
@@ -101,7 +101,7 @@ fn digests_of<const N: usize>(words: &[[u64; 8]; N]) -> [[u8; 64]; N]
 /// SHA-512 as it stands after the first block of a message.
 #[derive(Drop)]
 pub struct Midstate {
-    words: [u64; 8],
+    pub(crate) words: [u64; 8],
 }
 
 impl Midstate {

@@ -30,14 +30,17 @@
 //! ```
 //!
 //! A tail comes in a block of its own, of which the first bytes count, as many as the call says: at
-//! most [`MAX_TAIL`], so that the padding fits. The four tails are equally long. No call can fail;
-//! the contracts say that each digest is that of the whole message.
+//! most [`MAX_TAIL`], so that the padding fits. The four tails are equally long. Longer messages,
+//! of at most [`MAX_ROW`] bytes after the first block, are hashed by [`Midstate::finalize_rows`].
+//! No call can fail; the contracts say that each digest is that of the whole message.
 #![tactic(auto)]
 
 mod compression;
 mod hashing;
+mod rows;
 #[cfg(test)]
 mod tests;
 mod word;
 
 pub use hashing::{BLOCK_BYTES, MAX_TAIL, Midstate};
+pub use rows::MAX_ROW;
