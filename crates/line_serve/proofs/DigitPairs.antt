@@ -10,7 +10,7 @@ abbrev pub HasValue : Option ℕ → ℕ → Type 0
 HasValue o v = MatchOption o (v ≡ 16) (λ w. (v ≡ w) × (w < 16))
 
 -- whether an entry of a table is the value of the byte at its place, which computes
-abbrev is_value : ℕ → Option ℕ → Bool
+abbrev pub is_value : ℕ → Option ℕ → Bool
 is_value v (Some w) = v == w && nat_lt w 16
 is_value v None = v == 16
 
@@ -29,7 +29,7 @@ are_values-at t (suc n) k h low =
           rw e parts.0
     ]
 
-has_value : (v : ℕ) (o : Option ℕ) → is_value v o ≡ true → HasValue o v
+pub has_value : (v : ℕ) (o : Option ℕ) → is_value v o ≡ true → HasValue o v
 has_value v (Some w) h =
     let parts = and_parts (v == w) (nat_lt w 16) h in
     (eqb-true v w parts.0, ltb-true w 16 parts.1)

@@ -1,11 +1,12 @@
 //! Answers lines as their bytes come in.
 ghost use Rattle.std.specs.Prelude.{◌≡◌, ◌==◌, ◌^◌, ◌≤◌, ◌++◌, ◌∷◌, [], Option, List, ℕ, length};
-ghost use Rattle.std.specs.Prelude.{position, OnOk, OnErr};
+ghost use Rattle.std.specs.Prelude.{OnOk, OnErr};
 ghost use Rattle.line_serve.specs.Engine.{StandsFor, Takes, GoesOn, Stops, Answered, HaltsFor};
 ghost use Rattle.line_serve.specs.Lines.{HasNoLineFeed, line_feed, reply_to, replies_to, lines};
 
 use crate::bytes::ByteString;
 use crate::pending::Pending;
+use crate::place::first_place;
 use crate::stream::Sink;
 use crate::write::{Halt, flush, flush_long, put};
 use std::alloc::{AllocError, Global};
@@ -62,12 +63,6 @@ fn end_line<R: Replier>(
     Ok(())
 }
 
-fn line_feed_in(bytes: &[u8]) -> Option<usize>
-    ensures { result ≡ position (λ x. x == line_feed) bytes.now }
-{
-    bytes.iter().position(|b| *b == b'\n')
-}
-
 // Takes a piece of the input, and answers each line that it ends. Some replies may wait afterwards.
 fn collect<R: Replier, K: Sink>(
     alloc: Global,
@@ -84,7 +79,7 @@ fn collect<R: Replier, K: Sink>(
     ensures cause { HaltsFor (K.faults sink.old) (K.faults sink.new) result }
 {
     let mut done = 0;
-    while let Some(at) = line_feed_in(&piece[done..]) {
+    while let Some(at) = first_place(b'\n', &piece[done..]) {
         end_line(alloc, replier, pending, &piece[done..done + at], waiting)?;
         flush_long(waiting, sink)?;
         done += at + 1;

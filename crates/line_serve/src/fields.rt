@@ -1,7 +1,7 @@
 //! The fields of a line. One carriage return at the line's end is dropped, and what is left is cut
 //! at its spaces (0x20); parts without bytes are no fields.
 ghost use Rattle.std.specs.Prelude.{◌≡◌, ◌≤◌, ◌++◌, length, take, slice_get, true, false, IfOk};
-ghost use Rattle.std.specs.Prelude.{OnErr, MatchOption};
+ghost use Rattle.std.specs.Prelude.{OnErr, OnOk, MatchOption, ◌==◌, ◌∷◌, [], filter, not};
 ghost use Rattle.std.specs.Option.{option_copied};
 ghost use Rattle.std.specs.Str.Lines.{strip_carriage_return};
 ghost use Rattle.line_serve.specs.Fields.{contents, fields, field_at as spec_field_at};
@@ -9,6 +9,7 @@ ghost use Rattle.line_serve.specs.Fields.{hex_value, is_dash};
 
 use crate::bytes::ByteString;
 use crate::digits::decode;
+use crate::place::first_place;
 use std::alloc::{AllocError, Global};
 
 // The line without one carriage return at its end.
@@ -61,17 +62,30 @@ pub fn cut_fields<'a>(line: &'a [u8], out: &mut [&'a [u8]]) -> usize
     count
 }
 
+// Keeps a part of a line that has bytes.
+#[inline]
+fn keep<'a>(all: &mut Vec<&'a [u8]>, part: &'a [u8]) -> Result<(), AllocError>
+    ensures { OnOk result (contents all.new.items
+        ≡ contents all.old.items ++ filter (λ x. not (length x == 0)) (part.now ∷ [])) }
+{
+    if !part.is_empty() {
+        all.push(part)?;
+    }
+    Ok(())
+}
+
 /// All fields of the line, one after another.
 pub fn all_fields<'a>(alloc: Global, line: &'a [u8]) -> Result<Vec<&'a [u8]>, AllocError>
     ensures { IfOk result (λ all. contents all.items ≡ fields line.now) }
 {
-    let parts = without_return(line)
-        .split(|b| *b == b' ')
-        .filter(|part| !part.is_empty());
+    let text = without_return(line);
     let mut all = Vec::new(alloc);
-    for part in parts {
-        all.push(part)?;
+    let mut done = 0;
+    while let Some(at) = first_place(b' ', &text[done..]) {
+        keep(&mut all, &text[done..done + at])?;
+        done += at + 1;
     }
+    keep(&mut all, &text[done..])?;
     Ok(all)
 }
 

@@ -56,6 +56,7 @@ pub mod laws;
 mod lines;
 mod memory;
 mod pending;
+mod place;
 mod program;
 mod stream;
 #[cfg(test)]

@@ -5,7 +5,7 @@ use Rattle.line_serve.proofs.Runs.{on_then, on_moves, stop_here, stop_breaks, on
 use Rattle.line_serve.proofs.answer.collect.Goals as goal
 
 pub end_line-requires : goal.end_line-requires
-end_line-requires g c = (line_found c.args.piece.now c.loop-at.done c.in-Some.at (sym c.in-Some.ensures)).none
+end_line-requires g c = (line_found c.args.piece.now c.loop-at.done c.in-Some.at (sym c.in-Some.ensures.value)).none
 
 pub returns-in_err-end_line-clause-stops : goal.returns-in_err-end_line-clause-stops
 returns-in_err-end_line-clause-stops g c =
@@ -14,14 +14,14 @@ returns-in_err-end_line-clause-stops g c =
 
 pub returns-in_err-flush_long-clause-stops : goal.returns-in_err-flush_long-clause-stops
 returns-in_err-flush_long-clause-stops g c =
-    let line = line_found c.args.piece.now c.loop-at.done c.in-Some.at (sym c.in-Some.ensures) in
+    let line = line_found c.args.piece.now c.loop-at.done c.in-Some.at (sym c.in-Some.ensures.value) in
     stop_breaks _ _ _ _ _ _ _ _ _
     (stop_here _ _ _ _ _ _ _ _ _ _ (on_then _ _ _ _ _ _ _ _ _ _ _ _ _ c.loop-at.invariant.on (c.in_ok-end_line.ensures.ok _) line.front) (sym (take-append-drop (c.loop-at.done + (c.in-Some.at + 1)) c.args.piece.now)))
     c.in_err-flush_long.ensures.err
 
 pub loop-at-preserved : goal.loop-at-preserved
 loop-at-preserved g c =
-    let line = line_found c.args.piece.now c.loop-at.done c.in-Some.at (sym c.in-Some.ensures) in
+    let line = line_found c.args.piece.now c.loop-at.done c.in-Some.at (sym c.in-Some.ensures.value) in
     record {
       within = line.within;
       on = on_moves _ _ _ _ _ _ _ _ _ _ (on_then _ _ _ _ _ _ _ _ _ _ _ _ _ c.loop-at.invariant.on (c.in_ok-end_line.ensures.ok _) line.front) c.in_ok-flush_long.ensures.ok;
@@ -34,7 +34,7 @@ returns-in_err-extend-clause-stops g c =
 
 pub returns-clause-ok : goal.returns-clause-ok
 returns-clause-ok g c =
-    let none = none_found _ (sym c.in_default.ensures) in
+    let none = none_found _ (sym c.in_default.ensures.value) in
     on_then _ _ _ _ _ _ _ _ _ _ _ _ _ c.loop-at.invariant.on (on_grown _ _ _ _ _ _ none (λ line at. c.in_ok-extend.ensures line at))
     (sym (take-append-drop c.loop-at.done c.args.piece.now) ∙ ap (λ (l : List ℕ). take c.loop-at.done c.args.piece.now ++ l) (sym (to_end c.args.piece.now c.loop-at.done)))
 

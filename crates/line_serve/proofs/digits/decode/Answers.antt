@@ -1,6 +1,7 @@
 use Rattle.std.proofs.Common.{arith, refl, slice_index, ◌∙◌, ◌+◌, ◌*◌}
 use Rattle.hex.proofs.Pairs.{decode_step, decode_done, decode_err, decode_sized-pairs}
 use Rattle.line_serve.proofs.DigitPairs.{pair_read, first_refused, second_refused}
+use Rattle.line_serve.proofs.PairLanes.{all_read}
 use Rattle.line_serve.proofs.digits.decode.Goals as goal
 
 pub returns-then-high-gt15 : goal.returns-then-high-gt15
@@ -31,3 +32,8 @@ pub returns : goal.returns
 returns c =
     let d = decode_sized-pairs _ _ c.if-digits-ne0.false c.if-digits-out.false ∙ decode_done _ c.bytes.out c.bytes.i (omega arith) (omega arith) c.bytes.invariant in
     rw d (refl, refl)
+
+pub bytes-init : goal.bytes-init
+bytes-init c =
+    all_read c.args.digits.now c.decode_blocks-done.new.out c.decode_blocks-done.result
+    (omega (arith, c.if-digits-ne0.false, c.if-digits-out.false)) (omega (arith, c.decode_blocks-done.ensures.bound)) c.decode_blocks-done.ensures.bytes

@@ -1,46 +1,13 @@
-use Rattle.std.proofs.Common.{rules, ◌≡◌, ℕ, ◌+◌, ◌<◌, List, ◌∷◌, [], ◌++◌, length, take, get_or, not, sym, ◌∙◌, ap, arith, Bor}
-use Rattle.std.specs.Bool.{◌==◌}
-use borrow.Author.Tests.{tests}
-use Rattle.std.specs.Str.Lines.{strip_carriage_return}
-use Rattle.std.proofs.lemmas.Iterator.Consumers.{YieldsList-from_filter, YieldsList-turn, YieldsList-end}
-use Rattle.std.proofs.lemmas.Iterator.Splits.{YieldsList-from_slice_split}
-use Rattle.std.proofs.lemmas.List.{map-append, take_all, take_more, length_push}
-use Rattle.line_serve.specs.Fields.{contents, fields, space}
+use Rattle.std.proofs.Common.{arith, length-drop}
+use Rattle.line_serve.proofs.FieldCuts.{cut_last, cut_on}
 use Rattle.line_serve.proofs.fields.all_fields.Goals as goal
 
--- one more field stands at the end
-one_more : (old new : List (Bor (List ℕ))) (all : List (List ℕ)) (count : ℕ) (x : Bor (List ℕ)) → new ≡ old ++ x ∷ [] → count < length all → x.now ≡ get_or all count x.now
-    → contents old ≡ take count all → contents new ≡ take (count + 1) all
-one_more old new all count x pushed some is front =
-    ap contents pushed ∙ map-append (λ field. field.now) old (x ∷ [])
-    ∙ ap (λ (l : List (List ℕ)). l ++ x.now ∷ []) front ∙ ap (λ (f : List ℕ). take count all ++ f ∷ []) is ∙ sym (take_more all count x.now some)
-
-pub loop-part-preserved : goal.loop-part-preserved
-loop-part-preserved c =
-    let all = fields c.args.line.now in
-    let count = length c.loop-part.yielded in
-    let turn =
-    YieldsList-turn
-    (YieldsList-from_filter _ (λ part. not (length part == 0))
-    (YieldsList-from_slice_split _ (λ x. x == space) (strip_carriage_return c.args.line.now) (cc) (cc) (cc) (λ x b q k. search (rules, tests)))
-    c.filter-parts.ensures.closure (λ x r q k. search (rules, tests)))
-    c.loop-part.yielded _ c.loop-part.yielded_by _ _ c.in-Some.part c.in-Some.is c.next.ensures.steps in
-    let pushed = c.in_ok-push.ensures.items in
-    let next : count + 1 ≡ length (c.loop-part.yielded ++ c.in-Some.part ∷ []) = omega (arith, length_push c.loop-part.yielded c.in-Some.part) in
-    let grown = ap length pushed in
-    record {
-      counted = omega (arith, c.loop-part.invariant.counted, grown, next, length_push c.loop-part.all.items c.in-Some.part);
-      front = one_more c.loop-part.all.items c.push.new.self.items all count c.in-Some.part pushed turn.0 turn.1 c.loop-part.invariant.front
-          ∙ ap (λ (n : ℕ). take n all) next;
-    }
+pub loop-at-preserved : goal.loop-at-preserved
+loop-at-preserved c = record {
+  within = omega (arith, c.in-Some.ensures.inside, length-drop c.loop-at.done c.without_return-text.result.now);
+  cut = cut_on _ _ _ c.without_return-text.result.now c.loop-at.done c.in-Some.at c.in-Some.ensures.value c.in_ok-keep.ensures c.loop-at.invariant.cut;
+}
 
 pub returns : goal.returns
 returns c =
-    let end =
-    YieldsList-end
-    (YieldsList-from_filter _ (λ part. not (length part == 0))
-    (YieldsList-from_slice_split _ (λ x. x == space) (strip_carriage_return c.args.line.now) (cc) (cc) (cc) (λ x b q k. search (rules, tests)))
-    c.filter-parts.ensures.closure (λ x r q k. search (rules, tests)))
-    c.loop-part.yielded _ c.loop-part.yielded_by _ _ c.in-None.is c.next.ensures.steps in
-    let all = fields c.args.line.now in
-    c.loop-part.invariant.front ∙ take_all (length c.loop-part.yielded) all (omega (arith, end.1))
+    cut_last _ _ _ c.without_return-text.result.now c.loop-at.done c.in_default.ensures.value c.in_ok-keep-2.ensures c.loop-at.invariant.cut
