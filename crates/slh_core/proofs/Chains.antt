@@ -1,15 +1,16 @@
 -- Chains that go on from their middle, and the signatures made of them.
-use Rattle.std.proofs.Common.{◌≡◌, ℕ, zero, suc, ◌+◌, ◌-◌, ◌*◌, ◌<◌, List, length, min, nat_lt, if◌then◌else◌, arith, ap, sym, refl, ◌∙◌, add-one, add-zero, add-suc, zero-add, inl, inr}
-use Rattle.std.proofs.lemmas.Bool.{cases_lt, le-ltb, lt-ltb}
+use Rattle.std.proofs.Common.{◌≡◌, ◌==◌, ℕ, zero, suc, ◌+◌, ◌-◌, ◌*◌, ◌<◌, ◌≤◌, List, length, nat_lt, if◌then◌else◌, arith, ap, sym, refl, ◌∙◌, add-one, add-zero, add-suc, zero-add, inl, inr}
+use Rattle.std.proofs.lemmas.Bool.{cases_lt, cases_order, eq-eqb, le-ltb, lt-ltb, ne_eqb}
+use Rattle.std.proofs.lemmas.Nat.{mul-le}
 use Rattle.std.specs.Prelude.{slice_index}
 use Rattle.slh_core.specs.Address.{address_bytes, wots_hash_type, wots_pk_type, wots_prf_type}
 use Rattle.slh_core.specs.Bytes.{joined, part}
-use Rattle.slh_core.specs.Wots.{chain, chain_secret, chain_value, wots_pk, chain_values, wots_sig, checked_ends, wots_pk_from_sig}
+use Rattle.slh_core.specs.Wots.{chain, chain_secret, chain_value, value_or, wots_pk, chain_values, wots_sig, checked_ends, wots_pk_from_sig}
 use Rattle.slh_core.specs.Digits.{wots_digits}
 use Rattle.slh_core.specs.Parameters.{chain_count}
 use Rattle.slh_core.specs.Suite.{HasLength, Seeded}
-use Rattle.slh_core.proofs.DigitSteps.{wots_digits_below}
-use Rattle.slh_core.proofs.Joins.{joined_same, length-joined, part-joined}
+use Rattle.slh_core.proofs.DigitSteps.{length-wots_digits, wots_digits_below}
+use Rattle.slh_core.proofs.Joins.{joined_parts, joined_same, length-joined, length-part, part-joined, part-joined_below}
 
 pub chain-add : (K : Seeded) (x : List ℕ) (j t l c i q r : ℕ) → chain K j t l c x i (q + r) ≡ chain K j t l c (chain K j t l c x i q) (i + q) r
 unfolding chain
@@ -90,41 +91,64 @@ module _ (K : Seeded) (sk : List ℕ) (j t l : ℕ) where
       let step : q ≡ 0 + q = omega arith in
       rw (numbered c below, cut, add-one) (ap (λ e. K.suite.f K.seed (address_bytes j t wots_hash_type l c e) (chain_value K sk j t l c q)) step))
 
-  -- after no steps no chain is past its digit
-  pub running_first : (len : ℕ) (w out ends : List ℕ) → ends ≡ joined (λ c. chain_value K sk j t l c 0) len → out ≡ ends
-      → out ≡ joined (λ c. chain_value K sk j t l c (min 0 (slice_index w c))) len
-  running_first len w out ends held same =
-      same ∙ held ∙ joined_same _ _ len (λ c below.
-      let none : 0 ≡ min 0 (slice_index w c) = omega arith in ap (λ q. chain_value K sk j t l c q) none)
+  -- the values at digits below q, where others are parts of old bytes
+  abbrev pub reached : List ℕ → List ℕ → ℕ → ℕ → List ℕ
+  reached old w q c = if nat_lt (slice_index w c) q then chain_value K sk j t l c (slice_index w c) else part K.n old c
 
-  -- one step more for the chains that are not past their digits
-  pub running_next : (len q : ℕ) (w out ends new : List ℕ) → HasLength K.suite K.n
-      → out ≡ joined (λ c. chain_value K sk j t l c (min q (slice_index w c))) len
-      → ends ≡ joined (λ c. chain_value K sk j t l c (q + 1)) len
-      → new ≡ joined (λ c. if nat_lt (slice_index w c) (q + 1) then part K.n out c else part K.n ends c) len
-      → new ≡ joined (λ c. chain_value K sk j t l c (min (q + 1) (slice_index w c))) len
-  running_next len q w out ends new law held on made =
+  length-reached : (len q : ℕ) (old w : List ℕ) (c : ℕ) → HasLength K.suite K.n → length old ≡ len * K.n → c < len → length (reached old w q c) ≡ K.n
+  length-reached len q old w c law size below =
+      let fits : (c + 1) * K.n ≤ len * K.n = mul-le (c + 1) K.n len K.n (omega arith) (omega arith) in
+      elim (cases_lt (slice_index w c) q) [
+        | inl low ↦ rw (lt-ltb (slice_index w c) q low) (length-chain_value K sk j t l c (slice_index w c) law)
+        | inr high ↦ rw (le-ltb (slice_index w c) q high) (length-part K.n c old (omega arith))
+      ]
+
+  -- no digit is reached at first
+  pub reached_none : (len : ℕ) (old w : List ℕ) → length old ≡ len * K.n → old ≡ joined (reached old w 0) len
+  reached_none len old w size =
+      sym (joined_parts K.n len old size) ∙ joined_same _ _ len (λ c below.
+      rw (le-ltb (slice_index w c) 0 (omega arith)) refl)
+
+  -- the values of the chains that a step brings to their digits
+  pub reached_next : (len q : ℕ) (old w out ends new : List ℕ) → HasLength K.suite K.n → length old ≡ len * K.n
+      → out ≡ joined (reached old w q) len
+      → ends ≡ joined (λ c. chain_value K sk j t l c q) len
+      → new ≡ joined (λ c. if slice_index w c == q then part K.n ends c else part K.n out c) len
+      → new ≡ joined (reached old w (q + 1)) len
+  reached_next len q old w out ends new law size held on made =
       made ∙ joined_same _ _ len (λ c below.
       let digit = slice_index w c in
       let value = λ (k : ℕ). chain_value K sk j t l c k in
-      elim (cases_lt digit (q + 1)) [
-        | inl past ↦
-            let sizes : (k : ℕ) → length (chain_value K sk j t l k (min q (slice_index w k))) ≡ K.n = λ k. length-chain_value K sk j t l k (min q (slice_index w k)) law in
-            let cut = ap (λ (xs : List ℕ). part K.n xs c) held ∙ part-joined (λ k. chain_value K sk j t l k (min q (slice_index w k))) K.n len c sizes below in
-            let same : min q digit ≡ min (q + 1) digit = omega arith in
-            rw (lt-ltb digit (q + 1) past) (cut ∙ ap value same)
-        | inr running ↦
-            let sizes : (k : ℕ) → length (chain_value K sk j t l k (q + 1)) ≡ K.n = λ k. length-chain_value K sk j t l k (q + 1) law in
-            let cut = ap (λ (xs : List ℕ). part K.n xs c) on ∙ part-joined (λ k. chain_value K sk j t l k (q + 1)) K.n len c sizes below in
-            let same : q + 1 ≡ min (q + 1) digit = omega arith in
-            rw (le-ltb digit (q + 1) running) (cut ∙ ap value same)
+      let sizes : (k : ℕ) → length (chain_value K sk j t l k q) ≡ K.n = λ k. length-chain_value K sk j t l k q law in
+      let cut : part K.n ends c ≡ value q = ap (λ (xs : List ℕ). part K.n xs c) on ∙ part-joined (λ k. chain_value K sk j t l k q) K.n len c sizes below in
+      let kept : part K.n out c ≡ reached old w q c
+      = ap (λ (xs : List ℕ). part K.n xs c) held
+      ∙ part-joined_below (reached old w q) K.n len c (λ i less. length-reached len q old w i law size less) below in
+      elim (cases_order digit q) [
+        | inl same ↦ rw (eq-eqb digit q same, lt-ltb digit (q + 1) (omega arith)) (cut ∙ ap value (sym same))
+        | inr (inl low) ↦ rw (ne_eqb digit q (omega arith), lt-ltb digit (q + 1) (omega arith)) (kept ∙ rw (lt-ltb digit q low) refl)
+        | inr (inr high) ↦ rw (ne_eqb digit q (omega arith), le-ltb digit (q + 1) (omega arith)) (kept ∙ rw (le-ltb digit q (omega arith)) refl)
       ])
 
-  -- after fifteen steps every chain has stopped at its digit
-  pub running_all : (len : ℕ) (w out : List ℕ) → ((c : ℕ) → c < len → slice_index w c < 16)
-      → out ≡ joined (λ c. chain_value K sk j t l c (min 15 (slice_index w c))) len
-      → out ≡ joined (λ c. chain_value K sk j t l c (slice_index w c)) len
-  running_all len w out small held =
-      held ∙ joined_same _ _ len (λ c below.
-      let fits : slice_index w c < 16 = small c below in
-      let same : min 15 (slice_index w c) ≡ slice_index w c = omega arith in ap (λ q. chain_value K sk j t l c q) same)
+  -- where all are digits no old byte is left
+  pub values_all : (len : ℕ) (old w : List ℕ) → ((c : ℕ) → c < len → slice_index w c < 16)
+      → joined (value_or K sk j t l old w) len ≡ joined (λ c. chain_value K sk j t l c (slice_index w c)) len
+  values_all len old w small = joined_same _ _ len (λ c below. rw (lt-ltb (slice_index w c) 16 (small c below)) refl)
+
+  pub values_signed : (old m : List ℕ) → joined (value_or K sk j t l old (wots_digits K.n m)) (length (wots_digits K.n m)) ≡ wots_sig K sk j t l m
+  unfolding chain_values
+  values_signed old m =
+      rw (length-wots_digits K.n m) (values_all (chain_count K.n) old (wots_digits K.n m) (λ c below. wots_digits_below K.n m c))
+
+  -- and where none is all of them are
+  pub values_none : (len : ℕ) (old w : List ℕ) → length old ≡ len * K.n → ((c : ℕ) → c < len → slice_index w c ≡ 16)
+      → joined (value_or K sk j t l old w) len ≡ old
+  values_none len old w size none =
+      joined_same _ _ len (λ c below. rw (le-ltb (slice_index w c) 16 (omega (arith, none c below))) refl)
+      ∙ joined_parts K.n len old size
+
+  -- the ends of all chains make the public key
+  pub key_of_ends : (len : ℕ) (ends : List ℕ) → len ≡ chain_count K.n → ends ≡ joined (λ c. chain_value K sk j t l c 15) len
+      → K.suite.t K.seed (address_bytes j t wots_pk_type l 0 0) ends ≡ wots_pk K sk j t l
+  unfolding wots_pk
+  key_of_ends len ends count made = rw (made, count) refl

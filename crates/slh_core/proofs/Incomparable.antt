@@ -1,13 +1,12 @@
 -- The digits of two different messages are incomparable: in some place the one is below the other.
-use Rattle.std.proofs.Common.{◌≡◌, ◌≢◌, ◌⊎◌, inl, inr, ℕ, zero, suc, ◌+◌, ◌-◌, ◌*◌, ◌/◌, ◌%◌, ◌^◌, ◌<◌, ◌≤◌, List, [], ◌∷◌, ◌++◌, length, take, get_or, arith, refl, sym, ap, ◌∙◌, sum_by, length-append}
-use Rattle.std.specs.Prelude.{slice_index}
+use Rattle.std.proofs.Common.{◌≡◌, ◌≢◌, ◌⊎◌, inl, inr, ℕ, zero, suc, ◌+◌, ◌-◌, ◌*◌, ◌/◌, ◌%◌, ◌^◌, ◌<◌, ◌≤◌, List, [], ◌∷◌, length, take, get_or, arith, refl, sym, ◌∙◌, sum_by}
 use Rattle.std.proofs.lemmas.Bool.{cases_lt}
-use Rattle.std.proofs.lemmas.List.{get_or_append_left, get_or-append_right, get_or_at, take_all, same_lists, get_or_default}
+use Rattle.std.proofs.lemmas.List.{get_or_append_left, get_or-append_right, same_lists, get_or_default}
 use Rattle.std.proofs.lemmas.List.Sums.{sum_by_push}
 use Rattle.std.proofs.lemmas.Int.Digits.{number_more}
 use Rattle.std.proofs.lemmas.Nat.{shr-shr}
 use Rattle.slh_core.specs.Bytes.{number_of}
-use Rattle.slh_core.specs.Digits.{digit, listed, digits, checksum, wots_digits}
+use Rattle.slh_core.specs.Digits.{digit, listed, digits, wots_digits}
 use Rattle.slh_core.specs.Parameters.{bytes_for, chain_count}
 use Rattle.slh_core.proofs.DigitSteps.{number_front, digits_below, length-listed, listed_at}
 

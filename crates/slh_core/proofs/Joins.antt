@@ -1,7 +1,7 @@
 -- Parts that are joined, and found again.
 use Rattle.std.proofs.Common.{◌≡◌, ℕ, zero, suc, ◌+◌, ◌-◌, ◌*◌, ◌<◌, ◌≤◌, List, ◌++◌, length, take, drop, arith, ap, sym, refl, ◌∙◌, add-one, length-append, take-add, inl, inr}
 use Rattle.std.specs.Prelude.{slice_range}
-use Rattle.std.proofs.lemmas.List.{drop-append-le, drop-drop, take-append-le, length-drop}
+use Rattle.std.proofs.lemmas.List.{drop-append-le, drop-drop, take-append-le, length-drop, length-take, take_all}
 use Rattle.std.proofs.lemmas.Bool.{cases_lt}
 use Rattle.std.proofs.lemmas.Nat.{mul-le}
 use Rattle.std.proofs.Math.Seq.{drop-append_seam, take-append_seam, take-length}
@@ -71,3 +71,37 @@ pub take_part : (n : ℕ) (xs : List ℕ) (c : ℕ) → take ((c + 1) * n) xs �
 take_part n xs c =
     let whole : (c + 1) * n ≡ c * n + ((c + 1) * n - c * n) = omega arith in
     ap (λ k. take k xs) whole ∙ take-add (c * n) ((c + 1) * n - c * n) xs
+
+-- the length of a part; and parts that are joined, where only their own lengths are known
+pub length-part : (n c : ℕ) (xs : List ℕ) → (c + 1) * n ≤ length xs → length (part n xs c) ≡ n
+length-part n c xs fits = omega (arith, length-take ((c + 1) * n - c * n) (drop (c * n) xs), length-drop (c * n) xs)
+
+pub length-joined_below : (f : ℕ → List ℕ) (n k : ℕ) → ((i : ℕ) → i < k → length (f i) ≡ n) → length (joined f k) ≡ k * n
+unfolding joined
+length-joined_below f n zero sizes = omega arith
+length-joined_below f n (suc k) sizes =
+    rw (length-append (joined f k) (f k), length-joined_below f n k (λ i low. sizes i (omega (arith, low))), sizes k (omega arith)) (omega arith)
+
+pub part-joined_below : (f : ℕ → List ℕ) (n k c : ℕ) → ((i : ℕ) → i < k → length (f i) ≡ n) → c < k → part n (joined f k) c ≡ f c
+unfolding joined
+part-joined_below f n zero c sizes below = absurd (omega arith)
+part-joined_below f n (suc k) c sizes below =
+    let inner : (i : ℕ) → i < k → length (f i) ≡ n = λ i low. sizes i (omega (arith, low)) in
+    let size = length-joined_below f n k inner in
+    elim (cases_lt c k) [
+      | inl inside ↦ (let fits : (c + 1) * n ≤ k * n = mul-le (c + 1) n k n (omega arith) (omega arith) in
+          range_left (joined f k) (f k) (c * n) ((c + 1) * n) (omega arith) (omega arith) ∙ part-joined_below f n k c inner inside)
+      | inr past ↦ (let last : c ≡ k = omega arith in
+          rw last (range_right (joined f k) (f k) (k * n) ((k + 1) * n) size (rw (sizes k (omega arith)) (omega arith))))
+    ]
+
+-- all parts of a list, joined
+joined_front : (n k : ℕ) (xs : List ℕ) → joined (part n xs) k ≡ take (k * n) xs
+unfolding joined
+joined_front n zero xs = let none : 0 * n ≡ 0 = omega arith in rw none refl
+joined_front n (suc k) xs =
+    let whole : suc k * n ≡ (k + 1) * n = omega arith in
+    rw (whole, joined_front n k xs) (sym (take_part n xs k))
+
+pub joined_parts : (n k : ℕ) (xs : List ℕ) → length xs ≡ k * n → joined (part n xs) k ≡ xs
+joined_parts n k xs size = joined_front n k xs ∙ take_all (k * n) xs (omega (arith, size))

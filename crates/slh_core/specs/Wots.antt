@@ -1,6 +1,6 @@
 -- Chains of hashes and key pairs (FIPS 205, section 5). K is the suite with its public seed, sk the
 -- secret seed. A key pair stands at layer j, tree t and leaf l, and c is the number of a chain.
-use Rattle.std.specs.Prelude.{ℕ, zero, suc, ◌+◌, ◌-◌, List, slice_index}
+use Rattle.std.specs.Prelude.{ℕ, zero, suc, ◌+◌, ◌-◌, List, nat_lt, slice_index, if◌then◌else◌}
 use Rattle.slh_core.specs.Suite.{Seeded}
 use Rattle.slh_core.specs.Address.{address_bytes, wots_hash_type, wots_pk_type, wots_prf_type}
 use Rattle.slh_core.specs.Bytes.{joined, part}
@@ -32,6 +32,12 @@ module _ (K : Seeded) (sk : List ℕ) (j t l : ℕ) where
   -- each chain as far as its digit says
   unfoldable pub chain_values : List ℕ → List ℕ
   chain_values w = joined (λ c. chain_value c (slice_index w c)) (chain_count K.n)
+
+  -- chain c as far as its digit says; where that is no digit, its part of other bytes
+  abbrev pub value_or : List ℕ → List ℕ → ℕ → List ℕ
+  value_or old w c =
+      let digit = slice_index w c in
+      if nat_lt digit 16 then chain_value c digit else part K.n old c
 
   -- the signature of a message (algorithm 7)
   abbrev pub wots_sig : List ℕ → List ℕ

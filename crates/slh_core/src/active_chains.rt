@@ -11,15 +11,15 @@ use crate::parts::put_part;
 /// The chains of a signature that are under way, in the order of their digits. Their values stand
 /// in that order too, so that each step goes over a row without gaps.
 #[derive(Drop)]
-pub(crate) struct ActiveChains {
-    pub(crate) numbers: [u32; MAX_CHAINS],
-    pub(crate) count: usize,
+pub struct ActiveChains {
+    pub numbers: [u32; MAX_CHAINS],
+    pub count: usize,
     places: [usize; MAX_CHAINS],
 }
 
 impl ActiveChains {
     /// No chain is under way.
-    pub(crate) fn new() -> ActiveChains
+    pub fn new() -> ActiveChains
         ensures active { (digits : List ℕ) → AreActive digits 0 0 result }
         ensures none { result.count ≡ 0 }
     {
@@ -52,7 +52,7 @@ impl ActiveChains {
 
     /// Takes in the chains whose digit is `q`, with their values of `n` bytes from a signature.
     #[tactic(auto, unfolding(crate::specs::Bytes::joined))]
-    pub(crate) fn enter(&mut self, digits: &[u16], q: u16, sig: &[u8], n: usize, values: &mut [u8])
+    pub fn enter(&mut self, digits: &[u16], q: u16, sig: &[u8], n: usize, values: &mut [u8])
         requires small { n ≤ 32 }
         requires few { length digits.now ≤ MAX_CHAINS }
         requires whole { length sig.now ≡ length digits.now * n }
@@ -78,7 +78,7 @@ impl ActiveChains {
 
     /// Writes the values of all chains, in the order of their numbers.
     #[tactic(auto, unfolding(crate::specs::Bytes::joined))]
-    pub(crate) fn write_to(&self, values: &[u8], n: usize, out: &mut [u8])
+    pub fn write_to(&self, values: &[u8], n: usize, out: &mut [u8])
         requires small { n ≤ 32 }
         requires few { self.now.count ≤ MAX_CHAINS }
         requires values { length values.now ≡ MAX_ENDS_LEN }

@@ -117,6 +117,20 @@ impl WotsHash {
         }
     }
 
+    /// The address of step 0 of chain 0 of a key pair of the same tree.
+    #[inline]
+    pub fn at_key_pair(&self, key_pair: u32) -> WotsHash
+        ensures { let a = self.now in
+            result ≡ record a { key_pair_adrs = key_pair; chain_adrs = 0; hash_adrs = 0 } }
+    {
+        WotsHash {
+            layer_adrs: self.layer_adrs,
+            tree_adrs_low: self.tree_adrs_low,
+            key_pair_adrs: key_pair,
+            ..WotsHash::default()
+        }
+    }
+
     /// The address of the secret of chain 0 of this key pair.
     pub fn prf_adrs(&self) -> WotsPrf
         ensures { let a = self.now in

@@ -1,5 +1,5 @@
 //! Digits cut from the bits of a byte string.
-ghost use Rattle.std.specs.Prelude.{◌≡◌, ◌-◌, ◌*◌, ◌^◌, ◌≤◌, ◌<◌, length, take, sum_by};
+ghost use Rattle.std.specs.Prelude.{◌≡◌, ℕ, ◌-◌, ◌*◌, ◌^◌, ◌≤◌, ◌<◌, length, take, sum_by};
 ghost use Rattle.std.specs.Prelude.{slice_index, EachIndex};
 ghost use Rattle.slh_core.specs.Digits.{digits, wots_digits};
 ghost use Rattle.slh_core.specs.Parameters.{chain_count};
@@ -7,6 +7,21 @@ ghost use Rattle.slh_core.specs.Parameters.{chain_count};
 use crate::nbytes::NBytes;
 use crate::params::{MAX_CHAINS, MAX_N};
 use hybrid_array::ArraySize;
+
+/// Stands in the place of a digit where no chain value is asked for: a digit is below 16.
+pub const NO_DIGIT: u16 = 16;
+
+const NO_DIGITS: [u16; MAX_CHAINS] = [NO_DIGIT; MAX_CHAINS];
+
+/// The digits of a key pair that signs nothing.
+#[inline]
+pub fn no_digits(count: usize) -> &'static [u16]
+    requires { count ≤ MAX_CHAINS }
+    ensures len { length result.now ≡ count }
+    ensures none { (c : ℕ) → c < count → slice_index result.now c ≡ 16 }
+{
+    &NO_DIGITS[..count]
+}
 
 /// Cuts the front of `x` into digits of `b` bits, one for each place of `out` (FIPS 205, algorithm
 /// 4).

@@ -34,8 +34,9 @@
 //! many steps they count.
 #![tactic(auto)]
 
-mod active_chains;
+pub mod active_chains;
 pub mod address;
+mod chain_rows;
 pub mod digits;
 pub mod laws;
 pub mod nbytes;

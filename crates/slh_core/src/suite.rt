@@ -1,9 +1,17 @@
 //! What a hash suite is.
-ghost use Rattle.std.specs.Prelude.{◌≡◌, ℕ, ◌+◌, ◌*◌, ◌≤◌, List, ◌++◌, length, slice_index};
+ghost use Rattle.std.specs.Prelude.{◌≡◌, ℕ, ◌+◌, ◌*◌, ◌^◌, ◌≤◌, ◌<◌, List, ◌++◌, length, sum};
+ghost use Rattle.std.specs.Prelude.{slice_index, EachIndex};
+ghost use Rattle.slh_core.specs.Address.{address_bytes, fors_prf_type, fors_tree_type};
 ghost use Rattle.slh_core.specs.Bytes.{joined, part};
+ghost use Rattle.slh_core.specs.Costs.{fors_leaf_cost, wots_pk_cost};
+ghost use Rattle.slh_core.specs.Parameters.{chain_count};
 ghost use Rattle.slh_core.specs.Suite.{Suite, HasLength, HasBytes, HasDigestLength, Seeded, seeded};
+ghost use Rattle.slh_core.specs.Wots.{chain_value, value_or, wots_pk, checked_ends};
 
-use crate::address::{Address, RowAddress};
+use crate::active_chains::ActiveChains;
+use crate::address::{Address, ForsTree, RowAddress, WotsHash};
+use crate::chain_rows::{chain_numbers, copy_reached, first_numbers};
+use crate::digits::no_digits;
 use crate::nbytes::NBytes;
 use crate::params::{MAX_DIGEST_LEN, MAX_ENDS_LEN, MAX_MESSAGE_LEN, MAX_N};
 use crate::parts::{part_of, put_part};
@@ -166,6 +174,169 @@ pub trait HashSuite {
         for (k, number) in numbers.iter().enumerate() {
             let secret = Self::prf_sk(keyed, sk_seed, &adrs.at_number(*number), steps);
             put_part(out, n, k, secret.as_slice());
+        }
+    }
+
+    /// Takes the chains of a key pair from their secrets to their ends, all together. Each chain
+    /// leaves its value at its digit in `sig`, but none at `NO_DIGIT`, where the bytes stay.
+    #[tactic(auto, unfolding(crate::specs::Bytes::joined))]
+    fn run_chains<L: Ledger>(
+        keyed: &Self::Keyed,
+        sk_seed: &NBytes<Self::N>,
+        adrs: &WotsHash,
+        digits: &[u16],
+        sig: &mut [u8],
+        ends: &mut [u8],
+        steps: &mut Steps<L>,
+    )
+        requires small { Self.N.USIZE ≤ MAX_N }
+        requires count { length digits.now ≡ chain_count Self.N.USIZE }
+        requires whole { length sig.old ≡ length digits.now * Self.N.USIZE }
+        requires room { length ends.old ≡ length digits.now * Self.N.USIZE }
+        ensures values { let K = keyed_suite keyed.now in
+            let sk = sk_seed.now in
+            let a = adrs.now in
+            let j = a.layer_adrs in
+            let t = a.tree_adrs_low in
+            let value = value_or K sk j t a.key_pair_adrs sig.old digits.now in
+            sig.new ≡ joined value (length digits.now) }
+        ensures ends { let K = keyed_suite keyed.now in
+            let sk = sk_seed.now in
+            let a = adrs.now in
+            let j = a.layer_adrs in
+            let t = a.tree_adrs_low in
+            let end : ℕ → List ℕ = λ c. chain_value K sk j t a.key_pair_adrs c 15 in
+            ends.new ≡ joined end (length digits.now) }
+        ensures cost { steps.new ≡ steps.old + 16 * length digits.now }
+    {
+        let n = Self::N::USIZE;
+        let all = chain_numbers();
+        let numbers = first_numbers(&all, digits.len());
+        Self::prf_each(keyed, sk_seed, &adrs.prf_adrs(), numbers, ends, steps);
+        copy_reached(digits, 0, n, ends, sig);
+        for q in 0..15u16 {
+            let at = adrs.at_step(0, u32::from(q));
+            Self::f_each(keyed, &at, numbers, ends, steps);
+            copy_reached(digits, q + 1, n, ends, sig);
+        }
+    }
+
+    /// The public keys of eight key pairs of a tree, one after the other from that of an address on
+    /// (FIPS 205, algorithm 6). Number `signer` of them, from 0, leaves the values of its chains at
+    /// digits in `sig`, but none at `NO_DIGIT`, where the bytes stay. A suite may make the eight
+    /// side by side.
+    #[tactic(auto, unfolding(crate::specs::Bytes::joined))]
+    fn pairs_eight<L: Ledger>(
+        keyed: &Self::Keyed,
+        sk_seed: &NBytes<Self::N>,
+        adrs: &WotsHash,
+        signer: usize,
+        digits: &[u16],
+        sig: &mut [u8],
+        out: &mut [u8],
+        steps: &mut Steps<L>,
+    )
+        requires small { Self.N.USIZE ≤ MAX_N }
+        requires signer { signer < 8 }
+        requires inside { adrs.now.key_pair_adrs + 8 ≤ 2 ^ 32 }
+        requires count { length digits.now ≡ chain_count Self.N.USIZE }
+        requires whole { length sig.old ≡ length digits.now * Self.N.USIZE }
+        requires room { length out.old ≡ 8 * Self.N.USIZE }
+        ensures keys { let K = keyed_suite keyed.now in
+            let a = adrs.now in
+            let key = wots_pk K sk_seed.now a.layer_adrs a.tree_adrs_low in
+            out.new ≡ joined (λ k. key (a.key_pair_adrs + k)) 8 }
+        ensures values { let K = keyed_suite keyed.now in
+            let sk = sk_seed.now in
+            let a = adrs.now in
+            let j = a.layer_adrs in
+            let t = a.tree_adrs_low in
+            let value = value_or K sk j t (a.key_pair_adrs + signer) sig.old digits.now in
+            sig.new ≡ joined value (length digits.now) }
+        ensures cost { steps.new ≡ steps.old + 8 * wots_pk_cost (length digits.now) }
+    {
+        let n = Self::N::USIZE;
+        let none = no_digits(digits.len());
+        let mut store = [0u8; MAX_ENDS_LEN];
+        let ends = &mut store[..digits.len() * n];
+        for k in 0..8 {
+            let at = adrs.at_key_pair(adrs.key_pair_adrs + k as u32);
+            let asked = if k == signer { digits } else { none };
+            Self::run_chains(keyed, sk_seed, &at, asked, sig, ends, steps);
+            let key = Self::t(keyed, &at.pk_adrs(), ends, steps);
+            put_part(out, n, k, key.as_slice());
+        }
+    }
+
+    /// Takes the chain values of a signature, which belong to digits, to the ends of their chains.
+    /// A suite may take several on side by side.
+    #[tactic(auto, unfolding(crate::specs::Wots::checked_ends))]
+    fn finish_each<L: Ledger>(
+        keyed: &Self::Keyed,
+        digits: &[u16],
+        sig: &[u8],
+        adrs: &WotsHash,
+        out: &mut [u8],
+        steps: &mut Steps<L>,
+    )
+        requires small { Self.N.USIZE ≤ MAX_N }
+        requires count { length digits.now ≡ chain_count Self.N.USIZE }
+        requires below { EachIndex digits.now (λ k. slice_index digits.now k < 16) }
+        requires whole { length sig.now ≡ length digits.now * Self.N.USIZE }
+        requires room { length out.old ≡ length digits.now * Self.N.USIZE }
+        ensures value { let K = keyed_suite keyed.now in
+            let a = adrs.now in
+            let j = a.layer_adrs in
+            let t = a.tree_adrs_low in
+            out.new ≡ checked_ends K j t a.key_pair_adrs sig.now digits.now }
+        ensures cost { steps.new + sum digits.now ≡ steps.old + 15 * length digits.now }
+    {
+        let n = Self::N::USIZE;
+        let mut active = ActiveChains::new();
+        let mut values = [0u8; MAX_ENDS_LEN];
+        for q in 0..15u16 {
+            active.enter(digits, q, sig, n, &mut values);
+            let count = active.count;
+            let at = adrs.at_step(0, u32::from(q));
+            let row = &mut values[..count * n];
+            Self::f_each(keyed, &at, &active.numbers[..count], row, steps);
+        }
+        active.enter(digits, 15, sig, n, &mut values);
+        active.write_to(&values, n, out);
+    }
+
+    /// Eight leaves of a forest, from the index `first` on: F of their secrets. A suite may make
+    /// them side by side.
+    #[tactic(auto, unfolding(crate::specs::Bytes::joined))]
+    fn leaves_eight<L: Ledger>(
+        keyed: &Self::Keyed,
+        sk_seed: &NBytes<Self::N>,
+        adrs: &ForsTree,
+        first: u32,
+        out: &mut [u8],
+        steps: &mut Steps<L>,
+    )
+        requires small { Self.N.USIZE ≤ MAX_N }
+        requires inside { first + 8 ≤ 2 ^ 32 }
+        requires room { length out.old ≡ 8 * Self.N.USIZE }
+        ensures value { let K = keyed_suite keyed.now in
+            let t = adrs.now.tree_adrs_low in
+            let l = adrs.now.key_pair_adrs in
+            let secret : ℕ → List ℕ = λ i.
+            K.suite.prf K.seed (address_bytes 0 t fors_prf_type l 0 i) sk_seed.now in
+            let leaf : ℕ → List ℕ = λ i.
+            K.suite.f K.seed (address_bytes 0 t fors_tree_type l 0 i) (secret i) in
+            out.new ≡ joined (λ k. leaf (first + k)) 8 }
+        ensures cost { steps.new ≡ steps.old + 8 * fors_leaf_cost }
+    {
+        let n = Self::N::USIZE;
+        let forest = ForsTree::new(adrs.tree_adrs_low, adrs.key_pair_adrs);
+        let secrets = forest.prf_adrs();
+        for k in 0..8 {
+            let i = first + k as u32;
+            let secret = Self::prf_sk(keyed, sk_seed, &secrets.at_number(i), steps);
+            let leaf = Self::f(keyed, &forest.at_number(i), &secret, steps);
+            put_part(out, n, k, leaf.as_slice());
         }
     }
 

@@ -9,12 +9,12 @@ ghost use Rattle.slh_core.specs.Wots.{checked_ends, wots_pk_from_sig as spec_wot
 ghost use Rattle.slh_core.specs.Digits.{wots_digits};
 ghost use Rattle.slh_core.specs.Parameters.{chain_count};
 
-use crate::active_chains::ActiveChains;
 use crate::address::{WotsHash, WotsPrf};
+use crate::chain_rows::{chain_numbers, first_numbers};
 use crate::digits::message_digits;
 use crate::nbytes::NBytes;
-use crate::params::{MAX_CHAINS, MAX_ENDS_LEN, WotsParams, chain_sizes};
-use crate::parts::{part_of, put_part};
+use crate::params::{MAX_ENDS_LEN, WotsParams, chain_sizes};
+use crate::parts::put_part;
 use crate::steps::Steps;
 use hybrid_array::ArraySize;
 use std::sync::ledger::Ledger;
@@ -65,28 +65,6 @@ pub fn own_chain<P: WotsParams, L: Ledger>(
     };
     let secret = P::prf_sk(keyed, sk_seed, &secret_at, steps);
     wots_chain::<P, L>(&secret, 0, q, keyed, &adrs.at_step(c, 0), steps)
-}
-
-/// The numbers of all chains, from 0 on.
-fn chain_numbers() -> [u32; MAX_CHAINS]
-    ensures { (c : ℕ) → c < MAX_CHAINS → slice_index result c ≡ c }
-{
-    let mut numbers = [0u32; MAX_CHAINS];
-    for c in 0..MAX_CHAINS {
-        numbers[c] = c as u32;
-    }
-    numbers
-}
-
-/// The first of these numbers.
-#[inline]
-fn first_numbers(all: &[u32; MAX_CHAINS], count: usize) -> &[u32]
-    requires numbered { (c : ℕ) → c < MAX_CHAINS → slice_index all.now c ≡ c }
-    requires few { count ≤ MAX_CHAINS }
-    ensures len { length result.now ≡ count }
-    ensures numbered { (c : ℕ) → c < count → slice_index result.now c ≡ c }
-{
-    &all[..count]
 }
 
 /// Writes the ends of a key pair's chains, which are all taken on together, step by step.
@@ -188,7 +166,7 @@ fn write_chains<P: WotsParams, L: Ledger>(
 
 /// Writes the signature of a message, and answers the public key: each chain is taken to its digit,
 /// and on from there to its end.
-#[tactic(auto, using(crate::proofs::DigitSteps::wots_digits_below), unfolding(crate::specs::Wots::wots_pk))]
+#[tactic(auto, unfolding(crate::specs::Wots::wots_pk))]
 pub fn wots_sign_leaf<P: WotsParams, L: Ledger>(
     m: &NBytes<P::N>,
     sk_seed: &NBytes<P::N>,
@@ -211,74 +189,9 @@ pub fn wots_sign_leaf<P: WotsParams, L: Ledger>(
     let size = len * P::N::USIZE;
     let all = message_digits(m);
     let mut ends = [0u8; MAX_ENDS_LEN];
-    write_both::<P, L>(
-        &all[..len],
-        sk_seed,
-        keyed,
-        adrs,
-        out,
-        &mut ends[..size],
-        steps,
-    );
+    let digits = &all[..len];
+    P::run_chains(keyed, sk_seed, adrs, digits, out, &mut ends[..size], steps);
     P::t(keyed, &adrs.pk_adrs(), &ends[..size], steps)
-}
-
-// Copies the values of the chains that are not yet past their digits after `q` steps. The other
-// values stay.
-#[tactic(auto, unfolding(crate::specs::Bytes::joined))]
-fn copy_running(digits: &[u16], q: u16, n: usize, values: &[u8], out: &mut [u8])
-    requires whole { length values.now ≡ length digits.now * n }
-    requires room { length out.old ≡ length digits.now * n }
-    ensures { let is_past = λ (c : ℕ). nat_lt (slice_index digits.now c) q in
-        let current : ℕ → List ℕ = λ c.
-        if is_past c then part n out.old c else part n values.now c in
-        out.new ≡ joined current (length digits.now) }
-{
-    for (c, digit) in digits.iter().enumerate() {
-        if q <= *digit {
-            put_part(out, n, c, &values[c * n..c * n + n]);
-        }
-    }
-}
-
-/// Writes the chain values that belong to digits, and the ends of the chains. The chains are all
-/// taken on together, and each leaves its value where its digit says.
-#[tactic(auto, unfolding(crate::specs::Wots::chain_values))]
-fn write_both<P: WotsParams, L: Ledger>(
-    digits: &[u16],
-    sk_seed: &NBytes<P::N>,
-    keyed: &P::Keyed,
-    adrs: &WotsHash,
-    out: &mut [u8],
-    ends: &mut [u8],
-    steps: &mut Steps<L>,
-)
-    requires n { P.N.USIZE ≤ 32 }
-    requires count { length digits.now ≡ chain_count P.N.USIZE }
-    requires below { EachIndex digits.now (λ k. slice_index digits.now k < 16) }
-    requires room { length out.old ≡ length digits.now * P.N.USIZE }
-    requires ends_room { length ends.old ≡ length digits.now * P.N.USIZE }
-    ensures value { let K = P.keyed_suite keyed.now in
-        let sk = sk_seed.now in
-        let a = adrs.now in
-        out.new ≡ chain_values K sk a.layer_adrs a.tree_adrs_low a.key_pair_adrs digits.now }
-    ensures ends { let K = P.keyed_suite keyed.now in
-        let sk = sk_seed.now in
-        let a = adrs.now in
-        let j = a.layer_adrs in
-        let t = a.tree_adrs_low in
-        ends.new ≡ joined (λ c. chain_value K sk j t a.key_pair_adrs c 15) (length digits.now) }
-    ensures cost { steps.new ≡ steps.old + 16 * length digits.now }
-{
-    let n = P::N::USIZE;
-    let all = chain_numbers();
-    let numbers = first_numbers(&all, digits.len());
-    P::prf_each(keyed, sk_seed, &adrs.prf_adrs(), numbers, ends, steps);
-    out.copy_from_slice(ends);
-    for q in 0..15u16 {
-        P::f_each(keyed, &adrs.at_step(0, u32::from(q)), numbers, ends, steps);
-        copy_running(digits, q + 1, n, ends, out);
-    }
 }
 
 /// The public key that the signature of a message leads to (FIPS 205, algorithm 8).
@@ -304,13 +217,11 @@ pub fn wots_pk_from_sig<P: WotsParams, L: Ledger>(
     let size = len * P::N::USIZE;
     let all = message_digits(m);
     let mut ends = [0u8; MAX_ENDS_LEN];
-    finish_chains::<P, L>(&all[..len], sig, keyed, adrs, &mut ends[..size], steps);
+    P::finish_each(keyed, &all[..len], sig, adrs, &mut ends[..size], steps);
     P::t(keyed, &adrs.pk_adrs(), &ends[..size], steps)
 }
 
-/// Takes the chain values that belong to digits to their ends. The chains that are under way at a
-/// step are a row.
-#[tactic(auto, unfolding(crate::specs::Wots::checked_ends))]
+/// Takes the chain values that belong to digits to their ends.
 pub fn finish_chains<P: WotsParams, L: Ledger>(
     digits: &[u16],
     sig: &[u8],
@@ -329,16 +240,5 @@ pub fn finish_chains<P: WotsParams, L: Ledger>(
         out.new ≡ checked_ends K a.layer_adrs a.tree_adrs_low a.key_pair_adrs sig.now digits.now }
     ensures cost { steps.new + sum digits.now ≡ steps.old + 15 * length digits.now }
 {
-    let n = P::N::USIZE;
-    let mut active = ActiveChains::new();
-    let mut values = [0u8; MAX_ENDS_LEN];
-    for q in 0..15u16 {
-        active.enter(digits, q, sig, n, &mut values);
-        let count = active.count;
-        let at = adrs.at_step(0, u32::from(q));
-        let row = &mut values[..count * n];
-        P::f_each(keyed, &at, &active.numbers[..count], row, steps);
-    }
-    active.enter(digits, 15, sig, n, &mut values);
-    active.write_to(&values, n, out);
+    P::finish_each(keyed, digits, sig, adrs, out, steps);
 }

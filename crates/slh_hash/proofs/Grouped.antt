@@ -36,7 +36,7 @@ length-group n d r nums xs whole within =
     size ∙ ap (λ k. k * n) (sym group)
 
 -- the first parts, and then the others
-joined_add : (f : ℕ → List ℕ) (k r : ℕ) → joined f (k + r) ≡ joined f k ++ joined (λ i. f (k + i)) r
+pub joined_add : (f : ℕ → List ℕ) (k r : ℕ) → joined f (k + r) ≡ joined f k ++ joined (λ i. f (k + i)) r
 unfolding joined
 joined_add f k zero = rw (add-zero, append-nil) refl
 joined_add f k (suc r) = rw (add-suc, joined_add f k r, append_assoc) refl
@@ -53,7 +53,7 @@ group_more f n d r cur made fits front size is =
     ∙ sym (joined_add f d r)
 
 -- a part of a group is a part of the whole
-part_of_group : (n d r i : ℕ) (cur whole : List ℕ) → i < r → drop (d * n) cur ≡ drop (d * n) whole
+pub part_of_group : (n d r i : ℕ) (cur whole : List ℕ) → i < r → drop (d * n) cur ≡ drop (d * n) whole
     → part n (slice_range cur (d * n) ((d + r) * n)) i ≡ part n whole (d + i)
 part_of_group n d r i cur whole below same =
     let within : (i + 1) * n ≤ r * n = mul-le (i + 1) n r n (omega arith) (omega arith) in
@@ -70,7 +70,7 @@ part_of_group n d r i cur whole below same =
     ∙ rw (wide, place) refl
 
 -- and a number of a group is a number of the whole row
-number_of_group : (d r i : ℕ) (nums : List ℕ) → i < r
+pub number_of_group : (d r i : ℕ) (nums : List ℕ) → i < r
     → slice_index (slice_range nums d (d + r)) i ≡ slice_index nums (d + i)
 number_of_group d r i nums below =
     get_or-take (d + r - d) (drop d nums) i 0 (omega arith) ∙ get_or-drop d nums i 0

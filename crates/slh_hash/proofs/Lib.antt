@@ -1,4 +1,7 @@
 mod Grouped
 mod Pieces
 mod Started
+pub mod PairRows
+mod ChainEnds
 mod CountedHashes
+pub mod WideMessages

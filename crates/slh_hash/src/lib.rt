@@ -40,10 +40,12 @@
 //! `sha2_category_1` and `sha2_category_3_5`, by those of SHA-256, SHA-512, HMAC and MGF1.
 #![tactic(auto)]
 
+mod chain_ends;
 mod join;
 mod keyed;
 mod mac;
 mod mgf1;
+mod pairs;
 mod rows;
 #[cfg(test)]
 mod rows_tests;
@@ -57,6 +59,7 @@ mod tests;
 #[cfg(test)]
 mod tests_35;
 mod tweaked;
+mod wide_pairs;
 mod wide_rows;
 
 pub use keyed::{Sha2Keyed, Sha2Keyed512};

@@ -6,15 +6,17 @@ ghost use Rattle.slh_hash.specs.Sha2.{sha2_category_1};
 ghost use Rattle.slh_hash.specs.Lengths.{sha2_category_1_lengths, sha2_category_1_digest_length};
 ghost use Rattle.slh_hash.specs.ValueBytes.{sha2_category_1_bytes};
 
+use crate::chain_ends::finish_eight;
 use crate::join::{put_three, put_two};
 use crate::keyed::Sha2Keyed;
 use crate::mgf1::mgf1_256;
+use crate::pairs::{EIGHT_ENDS_LEN, eight_leaves, keys_of_ends, run_eight};
 use crate::rows::{hash_each, hash_pairs, repeat};
 use crate::tweaked::{long_hash, short_hash, start};
 use digest_core::{FixedOutput, Update};
 use hmac_sha256::{HMAC, Hash, WrappedHash};
 use hybrid_array::ArraySize;
-use slh_core::address::{Address, RowAddress};
+use slh_core::address::{Address, ForsTree, RowAddress, WotsHash};
 use slh_core::nbytes::NBytes;
 use slh_core::params::MAX_MESSAGE_LEN;
 use slh_core::steps::Steps;
@@ -124,6 +126,45 @@ impl<N: ArraySize, M: ArraySize> HashSuite for Sha2L1<N, M> {
     ) {
         repeat(sk_seed, numbers.len(), out);
         hash_each(keyed, adrs, numbers, out, steps);
+    }
+
+    fn pairs_eight<L: Ledger>(
+        keyed: &Sha2Keyed<N>,
+        sk_seed: &NBytes<N>,
+        adrs: &WotsHash,
+        signer: usize,
+        digits: &[u16],
+        sig: &mut [u8],
+        out: &mut [u8],
+        steps: &mut Steps<L>,
+    ) {
+        let count = digits.len();
+        let mut store = [0u8; EIGHT_ENDS_LEN];
+        let ends = &mut store[..8 * count * N::USIZE];
+        run_eight(keyed, sk_seed, adrs, signer, digits, sig, ends, steps);
+        keys_of_ends(keyed, adrs, ends, count, out, steps);
+    }
+
+    fn finish_each<L: Ledger>(
+        keyed: &Sha2Keyed<N>,
+        digits: &[u16],
+        sig: &[u8],
+        adrs: &WotsHash,
+        out: &mut [u8],
+        steps: &mut Steps<L>,
+    ) {
+        finish_eight(keyed, digits, sig, adrs, out, steps);
+    }
+
+    fn leaves_eight<L: Ledger>(
+        keyed: &Sha2Keyed<N>,
+        sk_seed: &NBytes<N>,
+        adrs: &ForsTree,
+        first: u32,
+        out: &mut [u8],
+        steps: &mut Steps<L>,
+    ) {
+        eight_leaves(keyed, sk_seed, adrs, first, out, steps);
     }
 
     fn prf_msg(

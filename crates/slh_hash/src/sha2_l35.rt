@@ -7,16 +7,19 @@ ghost use Rattle.slh_hash.specs.Lengths.{sha2_category_3_5_lengths};
 ghost use Rattle.slh_hash.specs.Lengths.{sha2_category_3_5_digest_length};
 ghost use Rattle.slh_hash.specs.ValueBytes.{sha2_category_3_5_bytes};
 
+use crate::chain_ends::finish_eight;
 use crate::join::{put_three, put_two};
 use crate::keyed::Sha2Keyed512;
 use crate::mac::hmac_sha512;
 use crate::mgf1::mgf1_512;
+use crate::pairs::{EIGHT_ENDS_LEN, eight_leaves, run_eight};
 use crate::rows::{hash_each, repeat};
 use crate::tweaked::{short_hash, start_35, wide_hash};
+use crate::wide_pairs::wide_keys_of_ends;
 use crate::wide_rows::hash_wide_pairs;
 use hybrid_array::ArraySize;
 use sha2::{Digest, Sha512};
-use slh_core::address::{Address, RowAddress};
+use slh_core::address::{Address, ForsTree, RowAddress, WotsHash};
 use slh_core::nbytes::NBytes;
 use slh_core::steps::Steps;
 use slh_core::suite::HashSuite;
@@ -125,6 +128,54 @@ impl<N: ArraySize, M: ArraySize> HashSuite for Sha2L35<N, M> {
     ) {
         repeat(sk_seed, numbers.len(), out);
         hash_each(&keyed.keyed, adrs, numbers, out, steps);
+    }
+
+    fn pairs_eight<L: Ledger>(
+        keyed: &Sha2Keyed512<N>,
+        sk_seed: &NBytes<N>,
+        adrs: &WotsHash,
+        signer: usize,
+        digits: &[u16],
+        sig: &mut [u8],
+        out: &mut [u8],
+        steps: &mut Steps<L>,
+    ) {
+        let count = digits.len();
+        let mut store = [0u8; EIGHT_ENDS_LEN];
+        let ends = &mut store[..8 * count * N::USIZE];
+        run_eight(
+            &keyed.keyed,
+            sk_seed,
+            adrs,
+            signer,
+            digits,
+            sig,
+            ends,
+            steps,
+        );
+        wide_keys_of_ends(keyed, adrs, ends, count, out, steps);
+    }
+
+    fn finish_each<L: Ledger>(
+        keyed: &Sha2Keyed512<N>,
+        digits: &[u16],
+        sig: &[u8],
+        adrs: &WotsHash,
+        out: &mut [u8],
+        steps: &mut Steps<L>,
+    ) {
+        finish_eight(&keyed.keyed, digits, sig, adrs, out, steps);
+    }
+
+    fn leaves_eight<L: Ledger>(
+        keyed: &Sha2Keyed512<N>,
+        sk_seed: &NBytes<N>,
+        adrs: &ForsTree,
+        first: u32,
+        out: &mut [u8],
+        steps: &mut Steps<L>,
+    ) {
+        eight_leaves(&keyed.keyed, sk_seed, adrs, first, out, steps);
     }
 
     fn prf_msg(

@@ -37,3 +37,14 @@ in_all_trees k x y z e = rw e (omega arith)
 pub fors_pk_cost-signed : (k a : ℕ) → fors_sign_cost k a + fors_pk_from_sig_cost k a ≡ fors_pk_cost k a
 fors_pk_cost-signed k a =
     in_all_trees k (auth_path_cost fors_leaf_cost a) a (fors_node_cost a) (omega (arith, node_cost-path fors_leaf_cost a))
+
+-- rows in eights, and a row and what is left of it
+pub eight_more : (s g x : ℕ) → s + 8 * g * x + 8 * x ≡ s + 8 * (g + 1) * x
+eight_more s g x = omega arith
+
+pub rows_cost : (s a b x count : ℕ) → count ≡ a + b → s + a * x + b * x ≡ s + count * x
+rows_cost s a b x count whole = rw whole (omega arith)
+
+-- all leaves of a tree, and a step for each node above them
+pub node_cost-leaves : (s leaf z made hashed : ℕ) → made ≡ s + 2 ^ z * leaf → hashed + 1 ≡ made + 2 ^ z → hashed ≡ s + node_cost leaf z
+node_cost-leaves s leaf z made hashed first above = omega (arith, node_cost-whole leaf z, first, above)

@@ -1,9 +1,10 @@
 -- Rows of leaves, and rows of the nodes above them.
-use Rattle.std.proofs.Common.{◌≡◌, ℕ, ◌+◌, ◌*◌, ◌<◌, ◌≤◌, List, ◌++◌, length, take, drop, arith, ap, sym, refl, ◌∙◌, add-one}
+use Rattle.std.proofs.Common.{◌≡◌, ℕ, zero, suc, ◌+◌, ◌*◌, ◌/◌, ◌<◌, ◌≤◌, List, ◌++◌, length, take, drop, arith, ap, sym, refl, ◌∙◌, add-one, add-suc, add-zero, append_assoc}
+use Rattle.std.proofs.lemmas.List.{append-nil}
 use Rattle.std.proofs.lemmas.List.{take-append-drop, length-take-le}
 use Rattle.std.proofs.lemmas.Nat.{mul-le}
-use Rattle.slh_core.specs.Bytes.{part}
-use Rattle.slh_core.proofs.Joins.{range_left}
+use Rattle.slh_core.specs.Bytes.{joined, part}
+use Rattle.slh_core.proofs.Joins.{joined_same, range_left}
 use Rattle.slh_core.specs.Suite.{Seeded}
 use Rattle.slh_trees.specs.Merkle.{Place, node_bytes, merkle}
 
@@ -25,3 +26,32 @@ pub part_of_front : (n count k : ℕ) (xs : List ℕ) → k < count → count * 
 part_of_front n count k xs below fits =
     sym (part_front n count k (take (count * n) xs) (drop (count * n) xs) (length-take-le (count * n) xs fits) below)
     ∙ ap (λ ys. part n ys k) (take-append-drop (count * n) xs)
+
+-- the node above a pair of a row of all nodes at a height
+pub parent_of : (K : Seeded) (B : Place) (leaves : ℕ → List ℕ) (h k : ℕ) → K.suite.h K.seed (node_bytes B (h + 1) (0 + k)) (merkle K B leaves h (2 * k)) (merkle K B leaves h (2 * k + 1)) ≡ merkle K B leaves (h + 1) k
+unfolding merkle
+parent_of K B leaves h k =
+    let same : 0 + k ≡ k = omega arith in
+    rw (same, add-one) refl
+
+-- rows that stand one after the other are one row
+pub joined-add : (f : ℕ → List ℕ) (a b : ℕ) → joined f (a + b) ≡ joined f a ++ joined (λ k. f (a + k)) b
+unfolding joined
+joined-add f a zero = rw (add-zero, append-nil) refl
+joined-add f a (suc b) = rw (add-suc, joined-add f a b, append_assoc) refl
+
+pub rows_joined : (leaf : ℕ → List ℕ) (first a b count : ℕ) → count ≡ a + b
+    → joined (λ k. leaf (first + k)) a ++ joined (λ k. leaf (first + a + k)) b ≡ joined (λ k. leaf (first + k)) count
+rows_joined leaf first a b count whole =
+    let next : joined (λ k. leaf (first + a + k)) b ≡ joined (λ k. leaf (first + (a + k))) b
+    = joined_same _ _ b (λ k below. let place : first + a + k ≡ first + (a + k) = omega arith in ap leaf place) in
+    rw (whole, next) (sym (joined-add (λ k. leaf (first + k)) a b))
+
+-- eights of a row and what is left of it
+pub eights_fit : (count n : ℕ) → count / 8 * (8 * n) ≤ count * n
+eights_fit count n =
+    let whole : count / 8 * (8 * n) ≡ (count / 8 * 8) * n = omega arith in
+    rw whole (mul-le (count / 8 * 8) n count n (omega arith) (omega arith))
+
+pub in_eights : (count q r n : ℕ) → count ≡ 8 * q + r → count * n ≡ q * (8 * n) + r * n
+in_eights count q r n parts = rw parts (omega arith)

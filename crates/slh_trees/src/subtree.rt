@@ -2,14 +2,14 @@
 ghost use Rattle.std.specs.Prelude.{◌≡◌, ℕ, ◌+◌, ◌-◌, ◌*◌, ◌^◌, ◌≤◌, ◌<◌, length, List};
 ghost use Rattle.slh_core.specs.Bytes.{part};
 ghost use Rattle.slh_core.specs.Costs.{node_cost};
-ghost use Rattle.slh_trees.specs.Merkle.{merkle, node_bytes};
+ghost use Rattle.slh_trees.specs.Merkle.{merkle, merkle_auth_path, node_bytes};
 
 use crate::leaves::{Leaves, MAX_ROW, ROW_HEIGHT, leaf_numbers, number_from};
-use crate::node::NodeAddress;
+use crate::node::{NodeAddress, sibling};
 use hybrid_array::ArraySize;
 use slh_core::nbytes::NBytes;
 use slh_core::params::{MAX_N, WotsParams, chain_sizes};
-use slh_core::parts::part_of;
+use slh_core::parts::{part_of, put_part};
 use slh_core::steps::Steps;
 use std::sync::ledger::Ledger;
 
@@ -25,7 +25,7 @@ pub(crate) fn index_below(i: u32, z: u32, q: u32) -> u32
 
 /// How many leaves stand below a node at height `z`.
 #[inline]
-fn row_len(z: u32) -> usize
+pub(crate) fn row_len(z: u32) -> usize
     requires { z ≤ ROW_HEIGHT }
     ensures value { result ≡ 2 ^ z }
     ensures few { result ≤ MAX_ROW }
@@ -99,6 +99,43 @@ fn hash_up<P: WotsParams, A: NodeAddress + Drop, L: Ledger>(
         count /= 2;
         let first = i * count as u32;
         hash_level::<P, A, L>(nodes, count, h + 1, first, keyed, adrs, steps);
+    }
+}
+
+/// Hashes the `2 ^ z` leaves of a tree level by level, up to the root, and writes the siblings on
+/// the way up from leaf `y`.
+#[tactic(auto, unfolding(crate::specs::Merkle::merkle_auth_path, slh_core::specs::Bytes::joined))]
+pub(crate) fn hash_up_and_path<P: WotsParams, A: NodeAddress + Drop, L: Ledger>(
+    nodes: &mut [u8],
+    y: u32,
+    z: u32,
+    keyed: &P::Keyed,
+    adrs: &A,
+    path: &mut [u8],
+    steps: &mut Steps<L>,
+)
+    requires low { z ≤ ROW_HEIGHT }
+    requires leaf { y < 2 ^ z }
+    requires room { length nodes.old ≡ 2 ^ z * P.N.USIZE }
+    requires path_room { length path.old ≡ z * P.N.USIZE }
+    ensures root { let K = P.keyed_suite keyed.now in
+        (leaves : ℕ → List ℕ)
+        → ((k : ℕ) → k < 2 ^ z → part P.N.USIZE nodes.old k ≡ leaves k)
+        → part P.N.USIZE nodes.new 0 ≡ merkle K (A.place adrs.now) leaves z 0 }
+    ensures path { let K = P.keyed_suite keyed.now in
+        (leaves : ℕ → List ℕ)
+        → ((k : ℕ) → k < 2 ^ z → part P.N.USIZE nodes.old k ≡ leaves k)
+        → path.new ≡ merkle_auth_path K (A.place adrs.now) leaves y z }
+    ensures cost { steps.new + 1 ≡ steps.old + 2 ^ z }
+{
+    chain_sizes::<P>();
+    let n = P::N::USIZE;
+    let mut count = row_len(z);
+    for h in 0..z {
+        let beside = part_of::<P::N>(nodes, sibling(y >> h) as usize);
+        put_part(path, n, h as usize, beside.as_slice());
+        count /= 2;
+        hash_level::<P, A, L>(nodes, count, h + 1, 0, keyed, adrs, steps);
     }
 }
 

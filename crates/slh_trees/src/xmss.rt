@@ -1,20 +1,24 @@
 //! XMSS: the trees of a layer (FIPS 205, section 6).
 ghost use Rattle.std.specs.Prelude.{◌≡◌, ◌+◌, ◌-◌, ◌*◌, ◌^◌, ◌≤◌, ◌<◌, length};
-ghost use Rattle.slh_core.specs.Costs.{xmss_node_cost, xmss_sign_cost};
+ghost use Rattle.slh_core.specs.Bytes.{joined};
+ghost use Rattle.slh_core.specs.Costs.{wots_pk_cost, xmss_node_cost, xmss_sign_cost};
 ghost use Rattle.slh_core.specs.Costs.{xmss_pk_from_sig_cost, xmss_pk_from_sig_bound};
 ghost use Rattle.slh_core.specs.Digits.{wots_digits};
+ghost use Rattle.slh_core.specs.Wots.{value_or, wots_pk};
 ghost use Rattle.slh_trees.specs.Checking.{checked_node};
 ghost use Rattle.slh_trees.specs.Xmss.{xmss_node as spec_xmss_node, xmss_sig};
 
 use crate::climb::root_from_auth_path;
 use crate::laws::path_leads_to_root;
-use crate::leaves::Leaves;
+use crate::leaves::{Leaves, MAX_ROW, ROW_HEIGHT};
+use crate::subtree::{hash_up_and_path, row_len};
 use crate::treehash::{treehash, write_auth_path};
 use hybrid_array::ArraySize;
 use slh_core::address::{HashTree, WotsHash};
+use slh_core::digits::{message_digits, no_digits};
 use slh_core::nbytes::NBytes;
-use slh_core::params::{XmssParams, tree_sizes};
-use slh_core::parts::put_part;
+use slh_core::params::{MAX_ENDS_LEN, MAX_N, XmssParams, tree_sizes};
+use slh_core::parts::{part_of, put_part};
 use slh_core::steps::Steps;
 use slh_core::wots::{wots_pk_from_sig, wots_pk_gen, wots_sign, wots_sign_leaf};
 use std::sync::ledger::Ledger;
@@ -24,6 +28,20 @@ use std::sync::ledger::Ledger;
 pub fn at_leaf(adrs: &WotsHash, key_pair: u32) -> WotsHash
     ensures { result ≡ record adrs.now { key_pair_adrs = key_pair; chain_adrs = 0; hash_adrs = 0 } }
 {
+    adrs.at_key_pair(key_pair)
+}
+
+/// The address of a key pair whose public key is a leaf of a tree.
+#[inline]
+fn key_pair_of(adrs: &HashTree, key_pair: u32) -> WotsHash
+    ensures { result ≡ record {
+      layer_adrs = adrs.now.layer_adrs;
+      tree_adrs_low = adrs.now.tree_adrs_low;
+      key_pair_adrs = key_pair;
+      chain_adrs = 0;
+      hash_adrs = 0;
+    } }
+{
     WotsHash {
         layer_adrs: adrs.layer_adrs,
         tree_adrs_low: adrs.tree_adrs_low,
@@ -32,10 +50,77 @@ pub fn at_leaf(adrs: &WotsHash, key_pair: u32) -> WotsHash
     }
 }
 
+/// Writes the leaves from index `first` on, eight key pairs at a time. Number `signer` of them,
+/// from 0, leaves the values of its chains at digits in `sig`.
+#[tactic(auto, unfolding(slh_core::specs::Bytes::joined))]
+fn leaves_by_eight<P: XmssParams, L: Ledger>(
+    sk_seed: &NBytes<P::N>,
+    first: u32,
+    groups: usize,
+    signer: usize,
+    digits: &[u16],
+    keyed: &P::Keyed,
+    adrs: &HashTree,
+    sig: &mut [u8],
+    out: &mut [u8],
+    steps: &mut Steps<L>,
+)
+    requires inside { first + 8 * groups ≤ 2 ^ 32 }
+    requires count { length digits.now ≡ P.WotsSigLen.USIZE }
+    requires whole { length sig.old ≡ length digits.now * P.N.USIZE }
+    requires room { length out.old ≡ groups * (8 * P.N.USIZE) }
+    ensures leaves { let K = P.keyed_suite keyed.now in
+        let leaf = wots_pk K sk_seed.now adrs.now.layer_adrs adrs.now.tree_adrs_low in
+        out.new ≡ joined (λ k. leaf (first + k)) (8 * groups) }
+    ensures values { let K = P.keyed_suite keyed.now in
+        let sk = sk_seed.now in
+        let j = adrs.now.layer_adrs in
+        let t = adrs.now.tree_adrs_low in
+        let value = value_or K sk j t (first + signer) sig.old digits.now in
+        signer < 8 * groups → sig.new ≡ joined value (length digits.now) }
+    ensures kept { 8 * groups ≤ signer → sig.new ≡ sig.old }
+    ensures cost { steps.new ≡ steps.old + 8 * groups * wots_pk_cost P.WotsSigLen.USIZE }
+{
+    tree_sizes::<P>();
+    let none = no_digits(digits.len());
+    let size = 8 * P::N::USIZE;
+    for g in 0..groups {
+        let at = key_pair_of(adrs, first + 8 * g as u32);
+        let asked = if signer / 8 == g { digits } else { none };
+        let keys = &mut out[g * size..(g + 1) * size];
+        P::pairs_eight(keyed, sk_seed, &at, signer % 8, asked, sig, keys, steps);
+    }
+}
+
+/// Writes the leaves from index `first` on, one key pair at a time.
+#[tactic(auto, unfolding(slh_core::specs::Bytes::joined))]
+fn leaves_one_by_one<P: XmssParams, L: Ledger>(
+    sk_seed: &NBytes<P::N>,
+    first: u32,
+    count: usize,
+    keyed: &P::Keyed,
+    adrs: &HashTree,
+    out: &mut [u8],
+    steps: &mut Steps<L>,
+)
+    requires inside { first + count ≤ 2 ^ 32 }
+    requires room { length out.old ≡ count * P.N.USIZE }
+    ensures leaves { let K = P.keyed_suite keyed.now in
+        let leaf = wots_pk K sk_seed.now adrs.now.layer_adrs adrs.now.tree_adrs_low in
+        out.new ≡ joined (λ k. leaf (first + k)) count }
+    ensures cost { steps.new ≡ steps.old + count * wots_pk_cost P.WotsSigLen.USIZE }
+{
+    tree_sizes::<P>();
+    let n = P::N::USIZE;
+    for k in 0..count {
+        let at = key_pair_of(adrs, first + k as u32);
+        let leaf = wots_pk_gen::<P, L>(sk_seed, keyed, &at, steps);
+        put_part(out, n, k, leaf.as_slice());
+    }
+}
+
 impl<P: XmssParams> Leaves<P> for HashTree {
     ghost use Rattle.std.proofs.Common.{rules};
-    ghost use Rattle.slh_core.specs.Costs.{wots_pk_cost};
-    ghost use Rattle.slh_core.specs.Wots.{wots_pk};
 
     ghost trees = { 1 };
 
@@ -45,7 +130,6 @@ impl<P: XmssParams> Leaves<P> for HashTree {
 
     ghost leaf_cost = { wots_pk_cost P.WotsSigLen.USIZE };
 
-    #[tactic(auto, unfolding(slh_core::specs::Bytes::joined))]
     fn leaves<L: Ledger>(
         &self,
         sk_seed: &NBytes<P::N>,
@@ -57,16 +141,17 @@ impl<P: XmssParams> Leaves<P> for HashTree {
     ) {
         tree_sizes::<P>();
         let n = P::N::USIZE;
-        for k in 0..count {
-            let adrs = WotsHash {
-                layer_adrs: self.layer_adrs,
-                tree_adrs_low: self.tree_adrs_low,
-                key_pair_adrs: first + k as u32,
-                ..WotsHash::default()
-            };
-            let leaf = wots_pk_gen::<P, L>(sk_seed, keyed, &adrs, steps);
-            put_part(out, n, k, leaf.as_slice());
-        }
+        let len = P::WotsSigLen::USIZE;
+        let groups = count / 8;
+        let (eights, rest) = out.split_at_mut(groups * (8 * n));
+        let mut store = [0u8; MAX_ENDS_LEN];
+        let sig = &mut store[..len * n];
+        let none = no_digits(len);
+        leaves_by_eight::<P, L>(
+            sk_seed, first, groups, 0, none, keyed, self, sig, eights, steps,
+        );
+        let next = first + 8 * groups as u32;
+        leaves_one_by_one::<P, L>(sk_seed, next, count % 8, keyed, self, rest, steps);
     }
 
     ghost height_high = { Prim.search rules };
@@ -150,6 +235,57 @@ pub fn xmss_pk_from_sig<P: XmssParams, L: Ledger>(
     root_from_auth_path::<P, HashTree, L>(&leaf, idx, height, path, keyed, &adrs.tree_adrs(), steps)
 }
 
+/// `xmss_sign_root` for trees whose leaves stand in one row: of heights from 3, where they fill
+/// eights, to `ROW_HEIGHT`.
+fn sign_in_row<P: XmssParams, L: Ledger>(
+    m: &NBytes<P::N>,
+    sk_seed: &NBytes<P::N>,
+    keyed: &P::Keyed,
+    idx: u32,
+    adrs: &WotsHash,
+    out: &mut [u8],
+    steps: &mut Steps<L>,
+) -> NBytes<P::N>
+    requires eights { 3 ≤ P.HPrime.USIZE }
+    requires low { P.HPrime.USIZE ≤ ROW_HEIGHT }
+    requires idx { idx < 2 ^ P.HPrime.USIZE }
+    requires room { length out.old ≡ (P.WotsSigLen.USIZE + P.HPrime.USIZE) * P.N.USIZE }
+    ensures root { let K = P.keyed_suite keyed.now in
+        let a = adrs.now in
+        result ≡ spec_xmss_node K sk_seed.now a.layer_adrs a.tree_adrs_low P.HPrime.USIZE 0 }
+    ensures value { let K = P.keyed_suite keyed.now in
+        let a = adrs.now in
+        let hp = P.HPrime.USIZE in
+        out.new ≡ xmss_sig K sk_seed.now a.layer_adrs a.tree_adrs_low idx m.now hp }
+    ensures cost { steps.new ≡ steps.old + xmss_node_cost P.WotsSigLen.USIZE P.HPrime.USIZE }
+{
+    tree_sizes::<P>();
+    let height = P::HPrime::USIZE;
+    let len = P::WotsSigLen::USIZE;
+    let (chains, path) = out.split_at_mut(len * P::N::USIZE);
+    let all = message_digits(m);
+    let digits = &all[..len];
+    let place = adrs.tree_adrs();
+    let count = row_len(height as u32);
+    let signer = idx as usize;
+    let mut store = [0u8; MAX_ROW * MAX_N];
+    let nodes = &mut store[..count * P::N::USIZE];
+    leaves_by_eight::<P, L>(
+        sk_seed,
+        0,
+        count / 8,
+        signer,
+        digits,
+        keyed,
+        &place,
+        chains,
+        nodes,
+        steps,
+    );
+    hash_up_and_path::<P, HashTree, L>(nodes, idx, height as u32, keyed, &place, path, steps);
+    part_of::<P::N>(nodes, 0)
+}
+
 /// Writes the signature of a message under leaf `idx`, and answers the root of the tree. Each node
 /// of the tree is hashed once.
 pub fn xmss_sign_root<P: XmssParams, L: Ledger>(
@@ -175,6 +311,9 @@ pub fn xmss_sign_root<P: XmssParams, L: Ledger>(
     tree_sizes::<P>();
     path_leads_to_root::<P>();
     let height = P::HPrime::USIZE;
+    if 3 <= height && height <= ROW_HEIGHT as usize {
+        return sign_in_row::<P, L>(m, sk_seed, keyed, idx, adrs, out, steps);
+    }
     let (chains, path) = out.split_at_mut(P::WotsSigLen::USIZE * P::N::USIZE);
     let leaf = wots_sign_leaf::<P, L>(m, sk_seed, keyed, &at_leaf(adrs, idx), chains, steps);
     let place = adrs.tree_adrs();

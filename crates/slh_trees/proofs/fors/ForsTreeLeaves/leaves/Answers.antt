@@ -1,28 +1,30 @@
-use Rattle.std.proofs.Common.{rules, arith, ◌≡◌, ◌∙◌, ◌+◌, ap, refl, ℕ, List, length, slice_index}
-use Rattle.slh_core.specs.Address.{address_bytes, fors_prf_type, fors_tree_type}
-use Rattle.slh_core.specs.Bytes.{joined, part}
+use Rattle.std.proofs.Common.{arith, ◌∙◌, ◌+◌, ◌*◌, ◌/◌, ◌%◌, ap}
+use Rattle.slh_core.specs.Bytes.{part}
 use Rattle.slh_core.specs.Suite.{HasLength}
 use Rattle.slh_core.proofs.Joins.{part-joined}
-use Rattle.slh_trees.specs.Fors.{fors_secret, fors_leaf}
+use Rattle.slh_trees.specs.Fors.{fors_leaf}
+use Rattle.slh_trees.proofs.Rows.{eights_fit, in_eights, rows_joined}
 use Rattle.slh_trees.proofs.fors.ForsTreeLeaves.leaves.Goals as goal
 
+pub split_at_mut-eights-requires : goal.split_at_mut-eights-requires
+split_at_mut-eights-requires g c =
+    rw (c.requires.room, c.USIZE.ensures) (eights_fit c.args.count g.P.N.ArraySize.USIZE)
+
+pub leaves_in_row-requires-clause-room : goal.leaves_in_row-requires-clause-room
+leaves_in_row-requires-clause-room g c =
+    let n = g.P.N.ArraySize.USIZE in
+    let back = rw c.USIZE.ensures at c.split_at_mut-eights.ensures.back_len in
+    let all = in_eights c.args.count (c.args.count / 8) (c.args.count % 8) n (omega arith) in
+    omega (arith, back, all, c.requires.room)
+
 pub returns-clause-each : goal.returns-clause-each
-unfolding fors_leaf fors_secret
+unfolding fors_leaf
 returns-clause-each g c = λ k below.
     let K = g.P.HashSuite.keyed_suite c.args.keyed.now in
     let n = g.P.N.ArraySize.USIZE in
     let law : HasLength K.suite n = rw (g.met.P.HashSuite.keyed_suite_is c.args.keyed.now) (g.met.P.HashSuite.lengths c.forest_sizes.ensures.n_high) in
-    let numbers = c.number_from.new.numbers in
-    let size : length numbers ≡ c.args.count = search rules in
-    let number : slice_index numbers k ≡ c.args.first + k = c.number_from.ensures k (omega arith) in
-    let secrets = c.prf_each.new.out in
-    let from = c.prf_adrs.result in
-    let at = c.at_node.result in
-    let secret : ℕ → List ℕ = λ q. K.suite.prf K.seed (address_bytes 0 from.tree_adrs_low fors_prf_type from.key_pair_adrs 0 (slice_index numbers q)) c.args.sk_seed.now in
-    let hash : ℕ → List ℕ = λ q. K.suite.f K.seed (address_bytes 0 at.tree_adrs_low fors_tree_type at.key_pair_adrs at.tree_height (slice_index numbers q)) (part n secrets q) in
-    let made : secrets ≡ joined secret c.args.count = c.prf_each.ensures.value ∙ ap (joined secret) size in
-    let hashed : c.f_each.new.values ≡ joined hash c.args.count = c.f_each.ensures.value ∙ ap (joined hash) size in
-    let cut : part n secrets k ≡ secret k = ap (λ xs. part n xs k) made ∙ part-joined secret n c.args.count k (λ q. law.prf _ _ _) below in
-    ap (λ xs. part n xs k) hashed
-    ∙ part-joined hash n c.args.count k (λ q. law.f _ _ _) below
-    ∙ rw (c.at_node.ensures.row (slice_index numbers k), cut, c.prf_adrs.ensures, number) refl
+    let count = c.args.count in
+    let first = c.args.first in
+    let leaf = fors_leaf K c.args.sk_seed.now c.args.self.now.tree_adrs_low c.args.self.now.key_pair_adrs in
+    ap (λ xs. part n xs k) (rw (c.leaves_by_eight.ensures.leaves, c.leaves_in_row.ensures.leaves) (rows_joined leaf first (8 * (count / 8)) (count % 8) count (omega arith)))
+    ∙ part-joined (λ q. leaf (first + q)) n count k (λ q. law.f _ _ _) below

@@ -1,0 +1,54 @@
+use Rattle.std.proofs.Common.{◌≡◌, ◌≢◌, ◌<◌, ◌+◌, ◌*◌, ◌∙◌, ℕ, ap, arith, inl, inr, length, refl, slice_index}
+use Rattle.std.proofs.lemmas.Bool.{cases_lt}
+use Rattle.slh_core.specs.Suite.{HasLength}
+use Rattle.slh_core.specs.Parameters.{chain_count}
+use Rattle.slh_core.specs.Wots.{wots_pk}
+use Rattle.slh_core.proofs.Chains.{key_of_ends, values_none}
+use Rattle.slh_core.proofs.Joins.{joined_more}
+use Rattle.slh_core.proofs.suite.HashSuite.pairs_eight.Goals.{then-k-signer, else-k-signer}
+use Rattle.slh_core.proofs.suite.HashSuite.pairs_eight.Goals as goal
+
+pub loop-k-preserved : goal.loop-k-preserved
+loop-k-preserved g c =
+    let K = g.Self.HashSuite.keyed_suite c.args.keyed.now in
+    let same = g.met.Self.HashSuite.keyed_suite_is c.args.keyed.now in
+    let size : K.n ≡ g.Self.N.ArraySize.USIZE = ap (λ k. k.n) same in
+    let law : HasLength K.suite K.n = rw same (g.met.Self.HashSuite.lengths c.requires.small) in
+    let sk = c.args.sk_seed.now in
+    let a = c.args.adrs.now in
+    let w = c.if-k-signer.asked.now in
+    let i = c.loop-k.invariant in
+    let n = g.Self.N.ArraySize.USIZE in
+    let len = length c.args.digits.now in
+    let old = c.loop-k.sig in
+    let k = c.loop-k.k in
+    let y = c.args.signer in
+    let none = c.no_digits-none in
+    let long : length w ≡ len = elim c.if-k-signer.branch [
+      | then-k-signer v ↦ rw v.asked-is refl
+      | else-k-signer v ↦ rw v.asked-is none.ensures.len
+    ] in
+    let count : length w ≡ chain_count K.n = rw size (long ∙ c.requires.count) in
+    let whole : length old ≡ len * K.n = rw size (omega (arith, c.loop-k.auto.sig, c.requires.whole)) in
+    let key : c.t-key.result ≡ wots_pk K sk a.layer_adrs a.tree_adrs_low (a.key_pair_adrs + k)
+    = rw (c.t-key.ensures.value, c.pk_adrs.ensures, c.at_key_pair-at.ensures) (key_of_ends K sk a.layer_adrs a.tree_adrs_low (a.key_pair_adrs + k) (length w) c.run_chains.new.ends count (rw c.at_key_pair-at.ensures at c.run_chains.ensures.ends)) in
+    let made = rw (c.at_key_pair-at.ensures, long) at c.run_chains.ensures.values in
+    let kept : k ≢ y → c.run_chains.new.sig ≡ old = λ other. elim c.if-k-signer.branch [
+      | then-k-signer v ↦ absurd (omega (arith, v.if-k-signer.true, other))
+      | else-k-signer v ↦ (let blank : (i : ℕ) → i < len → slice_index w i ≡ 16 = rw v.asked-is none.ensures.none in
+          made ∙ values_none K sk a.layer_adrs a.tree_adrs_low (a.key_pair_adrs + k) len old w whole blank)
+    ] in
+    let signed : k ≡ y → w ≡ c.args.digits.now = λ same. elim c.if-k-signer.branch [
+      | then-k-signer v ↦ rw v.asked-is refl
+      | else-k-signer v ↦ absurd (omega (arith, v.if-k-signer.false, same))
+    ] in
+    record {
+      keys = rw (c.put_part.ensures.front, i.keys, joined_more, c.as_slice.ensures.value, key) refl;
+      before = λ low. kept (omega (arith, low)) ∙ i.before (omega (arith, low));
+      after = λ met. elim (cases_lt y k) [
+        | inl past ↦ kept (omega (arith, past)) ∙ i.after past
+        | inr here ↦ (let is : k ≡ y = omega (arith, met, here) in
+            rw (signed is, i.before (omega (arith, is)), is) at made)
+      ];
+      cost = let ran = c.run_chains.ensures.cost in omega (arith, c.t-key.ensures.step, ran, i.cost, long);
+    }

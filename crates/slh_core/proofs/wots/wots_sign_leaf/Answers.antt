@@ -1,0 +1,11 @@
+use Rattle.std.proofs.Common.{◌≡◌, ◌∙◌, ap}
+use Rattle.slh_core.proofs.Chains.{values_signed}
+use Rattle.slh_core.proofs.wots.wots_sign_leaf.Goals as goal
+
+pub returns-clause-value : goal.returns-clause-value
+returns-clause-value g c =
+    let K = g.P.HashSuite.keyed_suite c.args.keyed.now in
+    let size : K.n ≡ g.P.N.ArraySize.USIZE = ap (λ k. k.n) (g.met.P.HashSuite.keyed_suite_is c.args.keyed.now) in
+    let a = c.args.adrs.now in
+    let made = rw (c.USIZE-len.ensures, c.chain_sizes.ensures.signature_len, c.message_digits-all.ensures, ← size) at c.run_chains.ensures.values in
+    made ∙ values_signed K c.args.sk_seed.now a.layer_adrs a.tree_adrs_low a.key_pair_adrs c.args.out.now c.args.m.now

@@ -1,0 +1,27 @@
+use Rattle.std.proofs.Common.{length, refl}
+use Rattle.slh_core.specs.Suite.{seeded}
+use Rattle.slh_hash.specs.Lengths.{sha2_category_1_lengths}
+use Rattle.slh_hash.specs.Sha2.{sha2_category_1}
+use Rattle.slh_hash.proofs.PairRows.{keys_same, left_same}
+use Rattle.slh_hash.proofs.sha2_l1.Sha2L1HashSuite.pairs_eight.Goals as goal
+
+pub returns-clause-keys : goal.returns-clause-keys
+returns-clause-keys g c =
+    let n = g.N.ArraySize.USIZE in
+    let m = g.M.ArraySize.USIZE in
+    let keyed = c.args.keyed.now in
+    let s = keyed.pk_seed in
+    let a = c.args.adrs.now in
+    keys_same (seeded (sha2_category_1 n m) n s) s (λ _ _. refl) (λ _ _. refl) c.args.sk_seed.now a.layer_adrs a.tree_adrs_low a.key_pair_adrs
+    (length c.args.digits.now) c.run_eight.new.ends c.keys_of_ends.new.out (sha2_category_1_lengths n m c.requires.small) c.requires.count
+    c.run_eight.ensures.ends c.keys_of_ends.ensures.keys
+
+pub returns-clause-values : goal.returns-clause-values
+returns-clause-values g c =
+    let n = g.N.ArraySize.USIZE in
+    let m = g.M.ArraySize.USIZE in
+    let keyed = c.args.keyed.now in
+    let s = keyed.pk_seed in
+    let a = c.args.adrs.now in
+    left_same (seeded (sha2_category_1 n m) n s) s (λ _ _. refl) (λ _ _. refl) c.args.sk_seed.now a.layer_adrs a.tree_adrs_low _
+    (length c.args.digits.now) c.args.sig.now c.args.digits.now c.run_eight.new.sig c.run_eight.ensures.values

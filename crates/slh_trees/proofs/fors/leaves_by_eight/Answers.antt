@@ -1,0 +1,23 @@
+use Rattle.std.proofs.Common.{◌≡◌, ◌≤◌, ◌+◌, ◌-◌, ◌*◌, arith, length}
+use Rattle.std.proofs.lemmas.Slice.{take-put_mid}
+use Rattle.slh_trees.specs.Fors.{fors_leaf, fors_secret}
+use Rattle.slh_trees.proofs.Layers.{part_fits}
+use Rattle.slh_trees.proofs.Rows.{rows_joined}
+use Rattle.slh_trees.proofs.fors.leaves_by_eight.Goals as goal
+
+pub loop-g-preserved : goal.loop-g-preserved
+unfolding fors_leaf fors_secret
+loop-g-preserved g c =
+    let K = g.P.HashSuite.keyed_suite c.args.keyed.now in
+    let leaf = fors_leaf K c.args.sk_seed.now c.args.adrs.now.tree_adrs_low c.args.adrs.now.key_pair_adrs in
+    let at = c.loop-g.g in
+    let size = 8 * c.USIZE-size.result in
+    let whole : length c.args.out.now ≡ c.args.groups * size = rw c.USIZE-size.ensures c.requires.room in
+    let fits : (at + 1) * size ≤ length c.args.out.now = part_fits at c.args.groups size (length c.args.out.now) (omega arith) whole in
+    let next : (at + 1) * size ≡ at * size + length c.leaves_eight.new.out = omega (arith, c.leaves_eight.auto.out) in
+    let more : 8 * (at + 1) ≡ 8 * at + 8 = omega arith in
+    record {
+      leaves = rw (take-put_mid (at * size) ((at + 1) * size - at * size) c.loop-g.out c.leaves_eight.new.out ((at + 1) * size) next (omega arith), c.loop-g.invariant.leaves, c.leaves_eight.ensures.value)
+          (rows_joined leaf c.args.first (8 * at) 8 (8 * (at + 1)) more);
+      cost = omega (arith, c.leaves_eight.ensures.cost, c.loop-g.invariant.cost);
+    }

@@ -1,0 +1,58 @@
+use Rattle.std.proofs.Common.{◌≡◌, ◌≢◌, ◌<◌, ◌≤◌, ◌+◌, ◌-◌, ◌*◌, ◌/◌, ◌%◌, ◌∙◌, ℕ, ap, arith, inl, inr, length, refl, slice_index}
+use Rattle.std.proofs.lemmas.Bool.{cases_eq}
+use Rattle.std.proofs.lemmas.Slice.{take-put_mid}
+use Rattle.slh_core.specs.Costs.{wots_pk_cost}
+use Rattle.slh_core.specs.Wots.{wots_pk}
+use Rattle.slh_core.proofs.Chains.{values_none}
+use Rattle.slh_trees.proofs.CostSteps.{eight_more}
+use Rattle.slh_trees.proofs.Layers.{part_fits}
+use Rattle.slh_trees.proofs.Rows.{rows_joined}
+use Rattle.slh_trees.proofs.xmss.leaves_by_eight.Goals.{then-signer-g, else-signer-g}
+use Rattle.slh_trees.proofs.xmss.leaves_by_eight.Goals as goal
+
+pub loop-g-preserved : goal.loop-g-preserved
+loop-g-preserved g c =
+    let K = g.P.HashSuite.keyed_suite c.args.keyed.now in
+    let N = g.P.N.ArraySize.USIZE in
+    let bytes : K.n ≡ N = ap (λ k. k.n) (g.met.P.HashSuite.keyed_suite_is c.args.keyed.now) in
+    let sk = c.args.sk_seed.now in
+    let j = c.args.adrs.now.layer_adrs in
+    let t = c.args.adrs.now.tree_adrs_low in
+    let first = c.args.first in
+    let y = c.args.signer in
+    let at = c.loop-g.g in
+    let i = c.loop-g.invariant in
+    let size = 8 * c.USIZE-size.result in
+    let w = c.if-signer-g.asked.now in
+    let len = length c.args.digits.now in
+    let none = c.no_digits-none in
+    let whole : length c.args.out.now ≡ c.args.groups * size = rw c.USIZE-size.ensures c.requires.room in
+    let fits : (at + 1) * size ≤ length c.args.out.now = part_fits at c.args.groups size (length c.args.out.now) (omega arith) whole in
+    let next : (at + 1) * size ≡ at * size + length c.pairs_eight.new.out = omega (arith, c.pairs_eight.auto.out) in
+    let more : 8 * (at + 1) ≡ 8 * at + 8 = omega arith in
+    let long : length w ≡ len = elim c.if-signer-g.branch [
+      | then-signer-g v ↦ rw v.asked-is refl
+      | else-signer-g v ↦ rw v.asked-is none.ensures.len
+    ] in
+    let room : length c.loop-g.sig ≡ len * K.n = rw bytes (omega (arith, c.loop-g.auto.sig, c.requires.whole)) in
+    let made = rw (c.key_pair_of-at.ensures, long) at c.pairs_eight.ensures.values in
+    let kept : y / 8 ≢ at → c.pairs_eight.new.sig ≡ c.loop-g.sig = λ other. elim c.if-signer-g.branch [
+      | then-signer-g v ↦ absurd (omega (arith, v.if-signer-g.true, other))
+      | else-signer-g v ↦ (let blank : (q : ℕ) → q < len → slice_index w q ≡ 16 = rw v.asked-is none.ensures.none in
+          made ∙ values_none K sk j t (first + 8 * at + y % 8) len c.loop-g.sig w room blank)
+    ] in
+    let signed : y / 8 ≡ at → w ≡ c.args.digits.now = λ same. elim c.if-signer-g.branch [
+      | then-signer-g v ↦ rw v.asked-is refl
+      | else-signer-g v ↦ absurd (omega (arith, v.if-signer-g.false, same))
+    ] in
+    record {
+      leaves = rw (take-put_mid (at * size) ((at + 1) * size - at * size) c.loop-g.out c.pairs_eight.new.out ((at + 1) * size) next (omega arith), i.leaves, c.pairs_eight.ensures.keys, c.key_pair_of-at.ensures)
+          (rows_joined (wots_pk K sk j t) first (8 * at) 8 (8 * (at + 1)) more);
+      before = λ low. kept (omega (arith, low)) ∙ i.before (omega (arith, low));
+      after = λ met. elim (cases_eq (y / 8) at) [
+        | inl same ↦ (let place : first + 8 * at + y % 8 ≡ first + y = omega (arith, same) in
+            rw (signed same, i.before (omega (arith, same)), place) at made)
+        | inr other ↦ kept other ∙ i.after (omega (arith, met, other))
+      ];
+      cost = c.pairs_eight.ensures.cost ∙ rw (i.cost, long, c.requires.count) (eight_more c.args.steps.now at (wots_pk_cost g.P.WotsSigLen.ArraySize.USIZE));
+    }
