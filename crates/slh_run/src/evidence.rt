@@ -100,7 +100,7 @@ fn push_spaced(text: &mut ByteString, number: u32) -> Result<(), AllocError>
 }
 
 /// Puts the text of evidence at the end.
-pub(crate) fn push_evidence(text: &mut ByteString, evidence: Evidence) -> Result<(), AllocError>
+pub fn push_evidence(text: &mut ByteString, evidence: Evidence) -> Result<(), AllocError>
     ensures { OnOk result (text.new ≡ text.old ++ evidence_text evidence) }
 {
     match evidence {

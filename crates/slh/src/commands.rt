@@ -1,0 +1,62 @@
+//! The one place that knows every command.
+use crate::audits::{audit, check};
+use crate::failure::Failure;
+use crate::inspect::inspect;
+use crate::keys::{keygen, public};
+use crate::outcome::Outcome;
+use crate::signatures::{sign, verify};
+use crate::{batches, chains, manifests, rings};
+use clap::ArgMatches;
+
+/// Does what the words ask for.
+pub fn outcome_of<'a>(rt: &HostRuntime, matches: &ArgMatches<'a>) -> Result<Outcome, Failure<'a>> {
+    match matches.subcommand() {
+        Some(("keygen", words)) => keygen(rt, words),
+        Some(("public", words)) => public(rt, words),
+        Some(("sign", words)) => sign(rt, words),
+        Some(("verify", words)) => verify(rt, words),
+        Some(("audit", words)) => audit(rt, words),
+        Some(("check", words)) => check(rt, words),
+        Some(("inspect", words)) => inspect(rt, words),
+        Some(("batch", words)) => batch(rt, words),
+        Some(("manifest", words)) => manifest(rt, words),
+        Some(("chain", words)) => chain(rt, words),
+        Some(("ring", words)) => ring(rt, words),
+        _ => Err(Failure::Command),
+    }
+}
+
+fn batch<'a>(rt: &HostRuntime, matches: &ArgMatches<'a>) -> Result<Outcome, Failure<'a>> {
+    match matches.subcommand() {
+        Some(("sign", words)) => batches::sign(rt, words),
+        Some(("verify", words)) => batches::verify(rt, words),
+        _ => Err(Failure::Command),
+    }
+}
+
+fn manifest<'a>(rt: &HostRuntime, matches: &ArgMatches<'a>) -> Result<Outcome, Failure<'a>> {
+    match matches.subcommand() {
+        Some(("seal", words)) => manifests::seal(rt, words),
+        Some(("check", words)) => manifests::check(rt, words),
+        _ => Err(Failure::Command),
+    }
+}
+
+fn chain<'a>(rt: &HostRuntime, matches: &ArgMatches<'a>) -> Result<Outcome, Failure<'a>> {
+    match matches.subcommand() {
+        Some(("delegate", words)) => chains::delegate(rt, words),
+        Some(("walk", words)) => chains::walk(rt, words),
+        Some(("verify", words)) => chains::verify(rt, words),
+        _ => Err(Failure::Command),
+    }
+}
+
+fn ring<'a>(rt: &HostRuntime, matches: &ArgMatches<'a>) -> Result<Outcome, Failure<'a>> {
+    match matches.subcommand() {
+        Some(("master", words)) => rings::make_master(rt, words),
+        Some(("key", words)) => rings::key(rt, words),
+        Some(("record", words)) => rings::record(rt, words),
+        Some(("restore", words)) => rings::restore(rt, words),
+        _ => Err(Failure::Command),
+    }
+}

@@ -1,0 +1,64 @@
+//! `slh keygen` and `slh public`.
+use crate::arguments::{random, set_of, signing_key, text};
+use crate::failure::Failure;
+use crate::files;
+use crate::outcome::Outcome;
+use clap::ArgMatches;
+use slh_files::{Key, Kind, encode_key, made_key, verifying_key};
+use slh_run::ByteString;
+use std::fs;
+
+/// The mode of a signing key's file, from its first byte on.
+pub const SECRET: u32 = 0o600;
+
+const PUBLIC: u32 = 0o666;
+
+/// The text of a key file. A key that gives none is told of under a name.
+pub fn key_file<'a>(
+    rt: &HostRuntime,
+    kind: Kind,
+    key: &Key,
+    name: &'a str,
+) -> Result<ByteString, Failure<'a>> {
+    match encode_key(rt.alloc(), kind, key) {
+        Ok(text) => Ok(text),
+        Err(error) => Err(Failure::Key(name, error)),
+    }
+}
+
+/// Makes a key of random bytes: NAME.key and NAME.pub. Where one can't be made neither is left.
+pub fn keygen<'a>(rt: &HostRuntime, words: &ArgMatches<'a>) -> Result<Outcome, Failure<'a>> {
+    let name = text(words, "name");
+    let set = set_of(words)?;
+    let key = match made_key(rt.alloc(), set, &random::<96>(rt)?) {
+        Ok(key) => key,
+        Err(error) => return Err(Failure::Refused(name, error)),
+    };
+    write_pair(rt, name, &key)
+}
+
+/// Writes the files of a pair, NAME.key and NAME.pub, neither of which may be there.
+pub fn write_pair<'a>(rt: &HostRuntime, name: &'a str, key: &Key) -> Result<Outcome, Failure<'a>> {
+    let secret = key_file(rt, Kind::Signing, key, name)?;
+    let public = key_file(rt, Kind::Verifying, &verifying_key(rt.alloc(), key)?, name)?;
+    let secret_path = format!(in rt.alloc(); "{name}.key")?;
+    let public_path = format!(in rt.alloc(); "{name}.pub")?;
+    if let Err(error) = files::write_new(rt, secret_path.as_str(), SECRET, secret.as_slice()) {
+        return Err(Failure::NewFile(name, ".key", error));
+    }
+    if let Err(error) = files::write_new(rt, public_path.as_str(), PUBLIC, public.as_slice()) {
+        let _ = fs::remove_file(rt, secret_path.as_str());
+        return Err(Failure::NewFile(name, ".pub", error));
+    }
+    Ok(Outcome::Done)
+}
+
+/// Writes the verifying key of a signing key.
+pub fn public<'a>(rt: &HostRuntime, words: &ArgMatches<'a>) -> Result<Outcome, Failure<'a>> {
+    let key = signing_key(rt, words)?;
+    let path = text(words, "key");
+    let public = key_file(rt, Kind::Verifying, &verifying_key(rt.alloc(), &key)?, path)?;
+    let output = words.get_str("output").unwrap_or(files::STANDARD);
+    files::put(rt, output, public.as_slice())?;
+    Ok(Outcome::Done)
+}

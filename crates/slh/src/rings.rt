@@ -1,0 +1,251 @@
+//! `slh ring`: the keys that one master secret gives.
+use crate::arguments::{random, set_of, text};
+use crate::failure::Failure;
+use crate::files;
+use crate::keys::{SECRET, write_pair};
+use crate::outcome::Outcome;
+use clap::ArgMatches;
+use line_serve::{decimal_value, push_hex_line, push_number};
+use slh_dsa::ParameterSet;
+use slh_files::{Key, digits_of};
+use slh_line::OnSet;
+use slh_ring::{Path, RestoreError, Ring, RingError, derive};
+use slh_run::{ByteString, Set};
+use std::alloc::{AllocError, Global};
+
+/// The most numbers of a path.
+const MAX_NUMBERS: usize = 8;
+
+/// The most bytes of a master.
+const MAX_MASTER: usize = 1 << 60;
+
+// The path of a text such as `2/2026`; `.` is the path of no numbers.
+fn path_of(text: &str) -> Option<Path> {
+    if text == "." {
+        return Path::from_slice(&[]);
+    }
+    let mut numbers = [0u32; MAX_NUMBERS];
+    let mut count = 0;
+    for part in text.as_bytes().split(|b| *b == b'/') {
+        if count >= MAX_NUMBERS {
+            return None;
+        }
+        numbers[count] = decimal_value(part, 10, u64::from(u32::MAX))? as u32;
+        count += 1;
+    }
+    Path::from_slice(numbers.get(..count)?)
+}
+
+fn push_path(text: &mut ByteString, path: &Path) -> Result<(), AllocError> {
+    match path.as_slice() {
+        [] => text.push_slice(b".")?,
+        [first, later @ ..] => {
+            push_number(text, u64::from(*first))?;
+            for number in later {
+                text.push_slice(b"/")?;
+                push_number(text, u64::from(*number))?;
+            }
+        }
+    }
+    text.push_slice(b"\n")
+}
+
+// The master of a file, which has it in hexadecimal.
+fn master<'a>(rt: &HostRuntime, words: &ArgMatches<'a>) -> Result<ByteString, Failure<'a>> {
+    let path = text(words, "master");
+    let file = files::read(rt, path)?;
+    match digits_of(rt.alloc(), file.as_slice())? {
+        Some(bytes) if !bytes.is_empty() && bytes.len() <= MAX_MASTER => Ok(bytes),
+        _ => Err(Failure::Told(path, "not a master secret in hexadecimal")),
+    }
+}
+
+/// Makes a master secret of 32 random bytes.
+pub fn make_master<'a>(rt: &HostRuntime, words: &ArgMatches<'a>) -> Result<Outcome, Failure<'a>> {
+    let path = text(words, "file");
+    let mut line = ByteString::new(rt.alloc());
+    push_hex_line(&mut line, b"", &random::<32>(rt)?)?;
+    match files::write_new(rt, path, SECRET, line.as_slice()) {
+        Ok(()) => Ok(Outcome::Done),
+        Err(error) => Err(Failure::File(path, error)),
+    }
+}
+
+// The key at a path.
+#[derive(Drop)]
+struct Derivation<'s> {
+    alloc: Global,
+    master: &'s [u8],
+    path: &'s Path,
+}
+
+impl<'s> OnSet for Derivation<'s> {
+    ghost use Rattle.std.specs.Prelude.{⊤};
+
+    type Out = Result<ByteString, AllocError>;
+
+    ghost gives = { λ _ _ _ _. ⊤ };
+
+    fn on<P: ParameterSet>(self) -> Result<ByteString, AllocError> {
+        if self.master.len() > MAX_MASTER {
+            return Err(AllocError);
+        }
+        let key = derive::<P>(self.master, self.path);
+        ByteString::from_slice(self.alloc, &key.to_vec(self.alloc)?)
+    }
+}
+
+/// Makes the key at a path again, and writes it as `keygen` does.
+pub fn key<'a>(rt: &HostRuntime, words: &ArgMatches<'a>) -> Result<Outcome, Failure<'a>> {
+    let Some(path) = path_of(text(words, "path")) else {
+        return Err(Failure::Path(text(words, "path")));
+    };
+    let set = set_of(words)?;
+    let master = master(rt, words)?;
+    let bytes = set.run(Derivation {
+        alloc: rt.alloc(),
+        master: master.as_slice(),
+        path: &path,
+    })?;
+    write_pair(rt, text(words, "name"), &Key { set, bytes })
+}
+
+// The record of the ring of some paths.
+#[derive(Drop)]
+struct Recording<'m, 's, 'a> {
+    alloc: Global,
+    master: &'m [u8],
+    paths: &'s [&'a str],
+}
+
+impl<'m, 's, 'a> OnSet for Recording<'m, 's, 'a> {
+    ghost use Rattle.std.specs.Prelude.{⊤};
+
+    type Out = Result<Vec<u8>, Failure<'a>>;
+
+    ghost gives = { λ _ _ _ _. ⊤ };
+
+    fn on<P: ParameterSet>(self) -> Result<Vec<u8>, Failure<'a>> {
+        if self.master.len() > MAX_MASTER {
+            return Err(Failure::Memory);
+        }
+        let ring = ring_of::<P>(self.alloc, self.paths)?;
+        Ok(ring.to_record(self.alloc, self.master)?)
+    }
+}
+
+fn ring_of<'a, P: ParameterSet>(alloc: Global, paths: &[&'a str]) -> Result<Ring<P>, Failure<'a>> {
+    let mut ring = Ring::new(alloc);
+    for text in paths {
+        let Some(path) = path_of(*text) else {
+            return Err(Failure::Path(*text));
+        };
+        match ring.add(path) {
+            Ok(()) => {}
+            Err(RingError::Present) => return Err(Failure::Told(*text, "it stands twice")),
+            Err(RingError::Full) => return Err(Failure::Told(*text, "a ring has 64 paths")),
+            Err(RingError::Memory) => return Err(Failure::Memory),
+        }
+    }
+    Ok(ring)
+}
+
+/// Writes the line `SET RECORD` of the ring of some paths.
+pub fn record<'a>(rt: &HostRuntime, words: &ArgMatches<'a>) -> Result<Outcome, Failure<'a>> {
+    let Some(paths) = words.get_strs("paths") else {
+        return Err(Failure::Command);
+    };
+    let set = set_of(words)?;
+    let master = master(rt, words)?;
+    let record = set.run(Recording {
+        alloc: rt.alloc(),
+        master: master.as_slice(),
+        paths,
+    })?;
+    let mut line = ByteString::from_slice(rt.alloc(), set.name().as_bytes())?;
+    push_hex_line(&mut line, b" ", &record)?;
+    files::put(
+        rt,
+        words.get_str("output").unwrap_or(files::STANDARD),
+        line.as_slice(),
+    )?;
+    Ok(Outcome::Done)
+}
+
+// A record that is to give its ring again.
+#[derive(Drop)]
+struct Restoring<'s> {
+    alloc: Global,
+    master: &'s [u8],
+    record: &'s [u8],
+}
+
+impl<'s> OnSet for Restoring<'s> {
+    ghost use Rattle.std.specs.Prelude.{⊤};
+
+    type Out = Result<ByteString, RestoreError>;
+
+    ghost gives = { λ _ _ _ _. ⊤ };
+
+    fn on<P: ParameterSet>(self) -> Result<ByteString, RestoreError> {
+        if self.master.len() > MAX_MASTER {
+            return Err(RestoreError::Memory);
+        }
+        let ring = Ring::<P>::restore(self.alloc, self.master, self.record)?;
+        match paths_text(self.alloc, &ring) {
+            Ok(text) => Ok(text),
+            Err(_) => Err(RestoreError::Memory),
+        }
+    }
+}
+
+// The paths of a ring, a line for each.
+fn paths_text<P: ParameterSet>(alloc: Global, ring: &Ring<P>) -> Result<ByteString, AllocError> {
+    let mut text = ByteString::new(alloc);
+    for i in 0..ring.len() {
+        if let Some(path) = ring.get(i) {
+            push_path(&mut text, path)?;
+        }
+    }
+    Ok(text)
+}
+
+// The set and the record of a line `SET RECORD`.
+fn record_in(alloc: Global, file: &[u8]) -> Result<Option<(Set, ByteString)>, AllocError> {
+    let Some(at) = file.iter().position(|b| *b == b' ') else {
+        return Ok(None);
+    };
+    let Some(set) = Set::from_name(&file[..at]) else {
+        return Ok(None);
+    };
+    match digits_of(alloc, &file[at..])? {
+        Some(bytes) => Ok(Some((set, bytes))),
+        None => Ok(None),
+    }
+}
+
+/// Writes the paths of a record, where their keys under the master are those that were recorded.
+pub fn restore<'a>(rt: &HostRuntime, words: &ArgMatches<'a>) -> Result<Outcome, Failure<'a>> {
+    let path = text(words, "file");
+    let master = master(rt, words)?;
+    let file = files::read(rt, path)?;
+    let Some((set, record)) = record_in(rt.alloc(), file.as_slice())? else {
+        return Err(Failure::Told(path, "not a line SET RECORD"));
+    };
+    let restored = set.run(Restoring {
+        alloc: rt.alloc(),
+        master: master.as_slice(),
+        record: record.as_slice(),
+    });
+    match restored {
+        Ok(text) => {
+            files::put(rt, files::STANDARD, text.as_slice())?;
+            Ok(Outcome::Done)
+        }
+        Err(RestoreError::Form) => Err(Failure::Told(path, "not a record of its set")),
+        Err(RestoreError::Mismatch(i)) => {
+            Err(Failure::ToldAt(path, "not of this master, or changed: path", i))
+        }
+        Err(RestoreError::Memory) => Err(Failure::Memory),
+    }
+}

@@ -1,0 +1,74 @@
+//! `slh sign` and `slh verify`.
+use crate::arguments::{
+    Randomness, check_inputs, message, signature, signing_key, tell, text, verifying_key,
+};
+use crate::failure::Failure;
+use crate::files;
+use crate::outcome::Outcome;
+use clap::ArgMatches;
+use slh_files::{Key, Message, SignError};
+use slh_run::ByteString;
+
+/// Signs a file. The signature goes to `--output`, else to FILE.sig, or from standard input to
+/// standard output.
+pub fn sign<'a>(rt: &HostRuntime, words: &ArgMatches<'a>) -> Result<Outcome, Failure<'a>> {
+    check_inputs(words)?;
+    let path = text(words, "file");
+    let key = signing_key(rt, words)?;
+    let message = message(rt, words)?;
+    let random = Randomness::new(rt, words)?;
+    match made(rt, key, message, random.bytes(), words.get_flag("audit")) {
+        Ok(signature) => put(rt, words, path, signature.as_slice()),
+        Err(SignError::Refused(error)) => Err(Failure::Refused(path, error)),
+        Err(SignError::Fault) => Err(Failure::Fault(path)),
+    }
+}
+
+fn made(
+    rt: &HostRuntime,
+    key: Key,
+    message: Message,
+    random: Option<&[u8; 32]>,
+    audited: bool,
+) -> Result<ByteString, SignError> {
+    if audited {
+        return slh_files::sign_audited(rt.alloc(), key, message, random);
+    }
+    match slh_files::sign(rt.alloc(), key, message, random) {
+        Ok(signature) => Ok(signature),
+        Err(error) => Err(SignError::Refused(error)),
+    }
+}
+
+// Writes a signature where the words say.
+fn put<'a>(
+    rt: &HostRuntime,
+    words: &ArgMatches<'a>,
+    path: &'a str,
+    signature: &[u8],
+) -> Result<Outcome, Failure<'a>> {
+    if let Some(output) = words.get_str("output") {
+        files::put(rt, output, signature)?;
+    } else if path == files::STANDARD {
+        files::put(rt, path, signature)?;
+    } else {
+        let output = format!(in rt.alloc(); "{path}.sig")?;
+        if let Err(error) = files::write(rt, output.as_str(), signature) {
+            return Err(Failure::NewFile(path, ".sig", error));
+        }
+    }
+    Ok(Outcome::Done)
+}
+
+/// Tells whether a signature is one of a file.
+pub fn verify<'a>(rt: &HostRuntime, words: &ArgMatches<'a>) -> Result<Outcome, Failure<'a>> {
+    check_inputs(words)?;
+    let key = verifying_key(rt, words)?;
+    let signature = signature(rt, words, key.set)?;
+    let message = message(rt, words)?;
+    match slh_files::verify(rt.alloc(), key, message, signature) {
+        Ok(true) => tell(rt, Outcome::Accepted),
+        Ok(false) => tell(rt, Outcome::Invalid),
+        Err(error) => Err(Failure::Refused(text(words, "file"), error)),
+    }
+}

@@ -1,0 +1,6 @@
+pub mod Ders
+pub mod Searches
+pub mod Rows
+pub mod Symbols
+pub mod HeadTable
+pub mod RoundTrip

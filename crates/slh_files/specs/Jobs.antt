@@ -1,0 +1,66 @@
+-- What the answer to a job says.
+use Rattle.std.specs.Prelude.{ℕ, ◌*◌, Bool, true, false, List, [], take, drop, Option, option_map}
+use Rattle.std.specs.Prelude.{Result, Ok, Err, ⊤}
+use Rattle.slh_audit.specs.declared.evidence.Verdict.{Verdict}
+use Rattle.slh_line.specs.Sets.{scheme_for}
+use Rattle.slh_line.specs.declared.set.Set.{Set}
+use Rattle.slh_run.specs.declared.job.Answer.{Answer}
+use Rattle.slh_run.specs.declared.job.Answer.TheVariants.{Signature, Shown}
+use Rattle.slh_run.specs.declared.job.Answer.TheVariants.{Verdict as VerdictAnswer}
+use Rattle.slh_run.specs.declared.job.Error.{Error}
+use Rattle.slh_run.specs.declared.job.Error.TheVariants.{Invalid}
+use Rattle.slh_run.specs.declared.job.Job.{Job}
+use Rattle.slh_run.specs.declared.job.Job.TheVariants.{Audit, Sign}
+use Rattle.slh_trees.specs.Keys.{signing_key_bytes}
+use Rattle.slh_files.specs.Heads.{seed_len}
+
+-- the signing key of three seeds, which are the first bytes
+abbrev pub made_of : Set → List ℕ → List ℕ
+made_of set bytes =
+    let n = seed_len set in
+    signing_key_bytes (scheme_for set)
+    (take n bytes) (take n (drop n bytes)) (take n (drop (2 * n) bytes))
+
+-- the first bytes, as many as a randomizer is made from
+abbrev pub randomizer_of : Set → Option (List ℕ) → Option (List ℕ)
+randomizer_of set random = option_map (take (seed_len set)) random
+
+abbrev pub IsSign : Job → Type 0
+IsSign (Sign mode key context message randomizer) = ⊤
+IsSign _ = ⊥
+
+abbrev pub IsAudit : Job → Type 0
+IsAudit (Audit mode key context message signature) = ⊤
+IsAudit _ = ⊥
+
+-- the audit of what a job of a signature gave
+abbrev pub audit_of : Job → List ℕ → Job
+audit_of (Sign mode key context message randomizer) signature =
+    Audit mode key context message signature
+audit_of job signature = job
+
+-- the signature that an audit is of
+abbrev pub signature_under : Job → List ℕ
+signature_under (Audit mode key context message signature) = signature
+signature_under _ = []
+
+-- no other answer is given to such a job
+abbrev pub signature_by : Result Answer Error → Result (List ℕ) Error
+signature_by (Ok (Signature bytes)) = Ok bytes
+signature_by (Ok _) = Err Invalid
+signature_by (Err e) = Err e
+
+abbrev pub accepted_by : Result Answer Error → Result Bool Error
+accepted_by (Ok _) = Ok true
+accepted_by (Err Invalid) = Ok false
+accepted_by (Err e) = Err e
+
+abbrev pub verdict_by : Result Answer Error → Result Verdict Error
+verdict_by (Ok (VerdictAnswer verdict)) = Ok verdict
+verdict_by (Ok _) = Err Invalid
+verdict_by (Err e) = Err e
+
+abbrev pub shown_by : Result Answer Error → Result Bool Error
+shown_by (Ok (Shown shown)) = Ok shown
+shown_by (Ok _) = Err Invalid
+shown_by (Err e) = Err e

@@ -1,0 +1,9 @@
+pub mod Heads
+pub mod Places
+pub mod Blocks
+pub mod Lines
+pub mod Reading
+pub mod Writing
+pub mod Signatures
+pub mod EvidenceWords
+pub mod Jobs

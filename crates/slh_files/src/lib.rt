@@ -1,0 +1,48 @@
+//! What the command `slh` does with the bytes of its files: keys, signatures, verdicts.
+//!
+//! Nothing here opens a file. A key file is one PEM block (RFC 7468) with the DER of RFC 9909, as
+//! OpenSSL 3.5 writes it, or a line `SET KEY` in hexadecimal. Text around the block and blanks and
+//! ends of lines within it don't count, and each other thing has its refusal, [`KeyFileError`].
+//! Signatures are their bytes, or hexadecimal digits of them.
+//!
+//! A key's file, and what a key file and a file say of a signature:
+//!
+//! ```
+//! use slh_files::{Error, KeyFileError, Kind, Message, encode_key, made_key, read_key, verify};
+//! use slh_run::{ByteString, Mode, Set};
+//! use std::alloc::Global;
+//!
+//! fn key_file(alloc: Global, random: &[u8; 96]) -> Result<ByteString, KeyFileError> {
+//!     let key = made_key(alloc, Set::Sha2_128f, random)?;
+//!     encode_key(alloc, Kind::Signing, &key)
+//! }
+//! ```
+//!
+//! Each job with a key is one call of `slh_run::run`.
+#![tactic(auto)]
+
+mod blocks;
+mod error;
+mod evidence;
+mod heads;
+mod jobs;
+mod key;
+pub mod laws;
+mod lines;
+mod places;
+mod reading;
+mod signatures;
+mod sizes;
+mod writing;
+
+pub use error::KeyFileError;
+pub use evidence::evidence_of;
+pub use jobs::{
+    Message, SignError, audit, check, has_own_root, made_key, sign, sign_audited, verify,
+    verifying_key,
+};
+pub use key::{Key, Kind};
+pub use reading::read_key;
+pub use signatures::{digits_of, read_signature, set_of_signature};
+pub use sizes::{seed_len, signature_len};
+pub use writing::encode_key;

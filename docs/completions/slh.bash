@@ -1,0 +1,61 @@
+# Completions of slh for bash: source this file, or put it into a folder that bash-completion reads.
+
+_slh() {
+    local word=${COMP_WORDS[COMP_CWORD]} previous=${COMP_WORDS[COMP_CWORD - 1]}
+    local sets='SLH-DSA-SHA2-128s SLH-DSA-SHA2-128f SLH-DSA-SHA2-192s
+        SLH-DSA-SHA2-192f SLH-DSA-SHA2-256s SLH-DSA-SHA2-256f'
+    local mode='--context --context-hex --prehash --help'
+    local words=
+
+    case $previous in
+    --set) words=$sets ;;
+    --prehash) words='sha256 sha512' ;;
+    --context | --context-hex | --depth | --evidence | --name | --path) return ;;
+    --*) ;;
+    esac
+    if [ -z "$words" ] && [ "$COMP_CWORD" -eq 1 ]; then
+        words='keygen public sign verify audit check inspect batch manifest chain ring help
+            --help --version'
+    elif [ -z "$words" ] && [ "$COMP_CWORD" -eq 2 ]; then
+        case ${COMP_WORDS[1]} in
+        batch) words='sign verify --help' ;;
+        manifest) words='seal check --help' ;;
+        chain) words='delegate walk verify --help' ;;
+        ring) words='master key record restore --help' ;;
+        esac
+    fi
+    if [ -z "$words" ]; then
+        case "${COMP_WORDS[1]} ${COMP_WORDS[2]}" in
+        'batch sign') words='--key --deterministic --help' ;;
+        'batch verify') words='--key --receipt --help' ;;
+        'manifest seal') words='--key --deterministic --output --help' ;;
+        'manifest check') words='--key --manifest --help' ;;
+        'chain delegate')
+            words='--key --subject --name --depth --chain --deterministic --output --help' ;;
+        'chain walk') words='--key --chain --output --help' ;;
+        'chain verify') words="--key --chain --signature $mode" ;;
+        'ring master') words='--help' ;;
+        'ring key') words='--set --master --path --help' ;;
+        'ring record') words='--set --master --output --help' ;;
+        'ring restore') words='--master --help' ;;
+        'keygen '*) words='--set --help' ;;
+        'public '*) words='--key --output --help' ;;
+        'sign '*) words="--key --deterministic --audit --output $mode" ;;
+        'verify '*) words="--key --signature $mode" ;;
+        'audit '*) words="--key --signature $mode" ;;
+        'check '*) words="--key --signature --evidence $mode" ;;
+        'inspect '*) words='--help' ;;
+        esac
+    fi
+
+    case $previous:$word in
+    --set:* | --prehash:* | *:-*) ;;
+    *) [ "$COMP_CWORD" -le 1 ] || mapfile -t COMPREPLY < <(compgen -f -- "$word") ;;
+    esac
+    local found
+    while read -r found; do
+        COMPREPLY+=("$found")
+    done < <(compgen -W "$words" -- "$word")
+}
+
+complete -o filenames -F _slh slh
