@@ -1,0 +1,131 @@
+# shellcheck shell=sh
+# How the programs and the library for C are built, and when: sourced by the wrapper, by install and
+# by examples/c/build, with `top` set to the folder of this repository.
+: "${top:?}"
+#
+# What is built for a processor stays in out/PROCESSOR/, beside a file NAME.of that says what it was
+# built from: the checksum of the sources of the crate and of all below it, with their rows of
+# crates.txt, and the toolchain's line. No file's time counts.
+
+# say TEXT: a message on standard error
+say() {
+    echo "${0##*/}: $*" >&2
+}
+
+# The processor to build for: SLH_CPU, or x86-64-v3 where this one has AVX2.
+processor() {
+    if [ -n "${SLH_CPU:-}" ]; then
+        echo "$SLH_CPU"
+    elif grep -qw avx2 /proc/cpuinfo 2>/dev/null; then
+        echo x86-64-v3
+    else
+        echo x86-64
+    fi
+}
+
+# The rows of crates.txt for a crate and all of the repository's that it stands on.
+rows_below() {
+    awk -v crate="$1" '
+        /^#/ || NF == 0 { next }
+        {
+            name = $1
+            sub(/:$/, "", name)
+            row[name] = $0
+            line = $0
+            sub(/^[^:]*:/, "", line)
+            below[name] = line
+        }
+        function take(name,    i, n, others) {
+            if (!(name in row) || name in taken) return
+            taken[name]
+            print row[name]
+            n = split(below[name], others, " ")
+            for (i = 1; i <= n; i++) take(others[i])
+        }
+        END { take(crate) }' "$top/crates.txt" | LC_ALL=C sort
+}
+
+# The toolchain's line; nothing where there is no toolchain.
+toolchain() {
+    rt=$(command -v rt) || return 0
+    rt=$(readlink -f "$rt")
+    # a kit keeps its line in a file, which is read in no time
+    cat "${rt%/*/*}/KIT-ID" 2>/dev/null || rt version
+}
+
+# The checksum of a crate's sources and of those of all below it.
+sources_sum() (
+    cd "$top" || exit 1
+    rows=$(rows_below "$1")
+    folders=$(echo "$rows" | sed 's/[: ].*//; s|^|crates/|')
+    {
+        echo "$rows"
+        # names of crates have no spaces
+        # shellcheck disable=SC2086
+        find $folders -name out -prune -o -type f \( -name '*.rt' -o -name '*.antt' \) -print |
+            LC_ALL=C sort | xargs sha256sum
+    } | sha256sum | cut -d ' ' -f 1
+)
+
+# is_built FILE SUM: whether a file is there that was built from sources of this sum by this
+# toolchain, or by any where there is none
+is_built() {
+    [ -f "$1" ] && { read -r built_sum built_by <"$1.of"; } 2>/dev/null &&
+        [ "$built_sum" = "$2" ] || return 1
+    line=$(toolchain)
+    [ -z "$line" ] || [ "$line" = "$built_by" ]
+}
+
+# can_write FOLDER: whether something can be made in its out/
+can_write() {
+    mkdir -p "$1/out" 2>/dev/null && [ -w "$1/out" ]
+}
+
+# build CRATE COMMAND MADE FILE: proves and builds a crate by `rt COMMAND`, which makes out/MADE, and
+# keeps that as FILE. The progress goes to standard error. One build at a time: a second one waits.
+build() {
+    command -v rt >/dev/null || {
+        say "$4 isn't built from the sources as they are, and there is no rt to build it (README.md)"
+        return 1
+    }
+    for folder in "$top" "$top/crates/$1"; do
+        can_write "$folder" || {
+            say "$4 isn't built from the sources as they are, and $folder can't be written"
+            return 1
+        }
+    done
+    mkdir -p "${4%/*}" || return 1
+    (
+        flock 9 || exit 1
+        of=$(sources_sum "$1") || exit 1
+        # who waited may find it built
+        is_built "$4" "$of" && exit 0
+        say "proving and building $1 for $cpu: minutes the first time"
+        cd "$top/crates/$1" || exit 1
+        # without words the command for people ends with status 2
+        if [ "$1" = slh ]; then
+            rt run --cpu "$cpu" -- --version </dev/null >&2 || exit 1
+        else
+            rt "$2" --cpu "$cpu" </dev/null >&2 || exit 1
+        fi
+        [ "$(sources_sum "$1")" = "$of" ] || {
+            say 'a source was edited meanwhile: call it once more'
+            exit 1
+        }
+        cp "out/$3" "$4.new" && mv "$4.new" "$4" && echo "$of $(toolchain)" >"$4.of"
+    ) 9>"$top/out/lock"
+}
+
+# program_of CRATE: sets `program` to the crate's program, which is built where it isn't yet
+program_of() {
+    cpu=$(processor)
+    program=$top/out/$cpu/$1
+    is_built "$program" "$(sources_sum "$1")" || build "$1" run "$1" "$program"
+}
+
+# archive_of CRATE: sets `archive` to the crate's static library, which is built where it isn't yet
+archive_of() {
+    cpu=$(processor)
+    archive=$top/out/$cpu/lib$1.a
+    is_built "$archive" "$(sources_sum "$1")" || build "$1" lib "lib$1.a" "$archive"
+}
