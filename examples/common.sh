@@ -1,8 +1,8 @@
 # shellcheck shell=sh
-# What the recipes share: the programs, the commands of bin/, a folder to work in that is removed
+# What the recipes share: `slh`, the programs of lines, the commands of bin/, a folder to work in that is removed
 # in the end, and `expect`.
 set -eu
-examples=$(cd "$(dirname "$0")" && pwd)
+examples=$(dirname "$(readlink -f "$0")")
 # absolute FILE: a name that holds in any folder
 absolute() {
     case $1 in
@@ -10,14 +10,24 @@ absolute() {
     *) echo "$PWD/$1" ;;
     esac
 }
+SLH=$(absolute "${SLH:-$examples/../slh}")
 SLH_PROGRAM=$(absolute "${SLH_PROGRAM:-$examples/../slh_cli}")
 SLH_BATCH_PROGRAM=$(absolute "${SLH_BATCH_PROGRAM:-$examples/../slh_batch_cli}")
 SLH_CHAIN_PROGRAM=$(absolute "${SLH_CHAIN_PROGRAM:-$examples/../slh_chain_cli}")
 SLH_MANIFEST_PROGRAM=$(absolute "${SLH_MANIFEST_PROGRAM:-$examples/../slh_manifest_cli}")
 SLH_RING_PROGRAM=$(absolute "${SLH_RING_PROGRAM:-$examples/../slh_ring_cli}")
 SLH_C_LIBRARY=$(absolute "${SLH_C_LIBRARY:-}")
-export SLH_PROGRAM SLH_BATCH_PROGRAM SLH_CHAIN_PROGRAM SLH_MANIFEST_PROGRAM SLH_RING_PROGRAM
+export SLH SLH_PROGRAM SLH_BATCH_PROGRAM SLH_CHAIN_PROGRAM SLH_MANIFEST_PROGRAM SLH_RING_PROGRAM
 PATH=$examples/bin:$PATH
+
+# The names of the parameter sets.
+# shellcheck disable=SC2034
+sets=$(sed '/^#/d; s/ .*//' "$examples/sets.txt")
+
+# size_of SET COLUMN: the bytes of a value of a set (2), or of a signature (3)
+size_of() {
+    awk -v name="$1" -v column="$2" '$1 == name { print $column }' "$examples/sets.txt"
+}
 
 work=$(mktemp -d)
 trap 'rm -rf "$work"' EXIT
@@ -27,6 +37,21 @@ cd "$work"
 fail() {
     echo "FAILED: $*" >&2
     exit 1
+}
+
+# slh WORDS..: the command
+slh() {
+    "$SLH" "$@"
+}
+
+# hex_of FILE: the hexadecimal digits of its bytes
+hex_of() {
+    od -An -v -tx1 <"$1" | tr -d ' \n'
+}
+
+# vk_of NAME.pub: the line `SET VK` of a verifying key
+vk_of() {
+    slh inspect "$1" | awk '/^set: / { set = $2 } /^verifying key: / { print set, $3 }'
 }
 
 # skip REASON: ends a recipe that this machine can't run
