@@ -10,7 +10,8 @@
 //! are given an allocator take memory: those that answer an array.
 //!
 //! What two pieces make, over a sink that keeps what it takes: 0 to 11 went there, and the buffer
-//! holds 12. The test `example_of_the_page` runs this, and the tests have the sink, `Recorder`:
+//! holds 12. The test `example_of_the_page` of `array_tests` runs this, and has the sink,
+//! `Recorder`:
 //!
 //! ```
 //! fn cut(sink: &mut Recorder) -> Result<EagerBuffer<U4>, Refused> {
@@ -30,14 +31,8 @@ mod kind;
 pub mod laws;
 mod padding;
 mod read;
-#[cfg(test)]
-mod read_tests;
 mod serial;
-#[cfg(test)]
-mod serial_tests;
 mod sink;
-#[cfg(test)]
-mod tests;
 mod vec_sink;
 
 pub use buffer::{BlockBuffer, EagerBuffer, Error, LazyBuffer};

@@ -8,7 +8,8 @@
 //! - [`ObjectIdentifier`] names an algorithm, [`AssociatedOid`] gives that of a type.
 //!
 //! A hash of a core of one's own, `Summing`, which adds the bytes of blocks of 4. The test
-//! `digests_on_the_way_and_after_a_reset` runs these lines, and has that core, in some forty:
+//! `digests_on_the_way_and_after_a_reset` of `hash_tests` runs these lines, and has that core, in
+//! some forty:
 //!
 //! ```
 //! let mut hash = CoreWrapper::from_core(Summing { total: 0, count: 0 });
@@ -27,8 +28,6 @@
 mod core_api;
 pub mod laws;
 mod oid;
-#[cfg(test)]
-mod tests;
 mod traits;
 mod wrapper;
 

@@ -1,13 +1,13 @@
 -- How the hash value and the bytes that are held follow a message as it grows.
-use Rattle.std.proofs.Common.{◌≡◌, ℕ, zero, suc, ◌+◌, ◌-◌, ◌*◌, ◌/◌, ◌%◌, ◌^◌, ◌<◌, ◌≤◌, List, [], ◌∷◌, ◌++◌, length, take, drop, replicate, slice_set, refl, sym, ap, ◌∙◌, arith, length-append, length-drop}
-use Rattle.std.proofs.lemmas.List.{append_assoc, append-nil, drop-append-le, drop-drop, drop_all, take_all, take-append-le, take-append-drop, take-replicate, length-replicate, replicate-append-replicate, length-take-le}
+use Rattle.std.proofs.Common.{◌≡◌, ℕ, zero, suc, ◌+◌, ◌-◌, ◌*◌, ◌/◌, ◌%◌, ◌^◌, ◌<◌, ◌≤◌, List, [], ◌∷◌, ◌++◌, length, take, drop, replicate, refl, sym, ap, ◌∙◌, arith, length-append, length-drop}
+use Rattle.std.proofs.lemmas.List.{append_assoc, append-nil, drop-append-le, drop-drop, drop_all, take_all, take-append-le, take-append-drop, length-replicate, replicate-append-replicate, length-take-le}
 use Rattle.std.proofs.lemmas.Slice.{take-put_mid}
-use Rattle.std.proofs.Math.Seq.{set-append_seam, take-append-add}
 use Rattle.std.specs.Int.{to_be_bytes, w64}
 use borrow.Rule.Slice.PartMut.{put_mid, post_of}
 use Rattle.hmac_sha256.specs.Hash.{HasAbsorbed, StandsFor}
 use Rattle.hmac_sha256.specs.Sha256.{compress, fold_blocks, initial_words, padding, sha256, word_bytes, zero_count}
 use Rattle.hmac_sha256.specs.declared.hashing.Hash.{Hash}
+use Rattle.word_lanes.proofs.Blocks.{take_ended}
 
 fold_blocks_first : (h p : List ℕ) (n : ℕ) → fold_blocks h p (suc n) ≡ fold_blocks (compress h (take 64 p)) (drop 64 p) n
 unfolding fold_blocks
@@ -106,18 +106,6 @@ sha256-HasAbsorbed words bytes count m x held whole =
 
 -- ---- the padding
 
--- bytes written at the front of zeros
-pub zero_padded_is : (bytes written zeros : List ℕ) → written ≡ bytes → zeros ≡ replicate (64 - length bytes) 0
-    → written ++ zeros ≡ bytes ++ replicate (64 - length bytes) 0
-zero_padded_is bytes written zeros same all = rw (same, all) refl
-
--- the byte after a message's last bytes
-pub ended_block_is : (bytes block : List ℕ) (v : ℕ) → block ≡ bytes ++ replicate (64 - length bytes) 0 → length bytes < 64
-    → slice_set block (length bytes) v ≡ bytes ++ v ∷ replicate (63 - length bytes) 0
-ended_block_is bytes block v padded short =
-    let count : 64 - length bytes ≡ suc (63 - length bytes) = omega arith in
-    rw (padded, count) (set-append_seam bytes 0 (replicate (63 - length bytes) 0) v)
-
 length-ended : (bytes ending : List ℕ) (k : ℕ) → length ((bytes ++ 0x80 ∷ replicate k 0) ++ ending) ≡ length bytes + (suc k + length ending)
 length-ended bytes ending k =
     omega (arith, length-append (bytes ++ 0x80 ∷ replicate k 0) ending, length-append bytes (0x80 ∷ replicate k 0), length-replicate {A = ℕ} k 0)
@@ -132,10 +120,8 @@ sha256_in_one_block words bytes count m block held short is =
     let held_len = length-rest words bytes count m held in
     let zeros : zero_count (length m) ≡ 55 - r = omega arith in
     let ending : List ℕ = to_be_bytes w64 (8 * length m % 2 ^ 64) in
-    let place : 56 ≡ r + suc (55 - r) = omega arith in
     let front : take 56 (bytes ++ 0x80 ∷ replicate (63 - r) 0) ≡ bytes ++ 0x80 ∷ replicate (55 - r) 0 =
-    ap (λ (k : ℕ). take k (bytes ++ 0x80 ∷ replicate (63 - r) 0)) place ∙ take-append-add bytes (0x80 ∷ replicate (63 - r) 0) (suc (55 - r))
-    ∙ ap (λ (z : List ℕ). bytes ++ 0x80 ∷ z) (take-replicate (55 - r) (63 - r) 0 (omega arith)) in
+    take_ended 56 (63 - r) bytes 0x80 (omega arith) (omega arith) in
     let same : block ≡ (bytes ++ 0x80 ∷ replicate (55 - r) 0) ++ ending = is ∙ rw (front, held.counted) refl in
     let whole : block ≡ bytes ++ padding (length m) = same ∙ append_assoc bytes (0x80 ∷ replicate (55 - r) 0) ending ∙ rw zeros refl in
     let eight : length ending ≡ 8 = refl in

@@ -1,5 +1,5 @@
 -- The digests of eight messages that end in one block.
-use Rattle.std.proofs.Common.{◌≡◌, ℕ, ◌+◌, ◌-◌, replicate, ◌≤◌, List, ◌++◌, length, length-drop, length-take, drop, take, refl, ap, ◌∙◌, arith, length-append}
+use Rattle.std.proofs.Common.{◌≡◌, ℕ, ◌+◌, ◌-◌, ◌%◌, ◌^◌, [], ◌∷◌, slice_index, replicate, ◌≤◌, List, ◌++◌, length, length-drop, length-take, drop, take, refl, ap, ◌∙◌, arith, length-append}
 use Rattle.std.proofs.lemmas.List.{length-take-le, take_all, take-append-le}
 use Rattle.std.proofs.lemmas.Slice.{take-put_mid}
 use borrow.Rule.Slice.PartMut.{put_mid}
@@ -62,3 +62,15 @@ tail_joined heads values n j small head value is_head is_value =
     take-put_mid 22 (22 + n - 22) (head ++ zeros) value (22 + n) (omega arith) (omega (arith, length-append head zeros))
     ∙ ap (λ l. l ++ value) (take-append-le 22 head zeros (omega arith) ∙ take_all 22 head (omega arith))
     ∙ rw (is_head, first) refl
+
+-- the first 18 bytes of a head, with others after them
+pub front_kept : (heads : Heads) (j : ℕ) (rest : List ℕ) → take 18 (take 18 (head_bytes heads j) ++ rest) ≡ take 18 (head_bytes heads j)
+unfolding head_bytes
+front_kept heads j rest = refl
+
+-- where a head ends with zeros
+pub front_ended : (heads ended : Heads) (j : ℕ) → head_bytes ended j ≡ take 18 (head_bytes heads j) ++ (0 ∷ 0 ∷ 0 ∷ 0 ∷ [])
+    → word_in ended.w4 j % 2 ^ 16 ≡ 0
+unfolding head_bytes
+front_ended heads ended j is =
+    omega (arith, ap (λ l. slice_index l 18) is, ap (λ l. slice_index l 19) is)

@@ -121,6 +121,15 @@ ended_bytes w0 w1 w2 w3 w4 w5 x fits =
     (middle_bytes (x % 2 ^ 32) 0 small (lit< tt))
     ∙ ap (λ (l : List ℕ). take 18 (take 22 (word_bytes (w0 ∷ w1 ∷ w2 ∷ w3 ∷ w4 ∷ w5 ∷ []))) ++ l) (low_bytes x)
 
+-- the last field of a head, where its first half is 0 before and after
+pub stepped_bytes : (w0 w1 w2 w3 w4 w5 x : ℕ) → w4 < 2 ^ 32 → w4 % 2 ^ 16 ≡ 0 → x < 2 ^ 16
+    → take 22 (word_bytes (w0 ∷ w1 ∷ w2 ∷ w3 ∷ w4 ∷ x * 2 ^ 16 % 2 ^ 32 % 2 ^ 32 ∷ []))
+    ≡ take 18 (take 22 (word_bytes (w0 ∷ w1 ∷ w2 ∷ w3 ∷ w4 ∷ w5 ∷ []))) ++ to_be_bytes w32 x
+stepped_bytes w0 w1 w2 w3 w4 w5 x fits none low =
+    let front : front_word w4 (x % 2 ^ 32) ≡ w4 = omega arith in
+    let middle : middle_word (x % 2 ^ 32) 0 ≡ x * 2 ^ 16 % 2 ^ 32 % 2 ^ 32 = omega arith in
+    rw (front, middle) at (ended_bytes w0 w1 w2 w3 w4 w5 x fits)
+
 -- all of the bytes, and no zero
 pub take_padded_all : (n : ℕ) (bytes : List ℕ) → n ≤ 64 → length bytes ≡ n
     → take n (bytes ++ replicate (64 - length bytes) 0) ≡ bytes

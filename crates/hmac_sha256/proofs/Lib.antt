@@ -5,6 +5,7 @@ mod Vectors
 mod EightWords
 mod Windows
 pub mod EightHashes
+pub mod LongRows
 mod Keys
 pub mod Digest
 pub mod Expanding

@@ -1,15 +1,15 @@
 -- The words of a block's schedule by their places, sixteen of them at a time, and the rounds one by one.
 use Rattle.std.proofs.Common.{◌≡◌, ℕ, zero, suc, ◌+◌, ◌-◌, ◌*◌, ◌<◌, ◌≤◌, List, [], ◌∷◌, ◌++◌, ap, length, take, drop, slice_index, nat_lt, true, false, refl, sym, ◌∙◌, arith, inl, inr}
-use Rattle.std.proofs.lemmas.List.{get_or_append_left, get_or_push, length_push, take_all, take_more, drop-take, drop-drop, get_or-take, get_or-drop}
-use Rattle.std.proofs.lemmas.List.{length-take-le, length-drop}
-use Rattle.std.proofs.lemmas.Grind.{same_number_lists}
-use Rattle.hmac_sha256.proofs.Vectors.{below_sixteen}
+use Rattle.std.proofs.lemmas.List.{get_or_append_left, get_or_push, length_push, take_all, take_more}
+use Rattle.hmac_sha256.proofs.EightWords.{cons}
 use Rattle.std.proofs.lemmas.List.Sums.{fold-append}
 use Rattle.std.proofs.lemmas.Slice.Zip.{get_or-zip, length-zip}
 use Rattle.std.proofs.lemmas.Bool.{cases_lt, le-ltb, lt-ltb}
 use Rattle.std.specs.Prelude.{zip}
-use Rattle.hmac_sha256.specs.Sha256.{added_words, block_word, compress, constants, later_word, round, schedule, schedule_word}
+use Rattle.hmac_sha256.specs.Sha256.{added_words, block_word, choose, compress, constants, later_word, round, schedule, schedule_word, sum32, temporary2, upper_sigma1}
 use Rattle.hmac_sha256.specs.Rounds.{rounds_until, words_from, next_in, block_words, IsBefore}
+use Rattle.word_lanes.proofs.Vectors.{below_sixteen}
+use Rattle.word_lanes.proofs.Windows.{later_in, window_at, window_first, window_next}
 
 pub length-schedule : (b : List ℕ) (n : ℕ) → length (schedule b n) ≡ n
 unfolding schedule
@@ -52,10 +52,6 @@ pub rounds_until_none : (h b : List ℕ) → h ≡ rounds_until h b 0
 unfolding rounds_until
 rounds_until_none h b = refl
 
--- the word that follows sixteen others
-abbrev pub later_in : List ℕ → ℕ
-later_in w = next_in (slice_index w 0) (slice_index w 1) (slice_index w 9) (slice_index w 14)
-
 -- a word is the same in each schedule that has it
 schedule_same : (b : List ℕ) (m n s : ℕ) → s < m → s < n → slice_index (schedule b m) s ≡ slice_index (schedule b n) s
 schedule_same b m n s in_m in_n = slice_index-schedule b m s in_m ∙ sym (slice_index-schedule b n s in_n)
@@ -71,83 +67,92 @@ later_word_is b n t late within =
     let w16 = schedule_same b t n (t - 16) (omega arith) (omega arith) in
     slice_index-schedule b n t within ∙ rw (count, no, w2, w7, w15, w16) refl
 
--- word k of the sixteen from t on
-word_at : (b : List ℕ) (t k : ℕ) → k < 16 → slice_index (words_from b t) k ≡ slice_index (schedule b 80) (t + k)
-unfolding words_from
-word_at b t k low = get_or-take 16 (drop t (schedule b 80)) k 0 low ∙ get_or-drop t (schedule b 80) k 0
-
-later_is : (b : List ℕ) (t : ℕ) → t < 64 → later_in (words_from b t) ≡ slice_index (schedule b 80) (t + 16)
-later_is b t within =
-    let p2 : t + 16 - 2 ≡ t + 14 = omega arith in
-    let p7 : t + 16 - 7 ≡ t + 9 = omega arith in
-    let p15 : t + 16 - 15 ≡ t + 1 = omega arith in
-    let p16 : t + 16 - 16 ≡ t + 0 = omega arith in
-    rw (
-      word_at b t 14 (omega arith),
-      word_at b t 9 (omega arith),
-      word_at b t 1 (omega arith),
-      word_at b t 0 (omega arith),
-      later_word_is b 80 (t + 16) (omega arith) (omega arith),
-      p2,
-      p7,
-      p15,
-      p16,
-    ) refl
-
--- the sixteen words one on
-words_moved : (b : List ℕ) (t : ℕ) → t < 64 → words_from b (t + 1) ≡ drop 1 (words_from b t) ++ slice_index (schedule b 80) (t + 16) ∷ []
-unfolding words_from
-words_moved b t within =
-    let s = schedule b 80 in
-    let count : length s ≡ 80 = length-schedule b 80 in
-    let rest : drop 1 (take 16 (drop t s)) ≡ take 15 (drop (t + 1) s) = drop-take 1 15 (drop t s) ∙ ap (take 15) (drop-drop 1 t s) in
-    let last : slice_index (drop (t + 1) s) 15 ≡ slice_index s (t + 16) = get_or-drop (t + 1) s 15 0 ∙ ap (slice_index s) (omega arith) in
-    take_more (drop (t + 1) s) 15 0 (omega (arith, length-drop (t + 1) s)) ∙ rw (rest, last) refl
-
-words_from_next : (b : List ℕ) (t : ℕ) → t < 64 → words_from b (t + 1) ≡ drop 1 (words_from b t) ++ later_in (words_from b t) ∷ []
-words_from_next b t within = words_moved b t within ∙ ap (λ x. drop 1 (words_from b t) ++ x ∷ []) (sym (later_is b t within))
-
 block_word_is : (b : List ℕ) (k : ℕ) → k < 16 → slice_index (schedule b 80) k ≡ block_word b (4 * k)
 block_word_is b k low =
     let count : length (schedule b k) ≡ k = length-schedule b k in
     let yes : nat_lt k 16 ≡ true = lt-ltb k 16 low in
     slice_index-schedule b 80 k (omega arith) ∙ rw (count, yes) refl
 
-length-words_from : (b : List ℕ) → length (words_from b 0) ≡ 16
-unfolding words_from
-length-words_from b = length-take-le 16 (drop 0 (schedule b 80)) (omega (arith, length-drop 0 (schedule b 80), length-schedule b 80))
-
 -- the first sixteen words are the block's
 pub block_words_are : (b : List ℕ) → block_words b ≡ words_from b 0
+unfolding words_from
 block_words_are b =
-    same_number_lists (block_words b) (words_from b 0) (sym (length-words_from b)) (λ k low.
-    let first : 0 + k ≡ k = omega arith in
+    window_first (schedule b 80) (block_words b) (omega (arith, length-schedule b 80)) refl (λ k low.
     below_sixteen (λ k. slice_index (block_words b) k ≡ block_word b (4 * k)) refl refl refl refl refl refl refl refl refl refl refl refl refl refl refl refl k low
-    ∙ sym (word_at b 0 k low ∙ ap (slice_index (schedule b 80)) first ∙ block_word_is b k low))
-
--- one step: a round, and the window one word on
-pub step_done : (h b v w : List ℕ) (t k x : ℕ) (next_v next_w : List ℕ) → t < 64 → IsBefore h b t v w
-    → k ≡ slice_index constants t → x ≡ slice_index w 0 → next_v ≡ round v k x → next_w ≡ drop 1 w ++ later_in w ∷ []
-    → IsBefore h b (t + 1) next_v next_w
-step_done h b v w t k x next_v next_w within before constant word made slid =
-    let first : slice_index (words_from b t) 0 ≡ slice_index (schedule b 64) t =
-    word_at b t 0 (omega arith) ∙ ap (slice_index (schedule b 80)) (omega arith) ∙ schedule_same b 80 64 t (omega arith) (omega arith) in
-    let is : x ≡ slice_index (schedule b 64) t = word ∙ ap (λ u. slice_index u 0) before.1 ∙ first in (
-      rw (rounds_until_next h b t within, ← is, ← constant, ← before.0) made,
-      slid ∙ ap (λ u. drop 1 u ++ later_in u ∷ []) before.1 ∙ sym (words_from_next b t within),
-    )
-
--- the same round, spelled another way
-pub IsBefore_at : (h b v w : List ℕ) (n k : ℕ) → n ≡ k → IsBefore h b n v w → IsBefore h b k v w
-IsBefore_at h b v w n k same before = rw (← same) before
+    ∙ sym (block_word_is b k low))
 
 -- a word of the window is the schedule's
 pub window_word : (b w : List ℕ) (t k : ℕ) → k < 16 → t + k < 64 → w ≡ words_from b t → slice_index w k ≡ slice_index (schedule b 64) (t + k)
+unfolding words_from
 window_word b w t k low within is =
-    ap (λ u. slice_index u k) is ∙ word_at b t k low ∙ schedule_same b 80 64 (t + k) (omega arith) within
+    window_at (schedule b 80) w t is k low ∙ schedule_same b 80 64 (t + k) (omega arith) within
 
 -- one more round
 pub round_done : (b h v : List ℕ) (t k x : ℕ) (next : List ℕ) → t < 64 → v ≡ rounds_until h b t
     → k ≡ slice_index constants t → x ≡ slice_index (schedule b 64) t → next ≡ round v k x → next ≡ rounds_until h b (t + 1)
 round_done b h v t k x next within done constant word made =
     rw (rounds_until_next h b t within, ← word, ← constant, ← done) made
+
+-- the word at the front gone, and another at the end
+abbrev pub pushed : List ℕ → ℕ → List ℕ
+pushed w x = drop 1 w ++ x ∷ []
+
+word_done : (b w : List ℕ) (t x : ℕ) → t < 64 → w ≡ words_from b t → x ≡ later_in next_in w → pushed w x ≡ words_from b (t + 1)
+unfolding words_from
+word_done b w t x within is word =
+    let s = schedule b 80 in
+    let long : t + 16 < length s = omega (arith, length-schedule b 80) in
+    let follows = later_word_is b 80 (t + 16) (omega arith) (omega arith) in
+    window_next s w t is next_in (pushed w x) long follows (ap (pushed w) word)
+
+-- one step: a round, and the window one word on
+pub step_done : (h b v w : List ℕ) (t k x : ℕ) (next_v next_w : List ℕ) → t < 64 → IsBefore h b t v w
+    → k ≡ slice_index constants t → x ≡ slice_index w 0 → next_v ≡ round v k x → next_w ≡ drop 1 w ++ later_in next_in w ∷ []
+    → IsBefore h b (t + 1) next_v next_w
+unfolding words_from
+step_done h b v w t k x next_v next_w within before constant word made slid =
+    let s = schedule b 80 in
+    let place : t + 0 ≡ t = omega arith in
+    let first : x ≡ slice_index (schedule b 64) t =
+    word ∙ window_at s w t before.1 0 (omega arith) ∙ ap (slice_index s) place ∙ schedule_same b 80 64 t (omega arith) within in
+    (round_done b h v t k x next_v within before.0 constant first made, slid ∙ word_done b w t _ within before.1 refl)
+
+-- the same round, spelled another way
+pub IsBefore_at : (h b v w : List ℕ) (n k : ℕ) → n ≡ k → IsBefore h b n v w → IsBefore h b k v w
+IsBefore_at h b v w n k same before = rw (← same) before
+
+-- the window four words on
+pub four_words_done : (b w : List ℕ) (t x0 x1 x2 x3 : ℕ) → t + 4 ≤ 64 → w ≡ words_from b t
+    → x0 ≡ later_in next_in w → x1 ≡ later_in next_in (pushed w x0) → x2 ≡ later_in next_in (pushed (pushed w x0) x1)
+    → x3 ≡ later_in next_in (pushed (pushed (pushed w x0) x1) x2)
+    → pushed (pushed (pushed (pushed w x0) x1) x2) x3 ≡ words_from b (t + 4)
+four_words_done b w t x0 x1 x2 x3 within is p0 p1 p2 p3 =
+    let one : pushed w x0 ≡ words_from b (t + 1) = word_done b w t x0 (omega arith) is p0 in
+    let two : pushed (pushed w x0) x1 ≡ words_from b (t + 2) =
+    word_done b (pushed w x0) (t + 1) x1 (omega arith) one p1 ∙ ap (words_from b) (omega arith) in
+    let three : pushed (pushed (pushed w x0) x1) x2 ≡ words_from b (t + 3) =
+    word_done b (pushed (pushed w x0) x1) (t + 2) x2 (omega arith) two p2 ∙ ap (words_from b) (omega arith) in
+    word_done b (pushed (pushed (pushed w x0) x1) x2) (t + 3) x3 (omega arith) three p3 ∙ ap (words_from b) (omega arith)
+
+-- a sum with what two words share
+pub sum_shared : (p s w : ℕ) → sum32 p (sum32 s w) ≡ sum32 (sum32 p s) w
+sum_shared p s w = omega arith
+
+sum_later : (p q x : ℕ) → sum32 (sum32 (sum32 p 0) q) x ≡ sum32 (sum32 p x) q
+sum_later p q x = omega arith
+
+sum_under : (d p x : ℕ) → sum32 (sum32 d (sum32 p 0)) x ≡ sum32 d (sum32 p x)
+sum_under d p x = omega arith
+
+-- the word of a round comes into two of the variables after it
+pub round_word : (v u : List ℕ) (k x : ℕ) → v ≡ round u k 0
+    → sum32 (slice_index v 0) x ∷ slice_index v 1 ∷ slice_index v 2 ∷ slice_index v 3
+    ∷ sum32 (slice_index v 4) x ∷ slice_index v 5 ∷ slice_index v 6 ∷ slice_index v 7 ∷ []
+    ≡ round u k x
+round_word v u k x made =
+    let p : ℕ = sum32 (sum32 (sum32 (slice_index u 7) (upper_sigma1 (slice_index u 4))) (choose (slice_index u 4) (slice_index u 5) (slice_index u 6))) k in
+    let both : List ℕ → List ℕ = λ l.
+    sum32 (slice_index l 0) x ∷ slice_index l 1 ∷ slice_index l 2 ∷ slice_index l 3
+    ∷ sum32 (slice_index l 4) x ∷ slice_index l 5 ∷ slice_index l 6 ∷ slice_index l 7 ∷ [] in
+    ap both made
+    ∙ cons (sum_later p (temporary2 u) x) (cons refl (cons refl (cons refl (cons (sum_under (slice_index u 3) p x) refl))))

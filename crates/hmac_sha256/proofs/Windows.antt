@@ -1,8 +1,10 @@
 -- The words of the block that a head, a value and the padding make.
-use Rattle.std.proofs.Common.{◌≡◌, ℕ, zero, suc, ◌+◌, ◌*◌, ◌%◌, ◌^◌, ◌<◌, ◌⊎◌, List, [], ◌∷◌, ◌++◌, map, take, slice_index, slice_index_or, refl, inl, inr, arith}
-use Rattle.hmac_sha256.specs.Eight.{ended_block, ended_words, front_word, middle_word, word_in}
+use Rattle.std.proofs.Common.{◌≡◌, ℕ, zero, suc, ◌+◌, ◌*◌, ◌%◌, ◌^◌, ◌<◌, ◌⊎◌, List, [], ◌∷◌, ◌++◌, map, take, slice_index, slice_index_or, refl, inl, inr, arith, ap, mod-lt, pow_pos}
+use Rattle.hmac_sha256.specs.Eight.{ended_block, ended_words, front_word, head_bytes, head_words, lane_bytes, middle_word, word_in}
 use Rattle.hmac_sha256.specs.Rounds.{block_words}
 use Rattle.hmac_sha256.specs.Sha256.{word_bytes}
+use Rattle.hmac_sha256.specs.declared.lanes.Eight.{Eight}
+use Rattle.hmac_sha256.specs.declared.lanes.Heads.{Heads}
 use Rattle.hmac_sha256.proofs.EightWords.{cons}
 
 -- a word of some rows in a lane
@@ -56,3 +58,15 @@ module _ (w0 w1 w2 w3 w4 w5 v0 v1 v2 v3 v4 v5 v6 v7 : ℕ)
   window_of n (inl e) = rw e window_of_16
   window_of n (inr (inl e)) = rw e window_of_24
   window_of n (inr (inr e)) = rw e window_of_32
+
+-- the first words of such a block are those of the head
+pub first_words : (heads : Heads) (values : Eight) (n j : ℕ) → (n ≡ 16) ⊎ ((n ≡ 24) ⊎ (n ≡ 32))
+    → take 5 (block_words (ended_block (head_bytes heads j ++ take n (lane_bytes values j)) (86 + n))) ≡ take 5 (head_words heads j)
+unfolding head_bytes lane_bytes
+first_words heads values n j width =
+    let v = values.words in
+    ap (take 5) (window_of (word_in heads.w0 j) (word_in heads.w1 j) (word_in heads.w2 j) (word_in heads.w3 j) (word_in heads.w4 j) (word_in heads.w5 j)
+    (word_in v.a j) (word_in v.b j) (word_in v.c j) (word_in v.d j) (word_in v.e j) (word_in v.f j) (word_in v.g j) (word_in v.h j)
+    (mod-lt _ (pow_pos 32)) (mod-lt _ (pow_pos 32)) (mod-lt _ (pow_pos 32)) (mod-lt _ (pow_pos 32)) (mod-lt _ (pow_pos 32)) (mod-lt _ (pow_pos 32))
+    (mod-lt _ (pow_pos 32)) (mod-lt _ (pow_pos 32)) (mod-lt _ (pow_pos 32)) (mod-lt _ (pow_pos 32)) (mod-lt _ (pow_pos 32)) (mod-lt _ (pow_pos 32)) (mod-lt _ (pow_pos 32)) (mod-lt _ (pow_pos 32))
+    n width)

@@ -1,5 +1,8 @@
 -- What is seen of working variables and of windows of words, in one lane of each word.
-use Rattle.std.specs.Prelude.{ℕ, List, [], ◌∷◌}
+use Rattle.std.specs.Prelude.{◌≡◌, ℕ, ◌+◌, List, [], ◌∷◌, slice_index}
+use Rattle.hmac_sha256.specs.Rounds.{block_words, rounds_until, share_in}
+use Rattle.hmac_sha256.specs.Sha256.{constants, round}
+use Rattle.hmac_sha256.specs.declared.compression.Opening.{Opening}
 use Rattle.hmac_sha256.specs.declared.compression.Variables.{Variables}
 use Rattle.hmac_sha256.specs.declared.compression.Window.{Window}
 
@@ -12,3 +15,12 @@ abbrev pub window : {W : Type 0} → (W → ℕ) → Window W → List ℕ
 window f w =
     f w.w0 ∷ f w.w1 ∷ f w.w2 ∷ f w.w3 ∷ f w.w4 ∷ f w.w5 ∷ f w.w6 ∷ f w.w7
     ∷ f w.w8 ∷ f w.w9 ∷ f w.w10 ∷ f w.w11 ∷ f w.w12 ∷ f w.w13 ∷ f w.w14 ∷ f w.w15 ∷ []
+
+-- the rounds of the first five words of block b were taken, and what these give to later words
+abbrev pub IsOpened : {W : Type 0} → (W → ℕ) → List ℕ → Opening W → Type 0
+IsOpened f b opening =
+    let share : ℕ → ℕ = λ k. share_in (slice_index (block_words b) k) (slice_index (block_words b) (k + 1)) in
+    (variables f opening.next
+    ≡ round (rounds_until (variables f opening.state) b 5) (slice_index constants 5) 0)
+    × (f opening.shares.0 ≡ share 0) × (f opening.shares.1 ≡ share 1)
+    × (f opening.shares.2 ≡ share 2) × (f opening.shares.3 ≡ share 3)

@@ -15,6 +15,10 @@ words_from b t = take 16 (drop t (schedule b 80))
 abbrev pub next_in : ℕ → ℕ → ℕ → ℕ → ℕ
 next_in w0 w1 w9 w14 = sum32 (sum32 (sum32 (lower_sigma1 w14) w9) (lower_sigma0 w1)) w0
 
+-- what two words give to the word 16 places after the first
+abbrev pub share_in : ℕ → ℕ → ℕ
+share_in w0 w1 = sum32 (lower_sigma0 w1) w0
+
 -- the sixteen words of block b
 abbrev pub block_words : List ℕ → List ℕ
 block_words b =

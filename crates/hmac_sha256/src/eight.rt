@@ -8,11 +8,22 @@ ghost use Rattle.hmac_sha256.specs.Lanes.{variables, window};
 ghost use Rattle.hmac_sha256.specs.Rounds.{block_words};
 ghost use Rattle.hmac_sha256.specs.Sha256.{compress, sha256};
 
-use crate::compression::{Variables, Window, compressed, spread};
+use crate::compression::{Opening, Variables, Window, compressed_from, four_steps, spread};
 use crate::hashing::{BLOCK_BYTES, Hash};
 use crate::lanes::{Eight, Heads, fronts, middle};
 use crate::word::Word;
 use std::simd::u32x8;
+
+/// Hashes of eight messages that have begun, one in each lane: of one block, and then of the first
+/// 18 bytes of a head.
+#[derive(Drop)]
+pub struct Begun {
+    pub(crate) hash: Hash,
+    // The last field of each is 0.
+    pub(crate) heads: Heads,
+    pub(crate) opening: Opening<u32x8>,
+    ghost one_block: { absorbed_bytes hash ≡ 64 },
+}
 
 // The words of the first N bytes of each value, the bit 1 after them (FIPS 180-4, 5.1.1), and
 // zeros.
@@ -37,7 +48,7 @@ fn ended_words<const N: usize>(values: &Variables<u32x8>) -> [u32x8; 9]
 // The words of the block of a head and N bytes of a value, with which a message ends after its
 // first block.
 #[inline(always)]
-fn last_window<const N: usize>(heads: &Heads, values: &Eight) -> Window<u32x8>
+pub(crate) fn last_window<const N: usize>(heads: &Heads, values: &Eight) -> Window<u32x8>
     requires width { (N ≡ 16) ⊎ (N ≡ 24) ⊎ (N ≡ 32) }
     ensures { (j : ℕ) → j < 8 → window (λ lanes. word_in lanes j) result
         ≡ block_words (ended_block
@@ -64,16 +75,23 @@ fn last_window<const N: usize>(heads: &Heads, values: &Eight) -> Window<u32x8>
     }
 }
 
-// The words of the digests of a message of one block, a head and N bytes of a value.
-#[inline]
+// The words of the digests of a message of one block, a head and N bytes of a value. The first
+// rounds stand here, where the words of the padding are known, which saves operations.
+#[inline(never)]
 fn digest_words<const N: usize>(state: &[u32; 8], heads: &Heads, values: &Eight) -> Eight
     requires width { (N ≡ 16) ⊎ (N ≡ 24) ⊎ (N ≡ 32) }
     ensures { (j : ℕ) → j < 8 → variables (λ lanes. word_in lanes j) result.words
         ≡ compress state.now (ended_block
         (head_bytes heads.now j ++ take N (lane_bytes values.now j)) (86 + N)) }
 {
+    let state = spread(state);
+    let words = last_window::<N>(heads, values);
+    let (v, w) = four_steps(state, words, 0);
+    let (v, w) = four_steps(v, w, 4);
+    let (v, w) = four_steps(v, w, 8);
+    let (v, w) = four_steps(v, w, 12);
     Eight {
-        words: compressed(spread(state), last_window::<N>(heads, values)),
+        words: compressed_from::<u32x8, N, false>(&state, &v, &w, 1),
     }
 }
 

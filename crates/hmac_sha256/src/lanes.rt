@@ -1,11 +1,12 @@
 //! Eight values side by side, kept as words: what one hash gives is the next one's input, with no
 //! bytes in between.
 
-ghost use Rattle.std.specs.Prelude.{◌≡◌, ℕ, ◌-◌, ◌<◌, ◌≤◌, [], ◌++◌, length, take, replicate};
-ghost use Rattle.std.specs.Prelude.{slice_index, slice_index_or, nat_le, if◌then◌else◌};
+ghost use Rattle.std.specs.Prelude.{◌≡◌, ℕ, ◌-◌, ◌%◌, ◌^◌, ◌<◌, ◌≤◌, [], ◌++◌, length, take};
+ghost use Rattle.std.specs.Prelude.{replicate, slice_index, slice_index_or, nat_le};
+ghost use Rattle.std.specs.Prelude.{if◌then◌else◌};
 ghost use Rattle.std.specs.Int.{to_be_bytes, w32};
-ghost use Rattle.hmac_sha256.specs.Eight.{front_word, head_bytes, lane_bytes, middle_word};
-ghost use Rattle.hmac_sha256.specs.Eight.{IsBlock, word_in};
+ghost use Rattle.hmac_sha256.specs.Eight.{front_word, head_bytes, head_words, lane_bytes};
+ghost use Rattle.hmac_sha256.specs.Eight.{IsBlock, middle_word, word_in};
 
 use crate::compression::{Variables, row};
 use crate::hashing::{BLOCK_BYTES, word_bytes, zero_padded};
@@ -234,6 +235,25 @@ impl Heads {
             w3: self.w3,
             w4: fronts(self.w4, field),
             w5: middle(field, u32x8::splat(0)),
+        }
+    }
+
+    // These heads with another last field, of 4 bytes, whose first two are 0 before and after.
+    #[inline(always)]
+    pub(crate) fn stepped(&self, number: u32) -> Heads
+        requires low { number < 2 ^ 16 }
+        ensures bytes { (j : ℕ) → j < 8 → word_in self.now.w4 j % 2 ^ 16 ≡ 0 → head_bytes result j
+            ≡ take 18 (head_bytes self.now j) ++ to_be_bytes w32 number }
+        ensures words { (j : ℕ) → j < 8
+            → take 5 (head_words result j) ≡ take 5 (head_words self.now j) }
+    {
+        Heads {
+            w0: self.w0,
+            w1: self.w1,
+            w2: self.w2,
+            w3: self.w3,
+            w4: self.w4,
+            w5: u32x8::splat(number << 16),
         }
     }
 }

@@ -6,7 +6,7 @@
 //! - [`WrappedHash`] is SHA-256 by the traits of `digest_core`.
 //!
 //! A key from a secret, a code of a message under it, and the message's digest. The test
-//! `a_code_under_a_derived_key` runs these lines:
+//! `a_code_under_a_derived_key` of `hash_tests` runs these lines:
 //!
 //! ```
 //! let prk = HKDF::extract(b"salt", b"secret");
@@ -23,23 +23,20 @@
 //! A port of the Rust crate `hmac-sha256` 1.1.15.
 #![tactic(auto)]
 
+mod chained;
 mod comparison;
 mod compression;
 mod eight;
 mod hashing;
 mod hkdf;
-#[cfg(test)]
-mod hkdf_tests;
 mod lanes;
 pub mod laws;
 mod mac;
-#[cfg(test)]
-mod tests;
+mod rows;
 mod word;
 mod wrapped;
-#[cfg(test)]
-mod wrapped_tests;
 
+pub use eight::Begun;
 pub use hashing::{BLOCK_BYTES, Hash, MAX_BYTES, MAX_TAIL};
 pub use hkdf::HKDF;
 pub use lanes::{Eight, Heads};

@@ -22,7 +22,7 @@
 //! assert_eq!(rows[2].as_slice(), [0, 9]);
 //! ```
 //!
-//! The test `the_example_of_the_page` runs these lines.
+//! The test `the_example_of_the_page` of `array_tests` runs these lines.
 //!
 //! Through a view that a call answers in an `Option`, a `Result` or a pair, as
 //! `ArrayMut::try_from` does, a caller writes into the slice. A clause of the call says what the
@@ -41,16 +41,10 @@ mod from_fn;
 mod iter;
 pub mod laws;
 mod lending;
-#[cfg(test)]
-mod lending_tests;
 pub mod sizes;
 mod slice_ext;
-#[cfg(test)]
-mod tests;
 mod view;
 mod view_mut;
-#[cfg(test)]
-mod view_tests;
 
 ghost use Rattle.std.specs.Prelude.{ℕ};
 

@@ -7,11 +7,13 @@
 //! - [`Replier`] answers one line, and [`serve_lines`] the lines of a whole source.
 //! - [`all_fields`], [`cut_fields`], [`count_fields`] and [`field`] cut a line into its fields;
 //!   [`field_at`], [`hex_field`], [`decimal_value`] and [`number_at`] read one.
+//! - [`read_some`] reads from a source up to a limit, [`write_all`] writes a text to a sink.
 //! - [`push_number`], [`push_hex`] and their lines put text together.
 //! - [`serve_words`] is a whole program of lines, with its usage text.
 //!
 //! A replier of one's own, and its replies to the lines of an input. Its ghost member says what it
-//! replies, and the prover checks that it does. The test `example_of_the_page` runs this:
+//! replies, and the prover checks that it does. The test `example_of_the_page` of `line_tests` runs
+//! this:
 //!
 //! ```
 //! use line_serve::{ByteString, MemSink, QuietSource, Replier, count_fields, serve_lines};
@@ -59,8 +61,6 @@ mod pending;
 mod place;
 mod program;
 mod stream;
-#[cfg(test)]
-mod tests;
 mod text;
 mod write;
 
@@ -68,7 +68,7 @@ pub use answer::Replier;
 pub use bytes::{ByteString, Words};
 pub use decimals::{decimal_value, number_at};
 pub use fields::{all_fields, count_fields, cut_fields, field, field_at, hex_field};
-pub use lines::serve_lines;
+pub use lines::{read_some, serve_lines};
 pub use memory::{MemSink, MemSource, NullSink, QuietSource};
 pub use program::serve_words;
 pub use stream::{Failed, Sink, Source};

@@ -53,12 +53,9 @@ impl Halt {
     }
 }
 
-/// Reads the next bytes of the input into the front of the buffer, at most so many.
-pub(crate) fn read_some<S: Source>(
-    source: &mut S,
-    buffer: &mut [u8],
-    most: u64,
-) -> Result<usize, Failed>
+/// Reads the next bytes of a source into the front of a buffer, at most so many, by one call of its
+/// `read`. It answers 0 at the end of the source alone.
+pub fn read_some<S: Source>(source: &mut S, buffer: &mut [u8], most: u64) -> Result<usize, Failed>
     requires room { 0 < length buffer.old }
     requires some { 0 < most }
     ensures bytes { Reads (S.left source.old) (S.left source.new) most result buffer.new }

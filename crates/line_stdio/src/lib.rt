@@ -2,8 +2,6 @@
 #![tactic(auto)]
 
 mod stdio;
-#[cfg(test)]
-mod stdio_tests;
 mod words;
 
 pub use stdio::{StdSink, StdSource};

@@ -1,38 +1,22 @@
 -- The last block of a message, and the digest of a message of two blocks.
-use Rattle.std.proofs.Common.{◌≡◌, ℕ, suc, ◌+◌, ◌-◌, ◌*◌, ◌/◌, ◌%◌, ◌^◌, ◌<◌, ◌≤◌, List, ◌∷◌, ◌++◌, length, take, drop, replicate, slice_set, refl, sym, ap, ◌∙◌, arith, length-append, append_assoc}
-use Rattle.std.proofs.lemmas.List.{take_all, take-replicate, length-replicate}
-use Rattle.std.proofs.Math.Seq.{drop-append_seam, set-append_seam, take-append_seam, take-append-add}
+use Rattle.std.proofs.Common.{◌≡◌, ℕ, suc, ◌+◌, ◌-◌, ◌*◌, ◌/◌, ◌%◌, ◌^◌, ◌<◌, ◌≤◌, List, ◌∷◌, ◌++◌, length, take, drop, replicate, refl, sym, ap, ◌∙◌, arith, length-append, append_assoc}
+use Rattle.std.proofs.lemmas.List.{take_all, length-replicate}
+use Rattle.std.proofs.Math.Seq.{drop-append_seam, take-append_seam}
 use Rattle.std.specs.Int.{to_be_bytes, w128}
+use Rattle.word_lanes.proofs.Blocks.{take_ended}
 use Rattle.sha2.specs.Sha512.{compress, digest_bytes, hash_after, initial_hash_512, padded_message, padding, sha512}
 
--- bytes and the zeros after them
-pub zero_padded_is : (bytes written zeros : List ℕ) → written ≡ bytes → zeros ≡ replicate (128 - length bytes) 0
-    → written ++ zeros ≡ bytes ++ replicate (128 - length bytes) 0
-zero_padded_is bytes written zeros same all = rw (same, all) refl
-
--- the byte after a message's last bytes
-pub ended_block_is : (bytes block : List ℕ) (v : ℕ) → block ≡ bytes ++ replicate (128 - length bytes) 0 → length bytes < 128
-    → slice_set block (length bytes) v ≡ bytes ++ v ∷ replicate (127 - length bytes) 0
-ended_block_is bytes block v padded short =
-    let count : 128 - length bytes ≡ suc (127 - length bytes) = omega arith in
-    rw (padded, count) (set-append_seam bytes 0 (replicate (127 - length bytes) 0) v)
-
--- the block that bytes begin and the padding ends
-pub last_block_is : (rest block : List ℕ) (total : ℕ) → length rest ≤ 111 → total ≡ 128 + length rest
-    → block ≡ take 112 (rest ++ 0x80 ∷ replicate (127 - length rest) 0) ++ to_be_bytes w128 (total * 8)
-    → block ≡ rest ++ padding (128 + length rest)
-last_block_is rest block total short count is =
-    let r : ℕ = length rest in
-    let zeros : (239 - (128 + r) % 128) % 128 ≡ 111 - r = omega arith in
-    let bits : (128 + r) * 8 % 2 ^ 128 ≡ total * 8 = omega arith in
-    let place : 112 ≡ r + suc (111 - r) = omega arith in
-    let front : take 112 (rest ++ 0x80 ∷ replicate (127 - r) 0) ≡ rest ++ 0x80 ∷ replicate (111 - r) 0 =
-    ap (λ (k : ℕ). take k (rest ++ 0x80 ∷ replicate (127 - r) 0)) place
-    ∙ take-append-add rest (0x80 ∷ replicate (127 - r) 0) (suc (111 - r))
-    ∙ ap (λ (z : List ℕ). rest ++ 0x80 ∷ z) (take-replicate (111 - r) (127 - r) 0 (omega arith)) in
-    is ∙ ap (λ (xs : List ℕ). xs ++ to_be_bytes w128 (total * 8)) front
-    ∙ append_assoc rest (0x80 ∷ replicate (111 - r) 0) (to_be_bytes w128 (total * 8))
-    ∙ rw (zeros, bits) refl
+-- k bytes of a tail or a row with what begins its padding, and the length of the message
+pub padded_is : (k zeros : ℕ) (bytes whole : List ℕ) (total : ℕ) → length bytes ≤ 2287
+    → length bytes < k → k ≤ length bytes + suc zeros → total ≡ 128 + length bytes
+    → k - 1 - length bytes ≡ (239 - (128 + length bytes) % 128) % 128
+    → whole ≡ take k (bytes ++ 0x80 ∷ replicate zeros 0) ++ to_be_bytes w128 (total * 8)
+    → whole ≡ bytes ++ padding (128 + length bytes)
+padded_is k zeros bytes whole total short low high count left is =
+    let bits : total * 8 ≡ (128 + length bytes) * 8 % 2 ^ 128 = omega arith in
+    is ∙ ap (λ (xs : List ℕ). xs ++ to_be_bytes w128 (total * 8)) (take_ended k zeros bytes 0x80 low high)
+    ∙ append_assoc bytes (0x80 ∷ replicate (k - 1 - length bytes) 0) (to_be_bytes w128 (total * 8))
+    ∙ rw (left, bits) refl
 
 -- how long the padding is after a first block and a tail
 length-padding : (len : ℕ) → len ≤ 111 → len + length (padding (128 + len)) ≡ 128

@@ -1,52 +1,15 @@
 -- Rows with their padding, and the digest of a first block and a row.
-use Rattle.std.proofs.Common.{◌≡◌, ℕ, zero, suc, ◌+◌, ◌-◌, ◌*◌, ◌/◌, ◌%◌, ◌^◌, ◌<◌, ◌≤◌, List, [], ◌∷◌, ◌++◌, length, take, drop, replicate, slice_index_or, slice_set, refl, sym, ap, ◌∙◌, arith, length-append, append_assoc, length-drop, length-take-le}
-use Rattle.std.proofs.lemmas.List.{take-replicate, take-append-drop}
-use Rattle.std.proofs.Math.Seq.{drop-append-add, set-append_seam, take-append-add}
-use Rattle.std.specs.Int.{to_be_bytes, w128}
+use Rattle.std.proofs.Common.{◌≡◌, ℕ, zero, suc, ◌+◌, ◌*◌, ◌/◌, ◌<◌, ◌≤◌, List, ◌++◌, length, take, drop, refl, sym, ap, ◌∙◌, arith, length-append, append_assoc, length-drop, length-take-le}
+use Rattle.std.proofs.lemmas.List.{take-append-drop}
+use Rattle.std.proofs.lemmas.Nat.{row_fits}
+use Rattle.std.proofs.Math.Seq.{drop-append-add}
 use Rattle.sha2.specs.Sha512.{compress, digest_bytes, hash_after, initial_hash_512, padded_message, padding, sha512}
 use Rattle.sha2.proofs.Absorbing512.{hash_after-append, hash_after_next}
 use Rattle.sha512_lanes.proofs.Ending.{digest_is, take_front}
 
--- the byte after a row, which stands before zeros
-pub ended_row_is : (row padded : List ℕ) (v : ℕ) → padded ≡ row ++ replicate (2304 - length row) 0 → length row < 2304
-    → slice_set padded (length row) v ≡ row ++ v ∷ replicate (2303 - length row) 0
-ended_row_is row padded v is short =
-    let count : 2304 - length row ≡ suc (2303 - length row) = omega arith in
-    rw (is, count) (set-append_seam row 0 (replicate (2303 - length row) 0) v)
-
 -- where a row and its padding end
 abbrev pub row_end : ℕ → ℕ
 row_end len = 128 * ((len + 144) / 128)
-
--- the row with its padding
-pub padded_row_is : (row front : List ℕ) (total : ℕ) → length row ≤ 2287 → total ≡ 128 + length row
-    → front ≡ take (row_end (length row) - 16) (row ++ 0x80 ∷ replicate (2303 - length row) 0) ++ to_be_bytes w128 (total * 8)
-    → front ≡ row ++ padding (128 + length row)
-padded_row_is row front total short count is =
-    let r : ℕ = length row in
-    let end : ℕ = row_end r in
-    let zeros : (239 - (128 + r) % 128) % 128 ≡ end - 17 - r = omega arith in
-    let bits : (128 + r) * 8 % 2 ^ 128 ≡ total * 8 = omega arith in
-    let place : end - 16 ≡ r + suc (end - 17 - r) = omega arith in
-    let before : take (end - 16) (row ++ 0x80 ∷ replicate (2303 - r) 0) ≡ row ++ 0x80 ∷ replicate (end - 17 - r) 0 =
-    ap (λ (k : ℕ). take k (row ++ 0x80 ∷ replicate (2303 - r) 0)) place
-    ∙ take-append-add row (0x80 ∷ replicate (2303 - r) 0) (suc (end - 17 - r))
-    ∙ ap (λ (z : List ℕ). row ++ 0x80 ∷ z) (take-replicate (end - 17 - r) (2303 - r) 0 (omega arith)) in
-    is ∙ ap (λ (xs : List ℕ). xs ++ to_be_bytes w128 (total * 8)) before
-    ∙ append_assoc row (0x80 ∷ replicate (end - 17 - r) 0) (to_be_bytes w128 (total * 8))
-    ∙ rw (zeros, bits) refl
-
-pub joined_same : (a b c d : List ℕ) → a ≡ c → b ≡ d → a ++ b ≡ c ++ d
-joined_same a b c d front back = rw (front, back) refl
-
--- each row in its place
-pub row_at : (a b c d : List ℕ) (want : ℕ → List ℕ) → a ≡ want 0 → b ≡ want 1 → c ≡ want 2 → d ≡ want 3
-    → (j : ℕ) → j < 4 → slice_index_or (a ∷ b ∷ c ∷ d ∷ []) j [] ≡ want j
-row_at a b c d want first second third fourth zero low = first
-row_at a b c d want first second third fourth (suc zero) low = second
-row_at a b c d want first second third fourth (suc (suc zero)) low = third
-row_at a b c d want first second third fourth (suc (suc (suc zero))) low = fourth
-row_at a b c d want first second third fourth (suc (suc (suc (suc j)))) low = absurd (omega arith)
 
 pub none_yet : (h x : List ℕ) → hash_after h x 0 ≡ h
 unfolding hash_after
@@ -85,21 +48,9 @@ sha512_of_row words m row padded count block first short size blocks front =
     (same ∙ ap (λ (h : List ℕ). hash_after h p count) first ∙ sym (after_first initial_hash_512 m p count block))
     ∙ sym (digest_is (m ++ row) ∙ rw (whole, all) refl)
 
--- one fact for each row
-pub for_each : (P : ℕ → Type 0) → P 0 → P 1 → P 2 → P 3 → (j : ℕ) → j < 4 → P j
-for_each P first second third fourth zero low = first
-for_each P first second third fourth (suc zero) low = second
-for_each P first second third fourth (suc (suc zero)) low = third
-for_each P first second third fourth (suc (suc (suc zero))) low = fourth
-for_each P first second third fourth (suc (suc (suc (suc j)))) low = absurd (omega arith)
-
 -- a row stands within all of them
 pub row_inside : (k len : ℕ) → k < 4 → (all : ℕ) → all ≡ 4 * len → k * len + len ≤ all
-row_inside zero len low all e = omega arith
-row_inside (suc zero) len low all e = omega arith
-row_inside (suc (suc zero)) len low all e = omega arith
-row_inside (suc (suc (suc zero))) len low all e = omega arith
-row_inside (suc (suc (suc (suc k)))) len low all e = absurd (omega arith)
+row_inside k len low all e = rw e (row_fits k len 4 len low (omega arith))
 
 -- the row that stands at a place, with its padding
 pub row_of : (rows result : List ℕ) (len k start n : ℕ) → length rows ≡ 4 * len → k < 4 → start ≡ k * len → n ≡ len

@@ -6,7 +6,7 @@
 //! ends alone, as the hashes of a tree under one public seed do.
 //!
 //! The digests of a block followed by each of four tails of three bytes. The test
-//! `example_of_the_page` runs this:
+//! `example_of_the_page` of `hash_tests` runs this:
 //!
 //! ```
 //! use sha512_lanes::{BLOCK_BYTES, Midstate};
@@ -38,8 +38,6 @@
 mod compression;
 mod hashing;
 mod rows;
-#[cfg(test)]
-mod tests;
 mod word;
 
 pub use hashing::{BLOCK_BYTES, MAX_TAIL, Midstate};

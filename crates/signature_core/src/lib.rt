@@ -5,8 +5,9 @@
 //! give for it, whether a signature is accepted.
 //!
 //! For code that takes keys of any scheme, and for schemes whose keys such code takes. Whether a
-//! key accepts what it signs, for every type of keys that sign by themselves. The test
-//! `example_of_the_page` runs this on a key of one byte, for which the tests implement the traits:
+//! key accepts what it signs, for every type of keys that sign by themselves. In `slh_tests`,
+//! `signature_traits::example_of_the_page` runs this on a key of one byte, for which the tests
+//! implement the traits:
 //!
 //! ```
 //! use signature_core::{KeypairRef, Signer, Verifier};
@@ -33,8 +34,6 @@ pub mod counter;
 mod encoding;
 mod keypair;
 mod signer;
-#[cfg(test)]
-mod tests;
 mod verifier;
 
 pub use encoding::SignatureEncoding;

@@ -488,25 +488,3 @@ impl RowAddress for ForsPrf {
         }
     }
 }
-
-#[cfg(test)]
-mod tests {
-    use super::*;
-    use std::test::Fail;
-
-    // Cut by hand from the 32 bytes (FIPS 205, section 11.2).
-    #[test]
-    fn compressed_bytes(rt: HostRuntime) {
-        let adrs = WotsHash {
-            layer_adrs: 1,
-            tree_adrs_low: 0x0203,
-            key_pair_adrs: 4,
-            chain_adrs: 5,
-            hash_adrs: 6,
-        };
-        let want = [
-            1, 0, 0, 0, 0, 0, 0, 2, 3, 0, 0, 0, 0, 4, 0, 0, 0, 5, 0, 0, 0, 6,
-        ];
-        assert_eq!(rt; adrs.compressed(), want);
-    }
-}

@@ -76,35 +76,3 @@ fn checksum_of(digits: &[u16]) -> u16
     }
     sum
 }
-
-#[cfg(test)]
-mod tests {
-    use super::*;
-    use hybrid_array::sizes::U1;
-    use std::test::Fail;
-
-    // Worked by hand: the two hexadecimal digits, and the checksum's three.
-    #[test]
-    fn digits_of_one_byte(rt: HostRuntime) {
-        let rows = [
-            (0x12, [1, 2, 0, 1, 11]),
-            (0xff, [15, 15, 0, 0, 0]),
-            (0x00, [0, 0, 0, 1, 14]),
-        ];
-        for (byte, want) in rows {
-            let m = NBytes::<U1>::exact(&[byte]);
-            assert_eq!(rt; message_digits(&m)[..5], want[..], "at {byte}");
-        }
-    }
-
-    // Worked by hand: digits that end within a byte, and digits over a byte's end.
-    #[test]
-    fn digits_of_four_and_six_bits(rt: HostRuntime) {
-        let mut three = [0; 3];
-        base_2b(&[0x12, 0x30], 4, &mut three);
-        assert_eq!(rt; three, [1, 2, 3]);
-        let mut two = [0; 2];
-        base_2b(&[0xff, 0x00], 6, &mut two);
-        assert_eq!(rt; two, [63, 48]);
-    }
-}

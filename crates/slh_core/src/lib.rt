@@ -6,7 +6,8 @@
 //! an [`address::Address`], and [`steps::Steps`] counts hash calls. No call takes memory.
 //!
 //! The address of the first step that a verifier takes on chain 1 of a key pair that signed a
-//! message, as the suites over SHA-2 hash it. The test `example_of_the_page` runs this:
+//! message, as the suites over SHA-2 hash it. In `slh_tests`,
+//! `core_values::example_of_the_page` runs this:
 //!
 //! ```
 //! use hybrid_array::TryFromSliceError;
@@ -40,8 +41,6 @@ mod chain_rows;
 pub mod digits;
 pub mod laws;
 pub mod nbytes;
-#[cfg(test)]
-mod page_tests;
 pub mod params;
 pub mod parts;
 pub mod set_row;

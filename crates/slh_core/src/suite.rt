@@ -225,7 +225,6 @@ pub trait HashSuite {
     /// (FIPS 205, algorithm 6). Number `signer` of them, from 0, leaves the values of its chains at
     /// digits in `sig`, but none at `NO_DIGIT`, where the bytes stay. A suite may make the eight
     /// side by side.
-    #[tactic(auto, unfolding(crate::specs::Bytes::joined))]
     fn pairs_eight<L: Ledger>(
         keyed: &Self::Keyed,
         sk_seed: &NBytes<Self::N>,

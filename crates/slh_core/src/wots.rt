@@ -93,8 +93,17 @@ fn write_ends<P: WotsParams, L: Ledger>(
     }
 }
 
+/// How many bytes the ends of all chains of a key pair have.
+#[inline]
+fn ends_len<P: WotsParams>() -> usize
+    ensures value { result ≡ P.WotsSigLen.USIZE * P.N.USIZE }
+    ensures small { result ≤ MAX_ENDS_LEN }
+{
+    chain_sizes::<P>();
+    P::WotsSigLen::USIZE * P::N::USIZE
+}
+
 /// The public key of a key pair, which is its tree's leaf (FIPS 205, algorithm 6).
-#[tactic(auto, unfolding(crate::specs::Wots::wots_pk))]
 pub fn wots_pk_gen<P: WotsParams, L: Ledger>(
     sk_seed: &NBytes<P::N>,
     keyed: &P::Keyed,
@@ -107,10 +116,10 @@ pub fn wots_pk_gen<P: WotsParams, L: Ledger>(
     ensures cost { steps.new ≡ steps.old + wots_pk_cost P.WotsSigLen.USIZE }
 {
     chain_sizes::<P>();
-    let size = P::WotsSigLen::USIZE * P::N::USIZE;
-    let mut ends = [0u8; MAX_ENDS_LEN];
-    write_ends::<P, L>(sk_seed, keyed, adrs, &mut ends[..size], steps);
-    P::t(keyed, &adrs.pk_adrs(), &ends[..size], steps)
+    let mut store = [0u8; MAX_ENDS_LEN];
+    let ends = &mut store[..ends_len::<P>()];
+    write_ends::<P, L>(sk_seed, keyed, adrs, ends, steps);
+    P::t(keyed, &adrs.pk_adrs(), ends, steps)
 }
 
 /// Writes the signature of a message: each chain's value at its digit (FIPS 205, algorithm 7).
@@ -166,7 +175,6 @@ fn write_chains<P: WotsParams, L: Ledger>(
 
 /// Writes the signature of a message, and answers the public key: each chain is taken to its digit,
 /// and on from there to its end.
-#[tactic(auto, unfolding(crate::specs::Wots::wots_pk))]
 pub fn wots_sign_leaf<P: WotsParams, L: Ledger>(
     m: &NBytes<P::N>,
     sk_seed: &NBytes<P::N>,
@@ -186,16 +194,15 @@ pub fn wots_sign_leaf<P: WotsParams, L: Ledger>(
 {
     chain_sizes::<P>();
     let len = P::WotsSigLen::USIZE;
-    let size = len * P::N::USIZE;
     let all = message_digits(m);
-    let mut ends = [0u8; MAX_ENDS_LEN];
-    let digits = &all[..len];
-    P::run_chains(keyed, sk_seed, adrs, digits, out, &mut ends[..size], steps);
-    P::t(keyed, &adrs.pk_adrs(), &ends[..size], steps)
+    let mut store = [0u8; MAX_ENDS_LEN];
+    let ends = &mut store[..ends_len::<P>()];
+    P::run_chains(keyed, sk_seed, adrs, &all[..len], out, ends, steps);
+    P::t(keyed, &adrs.pk_adrs(), ends, steps)
 }
 
 /// The public key that the signature of a message leads to (FIPS 205, algorithm 8).
-#[tactic(auto, using(crate::proofs::DigitSteps::wots_digits_below), unfolding(crate::specs::Wots::wots_pk_from_sig))]
+#[tactic(auto, using(crate::proofs::DigitSteps::wots_digits_below))]
 pub fn wots_pk_from_sig<P: WotsParams, L: Ledger>(
     sig: &[u8],
     m: &NBytes<P::N>,
@@ -214,11 +221,11 @@ pub fn wots_pk_from_sig<P: WotsParams, L: Ledger>(
 {
     chain_sizes::<P>();
     let len = P::WotsSigLen::USIZE;
-    let size = len * P::N::USIZE;
     let all = message_digits(m);
-    let mut ends = [0u8; MAX_ENDS_LEN];
-    P::finish_each(keyed, &all[..len], sig, adrs, &mut ends[..size], steps);
-    P::t(keyed, &adrs.pk_adrs(), &ends[..size], steps)
+    let mut store = [0u8; MAX_ENDS_LEN];
+    let ends = &mut store[..ends_len::<P>()];
+    P::finish_each(keyed, &all[..len], sig, adrs, ends, steps);
+    P::t(keyed, &adrs.pk_adrs(), ends, steps)
 }
 
 /// Takes the chain values that belong to digits to their ends.

@@ -4,4 +4,4 @@ mod Started
 pub mod PairRows
 mod ChainEnds
 mod CountedHashes
-pub mod WideMessages
+pub mod KeyMessages

@@ -5,8 +5,9 @@
 //! its kin have `HashSuite` and the traits of sizes of `slh_core`, so that what stands above them
 //! is written for any set. No call takes memory.
 //!
-//! F of a value at a step of a chain, under a public seed. The test `example_of_the_page` runs
-//! this, with `Brand` for the ledger and `Blank::new(1)` for the count of hash calls:
+//! F of a value at a step of a chain, under a public seed. In `slh_tests`,
+//! `hash_l1::example_of_the_page` runs this, with `Brand` for the ledger and `Blank::new(1)` for
+//! the count of hash calls:
 //!
 //! ```
 //! ghost use Rattle.slh_core.specs.Steps.{IsFresh};
@@ -44,20 +45,13 @@ mod chain_ends;
 mod join;
 mod keyed;
 mod mac;
+mod messages;
 mod mgf1;
 mod pairs;
 mod rows;
-#[cfg(test)]
-mod rows_tests;
 mod sets;
 mod sha2_l1;
 mod sha2_l35;
-#[cfg(test)]
-mod started_tests;
-#[cfg(test)]
-mod tests;
-#[cfg(test)]
-mod tests_35;
 mod tweaked;
 mod wide_pairs;
 mod wide_rows;

@@ -1,18 +1,21 @@
 //! The chains of eight key pairs side by side, with values that stay words from the secret to the
 //! end.
-ghost use Rattle.std.specs.Prelude.{◌≡◌, ℕ, ◌+◌, ◌*◌, ◌/◌, ◌%◌, ◌^◌, ◌≤◌, ◌<◌, List, length};
+ghost use Rattle.std.specs.Prelude.{◌≡◌, ℕ, ◌+◌, ◌*◌, ◌/◌, ◌%◌, ◌^◌, ◌≤◌, ◌<◌, List, ◌++◌, length};
 ghost use Rattle.std.specs.Prelude.{nat_lt, slice_index, take, if◌then◌else◌};
+ghost use Rattle.std.specs.Int.{to_be_bytes, w32};
+ghost use Rattle.hmac_sha256.specs.Begun.{HasBegun};
 ghost use Rattle.hmac_sha256.specs.Eight.{head_bytes, lane_bytes};
 ghost use Rattle.slh_core.specs.Address.{address_bytes, compressed_address, wots_pk_type};
 ghost use Rattle.slh_core.specs.Address.{fors_prf_type, fors_tree_type};
 ghost use Rattle.slh_core.specs.Bytes.{joined, part};
 ghost use Rattle.slh_core.specs.Wots.{chain_value, value_or};
 ghost use Rattle.slh_hash.specs.Pairs.{IsRow, short_suite};
-ghost use Rattle.slh_hash.specs.Sha2.{tweaked_hash_256};
+ghost use Rattle.slh_hash.specs.Sha2.{seed_block, tweaked_hash_256};
 
 use crate::keyed::Sha2Keyed;
-use crate::tweaked::long_hash;
-use hmac_sha256::{Eight, Heads};
+use crate::messages::{MAX_MESSAGE_LEN, put_messages};
+use crate::rows::{ADDRESS_LEN, put_hashes};
+use hmac_sha256::{Begun, Eight, Heads};
 use hybrid_array::ArraySize;
 use slh_core::address::{Address, ForsTree, WotsHash};
 use slh_core::nbytes::NBytes;
@@ -67,6 +70,28 @@ pub(crate) fn hash_eight<N: ArraySize>(keyed: &Sha2Keyed<N>, heads: &Heads, valu
     keyed.started.core().finalize_words(heads, values, N::USIZE)
 }
 
+/// Begins the hashes of heads but for their last fields, with which a chain goes on step by step.
+#[inline]
+pub(crate) fn begin_eight<N: ArraySize>(keyed: &Sha2Keyed<N>, heads: &Heads) -> Begun
+    ensures { (k : ℕ) → k < 8 → HasBegun result k (seed_block 64 N.USIZE keyed.now.pk_seed)
+        (take 18 (head_bytes heads.now k)) }
+{
+    keyed.started.core().begin(heads)
+}
+
+/// The hashes of eight values that take their chains one step on.
+#[inline]
+pub(crate) fn next_eight(begun: &Begun, step: u32, values: &Eight, n: usize) -> Eight
+    requires low { step < 16 }
+    requires small { n ≤ 32 }
+    ensures { (s a front : List ℕ) (k : ℕ) → k < 8 → HasBegun begun.now k (seed_block 64 n s) front
+        → front ++ to_be_bytes w32 step ≡ compressed_address a
+        → take n (lane_bytes result k)
+        ≡ tweaked_hash_256 n s a (take n (lane_bytes values.now k)) }
+{
+    begun.finalize_words(step, values, n)
+}
+
 /// Counts so many steps.
 #[inline]
 pub(crate) fn count_steps<L: Ledger>(count: usize, steps: &mut Steps<L>)
@@ -114,13 +139,13 @@ fn run_chain<N: ArraySize>(
         ≡ (if nat_lt digit 16 then chain_value K sk j t (l + signer) c digit else place.old) }
 {
     let secrets = row.secrets.numbered(&[c; 8]);
-    let at = row.steps.numbered(&[c; 8]);
     let mut values = hash_eight(keyed, &secrets, &row.seed);
+    let begun = begin_eight(keyed, &row.steps.numbered(&[c; 8]));
     for q in 0..15u16 {
         if q == digit {
             values.write_lane(signer, place);
         }
-        values = hash_eight(keyed, &at.ended(&[u32::from(q); 8]), &values);
+        values = next_eight(&begun, u32::from(q), &values, N::USIZE);
     }
     if digit == 15 {
         values.write_lane(signer, place);
@@ -168,24 +193,8 @@ pub(crate) fn run_eight<N: ArraySize, L: Ledger>(
     }
 }
 
-// Every eighth part of `n` bytes, from number `k` on.
-#[tactic(auto, unfolding(slh_core::specs::Bytes::joined))]
-pub(crate) fn gather(ends: &[u8], n: usize, k: usize, out: &mut [u8], count: usize)
-    requires lane { k < 8 }
-    requires few { count ≤ MAX_CHAINS }
-    requires whole { length ends.now ≡ 8 * count * n }
-    requires room { length out.old ≡ count * n }
-    ensures { out.new ≡ joined (λ c. part n ends.now (8 * c + k)) count }
-{
-    for c in 0..count {
-        let i = 8 * c + k;
-        put_part(out, n, c, &ends[i * n..(i + 1) * n]);
-    }
-}
-
 /// The public keys of eight key pairs of a tree from the ends of their chains, which stand as
 /// `run_eight` leaves them.
-#[tactic(auto, unfolding(slh_core::specs::Bytes::joined))]
 pub(crate) fn keys_of_ends<N: ArraySize, L: Ledger>(
     keyed: &Sha2Keyed<N>,
     adrs: &WotsHash,
@@ -207,15 +216,12 @@ pub(crate) fn keys_of_ends<N: ArraySize, L: Ledger>(
     ensures cost { steps.new ≡ steps.old + 8 }
 {
     let n = N::USIZE;
-    let mut store = [0u8; MAX_ENDS_LEN];
-    let own = &mut store[..count * n];
-    for k in 0..8 {
-        gather(ends, n, k, own, count);
-        let at = adrs.at_key_pair(adrs.key_pair_adrs + k as u32);
-        let key = long_hash(keyed, &at.pk_adrs(), own);
-        put_part(out, n, k, key.as_slice());
-    }
-    count_steps(8, steps);
+    let len = ADDRESS_LEN + count * n;
+    let mut store = [0u8; 8 * MAX_MESSAGE_LEN];
+    let messages = &mut store[..8 * len];
+    put_messages::<8>(adrs, 0, ends, n, count, messages);
+    let digests = keyed.started.core().finalize_rows(messages, len);
+    put_hashes::<N, L, 8, 32>(&digests, 8, out, steps);
 }
 
 // Eight numbers in a row.

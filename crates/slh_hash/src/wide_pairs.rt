@@ -1,61 +1,20 @@
 //! The public keys of key pairs of the categories 3 and 5: T is SHA-512, four side by side.
-ghost use Rattle.std.specs.Prelude.{◌≡◌, ℕ, ◌+◌, ◌*◌, ◌^◌, ◌≤◌, ◌<◌, List, ◌++◌, length};
-ghost use Rattle.slh_core.specs.Address.{address_bytes, compressed_address, wots_pk_type};
+ghost use Rattle.std.specs.Prelude.{◌≡◌, ℕ, ◌+◌, ◌*◌, ◌^◌, ◌≤◌, List, length};
+ghost use Rattle.slh_core.specs.Address.{address_bytes, wots_pk_type};
 ghost use Rattle.slh_core.specs.Bytes.{joined, part};
 ghost use Rattle.slh_hash.specs.Sha2.{tweaked_hash_512};
 
 use crate::keyed::Sha2Keyed512;
-use crate::pairs::gather;
+use crate::messages::{MAX_MESSAGE_LEN, put_messages};
 use crate::rows::{ADDRESS_LEN, put_hashes};
 use hybrid_array::ArraySize;
-use sha512_lanes::MAX_ROW;
-use slh_core::address::{Address, WotsHash};
+use slh_core::address::WotsHash;
 use slh_core::params::MAX_CHAINS;
 use slh_core::steps::Steps;
 use std::sync::ledger::Ledger;
 
 // How many public keys are hashed side by side.
 const WIDEST: usize = 4;
-
-// Writes what T hashes for key pair number `k` of eight after the seed: the address of its public
-// key, and the ends of its chains.
-#[inline]
-fn put_message(adrs: &WotsHash, k: usize, ends: &[u8], n: usize, count: usize, out: &mut [u8])
-    requires lane { k < 8 }
-    requires inside { adrs.now.key_pair_adrs + 8 ≤ 2 ^ 32 }
-    requires few { count ≤ MAX_CHAINS }
-    requires whole { length ends.now ≡ 8 * count * n }
-    requires room { length out.old ≡ ADDRESS_LEN + count * n }
-    ensures { let a = adrs.now in
-        out.new ≡ compressed_address (address_bytes a.layer_adrs a.tree_adrs_low wots_pk_type
-        (a.key_pair_adrs + k) 0 0) ++ joined (λ c. part n ends.now (8 * c + k)) count }
-{
-    let at = adrs.at_key_pair(adrs.key_pair_adrs + k as u32);
-    let (head, rest) = out.split_at_mut(ADDRESS_LEN);
-    head.copy_from_slice(&at.pk_adrs().compressed());
-    gather(ends, n, k, rest, count);
-}
-
-// Writes the messages of four key pairs of the eight, from number `first` on.
-#[tactic(auto, unfolding(slh_core::specs::Bytes::joined))]
-fn put_messages(adrs: &WotsHash, first: usize, ends: &[u8], n: usize, count: usize, out: &mut [u8])
-    requires lanes { first + 4 ≤ 8 }
-    requires inside { adrs.now.key_pair_adrs + 8 ≤ 2 ^ 32 }
-    requires few { count ≤ MAX_CHAINS }
-    requires whole { length ends.now ≡ 8 * count * n }
-    requires room { length out.old ≡ 4 * (ADDRESS_LEN + count * n) }
-    ensures { let a = adrs.now in
-        let at : ℕ → List ℕ = λ k. address_bytes a.layer_adrs a.tree_adrs_low wots_pk_type
-        (a.key_pair_adrs + k) 0 0 in
-        let all : ℕ → List ℕ = λ k. joined (λ c. part n ends.now (8 * c + k)) count in
-        out.new ≡ joined (λ k. compressed_address (at (first + k)) ++ all (first + k)) 4 }
-{
-    let len = ADDRESS_LEN + count * n;
-    for k in 0..WIDEST {
-        let message = &mut out[k * len..(k + 1) * len];
-        put_message(adrs, first + k, ends, n, count, message);
-    }
-}
 
 // The public keys of four key pairs of the eight, from number `first` on.
 fn four_keys<N: ArraySize, L: Ledger>(
@@ -84,9 +43,9 @@ fn four_keys<N: ArraySize, L: Ledger>(
 {
     let n = N::USIZE;
     let len = ADDRESS_LEN + count * n;
-    let mut store = [0u8; WIDEST * MAX_ROW];
+    let mut store = [0u8; WIDEST * MAX_MESSAGE_LEN];
     let messages = &mut store[..WIDEST * len];
-    put_messages(adrs, first, ends, n, count, messages);
+    put_messages::<WIDEST>(adrs, first, ends, n, count, messages);
     let digests = keyed.midstate.finalize_rows(messages, len);
     put_hashes::<N, L, WIDEST, 64>(&digests, WIDEST, out, steps);
 }

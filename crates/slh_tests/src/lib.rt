@@ -1,5 +1,6 @@
 //! Tests of `slh_trees`, `slh_audit` and `slh_dsa` from outside: the toy suite, whose values were
-//! worked by hand, and known keys of SLH-DSA-SHA2-128f.
+//! worked by hand, and known keys of SLH-DSA-SHA2-128f. Below them those of `slh_core` (`core_`),
+//! `slh_hash` (`hash_`) and `signature_core` (`signature_traits`).
 #![tactic(auto)]
 
 #[cfg(test)]
@@ -7,7 +8,17 @@ mod audits;
 #[cfg(test)]
 mod changed;
 #[cfg(test)]
+mod core_values;
+#[cfg(test)]
 mod counting;
+#[cfg(test)]
+mod hash_l1;
+#[cfg(test)]
+mod hash_l35;
+#[cfg(test)]
+mod hash_rows;
+#[cfg(test)]
+mod hash_started;
 #[cfg(test)]
 mod keys;
 #[cfg(test)]
@@ -20,6 +31,8 @@ mod page_of_keys;
 mod page_of_trees;
 #[cfg(test)]
 mod places;
+#[cfg(test)]
+mod signature_traits;
 #[cfg(test)]
 mod signatures;
 #[cfg(test)]

@@ -1,4 +1,4 @@
-use Rattle.std.proofs.Common.{refl, ap, arith, ◌∷◌, ◌+◌, [], List, ℕ, ◌++◌, drop}
+use Rattle.std.proofs.Common.{refl, ap, arith, ◌∙◌, ◌∷◌, ◌+◌, [], List, ℕ, ◌++◌, drop}
 use Rattle.hmac_sha256.specs.Lanes.{window}
 use Rattle.hmac_sha256.proofs.Schedule.{IsBefore_at, step_done}
 use Rattle.hmac_sha256.proofs.compression.four_steps.Goals as goal
@@ -18,4 +18,4 @@ returns g c j l = λ h b before.
     let three = step_done h b _ d (t + 2) _ _ _ e (omega arith) two_at refl refl (c.round-v-3.ensures j l) (ap (push d) (c.later_word-w18.ensures j l)) in
     let three_at = IsBefore_at h b _ e _ (t + 3) (omega arith) three in
     let four = step_done h b _ e (t + 3) _ _ _ f (omega arith) three_at refl refl (c.round-v-4.ensures j l) (ap (push e) (c.later_word-w19.ensures j l)) in
-    IsBefore_at h b _ f _ (t + 4) (omega arith) four
+    let four_at = IsBefore_at h b _ f _ (t + 4) (omega arith) four in (four_at.0, c.moved.ensures j l ∙ four_at.1)

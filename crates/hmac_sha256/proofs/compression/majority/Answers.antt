@@ -1,4 +1,4 @@
-use Rattle.hmac_sha256.proofs.Words.{majority_short}
+use Rattle.word_lanes.proofs.Words.{majority_short}
 use Rattle.hmac_sha256.proofs.compression.majority.Goals as goal
 
 pub returns : goal.returns

@@ -1,11 +1,17 @@
 use Rattle.std.proofs.Common.{List, ℕ, ◌+◌, ◌++◌, ◌∙◌, ap, take}
-use Rattle.hmac_sha256.specs.Eight.{ended_block, head_bytes, lane_bytes}
+use Rattle.hmac_sha256.specs.Eight.{ended_block, head_bytes, lane_bytes, word_in}
+use Rattle.hmac_sha256.specs.Lanes.{variables}
 use Rattle.hmac_sha256.specs.Sha256.{compress}
+use Rattle.hmac_sha256.proofs.Schedule.{block_words_are, rounds_until_none}
 use Rattle.hmac_sha256.proofs.eight.digest_words.Goals as goal
 
 pub returns : goal.returns
 returns g c j h =
     let n = g.row.N in
     let block : List ℕ = ended_block (head_bytes c.args.heads.now j ++ take n (lane_bytes c.args.values.now j)) (86 + n) in
-    c.compressed.ensures j h block (c.last_window.ensures j h)
-    ∙ ap (λ (s : List ℕ). compress s block) (c.spread.ensures j h)
+    let start : List ℕ = variables (λ lanes. word_in lanes j) c.spread-state.result in
+    let four = c.four_steps.ensures j h start block (rounds_until_none _ block, c.last_window-words.ensures j h ∙ block_words_are block) in
+    let eight = c.four_steps-2.ensures j h start block four in
+    let twelve = c.four_steps-3.ensures j h start block eight in
+    let sixteen = c.four_steps-4.ensures j h start block twelve in
+    c.compressed_from.ensures j h block sixteen ∙ ap (λ (s : List ℕ). compress s block) (c.spread-state.ensures j h)

@@ -1,4 +1,4 @@
-use Rattle.sha512_lanes.proofs.Words.{majority_short}
+use Rattle.word_lanes.proofs.Words.{majority_short}
 use Rattle.sha512_lanes.proofs.compression.majority.Goals as goal
 
 pub returns : goal.returns

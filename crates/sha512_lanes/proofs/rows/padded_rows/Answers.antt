@@ -1,12 +1,13 @@
 use Rattle.std.proofs.Common.{◌*◌, arith}
-use Rattle.sha512_lanes.proofs.LongRows.{for_each, row_of}
+use Rattle.sha512_lanes.proofs.LongRows.{row_of}
+use Rattle.word_lanes.proofs.Vectors.{below_four}
 use Rattle.sha512_lanes.proofs.rows.padded_rows.Goals as goal
 
 pub returns-clause-rows : goal.returns-clause-rows
 returns-clause-rows c =
     let rows = c.args.rows.now in
     let len = c.args.len in
-    for_each _
+    below_four _
     (row_of rows c.padded_row.result len 0 0 len c.requires.whole (omega arith) (omega arith) (omega arith) c.padded_row.ensures)
     (row_of rows c.padded_row-2.result len 1 len _ c.requires.whole (omega arith) (omega arith) (omega arith) c.padded_row-2.ensures)
     (row_of rows c.padded_row-3.result len 2 (2 * len) _ c.requires.whole (omega arith) (omega arith) (omega arith) c.padded_row-3.ensures)
@@ -14,4 +15,4 @@ returns-clause-rows c =
 
 pub returns-clause-long : goal.returns-clause-long
 returns-clause-long c =
-    for_each _ (omega arith) (omega arith) (omega arith) (omega arith)
+    below_four _ (omega arith) (omega arith) (omega arith) (omega arith)

@@ -1,4 +1,5 @@
-use Rattle.std.proofs.Common.{◌≡◌, ℕ, List, ◌+◌, ◌∙◌, ap, length, take}
+use Rattle.std.proofs.Common.{◌≡◌, ℕ, List, ◌+◌, ◌++◌, ◌∙◌, ap, length, refl, take}
+use Rattle.std.specs.Int.{to_be_bytes, w32}
 use Rattle.std.proofs.lemmas.List.{get_or-replicate}
 use Rattle.hmac_sha256.specs.Eight.{head_bytes, lane_bytes}
 use Rattle.slh_core.specs.Address.{address_bytes, wots_hash_type, wots_prf_type}
@@ -32,17 +33,18 @@ loop-q-preserved g c =
     let y = c.args.signer in
     let q = c.loop-q.q in
     let heads = c.args.row.now.steps in
-    let numbered = c.numbered-at in
+    let numbered = c.numbered in
     let on = c.loop-q.invariant in
     let room : length c.loop-q.place ≡ n = c.loop-q.auto.place ∙ c.requires.room in
     record {
       values = λ sk j t i k row low.
           let first = head_of_chain j t wots_hash_type (i + k) x (head_bytes heads k) (head_bytes numbered.result k) (row.steps k low)
           (rw (get_or-replicate {A = ℕ} 8 k x 0 low) at (numbered.ensures k low)) in
-          let head = head_of_step j t wots_hash_type (i + k) x q (head_bytes numbered.result k) (head_bytes c.ended.result k) first
-          (rw (get_or-replicate {A = ℕ} 8 k c.from.result 0 low, c.from.ensures) at (c.ended.ensures k low)) in
-          value_next n s sk j t (i + k) x q (take n (lane_bytes c.loop-q.values k)) (take n (lane_bytes c.hash_eight-values-in-loop-q.result k))
-          (on.values sk j t i k row low) (c.hash_eight-values-in-loop-q.ensures (address_bytes j t wots_hash_type (i + k) x q) k low head);
+          let head = head_of_step j t wots_hash_type (i + k) x q (head_bytes numbered.result k) (take 18 (head_bytes numbered.result k) ++ to_be_bytes w32 q) first refl in
+          let next = rw (c.USIZE.ensures, c.from.ensures) at (c.next_eight-values.ensures s (address_bytes j t wots_hash_type (i + k) x q) (take 18 (head_bytes numbered.result k)) k low) in
+          value_next n s sk j t (i + k) x q (take n (lane_bytes c.loop-q.values k)) (take n (lane_bytes c.next_eight-values.result k))
+          (on.values sk j t i k row low)
+          (next (c.begin_eight-begun.ensures k low) head);
       left = λ sk j t i row.
           elim c.if-q-digit.branch [
             | then-q-digit w ↦

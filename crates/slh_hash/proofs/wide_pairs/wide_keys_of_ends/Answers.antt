@@ -1,6 +1,6 @@
 use Rattle.std.proofs.Common.{◌≡◌, ℕ, List, ◌+◌, ap, arith, refl}
 use Rattle.slh_hash.specs.Sha2.{tweaked_hash_512}
-use Rattle.slh_hash.proofs.WideMessages.{ends_of, pk_at, two_fours}
+use Rattle.slh_hash.proofs.KeyMessages.{ends_of, pk_at, two_fours}
 use Rattle.slh_hash.proofs.wide_pairs.wide_keys_of_ends.Goals as goal
 
 pub returns-clause-keys : goal.returns-clause-keys

@@ -1,5 +1,7 @@
-use Rattle.std.proofs.Common.{◌≡◌, ◌≢◌, ◌<◌, ◌+◌, ◌*◌, ◌∙◌, ℕ, ap, arith, inl, inr, length, refl, slice_index}
+use Rattle.std.proofs.Common.{◌≡◌, ◌≢◌, ◌<◌, ◌≤◌, ◌+◌, ◌*◌, ◌∙◌, ℕ, [], ap, arith, rules, inl, inr, length, refl, slice_index}
 use Rattle.std.proofs.lemmas.Bool.{cases_lt}
+use Rattle.std.proofs.lemmas.Nat.{mul-le}
+use Rattle.slh_core.specs.Bytes.{joined}
 use Rattle.slh_core.specs.Suite.{HasLength}
 use Rattle.slh_core.specs.Parameters.{chain_count}
 use Rattle.slh_core.specs.Wots.{wots_pk}
@@ -7,6 +9,28 @@ use Rattle.slh_core.proofs.Chains.{key_of_ends, values_none}
 use Rattle.slh_core.proofs.Joins.{joined_more}
 use Rattle.slh_core.proofs.suite.HashSuite.pairs_eight.Goals.{then-k-signer, else-k-signer}
 use Rattle.slh_core.proofs.suite.HashSuite.pairs_eight.Goals as goal
+
+pub overflow_mul-store : goal.overflow_mul-store
+overflow_mul-store g c =
+    let most = mul-le (length c.args.digits.now) c.USIZE-n.result 67 32 (omega (arith, c.requires.count, c.requires.small)) (omega (arith, c.USIZE-n.ensures, c.requires.small)) in
+    let small : length c.args.digits.now * c.USIZE-n.result < 18446744073709551616 = omega (arith, most) in search rules
+
+pub put_part-requires-clause-fits : goal.put_part-requires-clause-fits
+put_part-requires-clause-fits g c =
+    let n = c.USIZE-n.result in
+    let fits : (c.loop-k.k + 1) * n ≤ 8 * n = mul-le (c.loop-k.k + 1) n 8 n (omega arith) (omega arith) in
+    omega (arith, fits, c.USIZE-n.ensures, c.requires.room)
+
+pub loop-k-init : goal.loop-k-init
+unfolding joined
+loop-k-init g c =
+    let none : 0 * c.USIZE-n.result ≡ 0 = omega arith in
+    record {
+      keys = rw none (refl {a = []});
+      before = λ early. refl;
+      after = λ late. absurd (omega (arith, late));
+      cost = omega arith;
+    }
 
 pub loop-k-preserved : goal.loop-k-preserved
 loop-k-preserved g c =

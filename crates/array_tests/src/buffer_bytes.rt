@@ -1,0 +1,139 @@
+//! Buffers as bytes, on values worked by hand.
+
+ghost use Rattle.std.specs.Prelude.{◌≡◌, ◌+◌, ◌<◌, length, vec_len};
+
+use block_buffer::laws::{accepted_bytes, serialized_buffer};
+use block_buffer::{BlockBuffer, BufferKind, Eager, EagerBuffer, Lazy, LazyBuffer};
+use hybrid_array::sizes::{U4, U5};
+use hybrid_array::{Array, ArraySize};
+use std::alloc::{AllocError, Global};
+
+// The array of as many bytes as its size.
+pub(crate) fn array_of<S: ArraySize>(items: Vec<u8>) -> Array<u8, S>
+    requires { vec_len items ≡ S.USIZE }
+    ensures { result ≡ items.items }
+{
+    match Array::from_vec(items) {
+        Ok(array) => array,
+        Err(_) => unreachable!(),
+    }
+}
+
+fn is_eager_serialized_as(alloc: Global, expected: &[u8]) -> Result<bool, AllocError> {
+    let bytes = EagerBuffer::<U4>::new(&[9, 8]).serialize::<U4>(alloc)?;
+    accepted_bytes(&bytes);
+    Ok(bytes.as_slice() == expected)
+}
+
+#[test]
+fn an_eager_buffer_is_its_position_data_and_zeros(rt: HostRuntime) {
+    assert!(rt; is_eager_serialized_as(rt.alloc(), &[2, 9, 8, 0]) == Ok(true));
+}
+
+fn is_lazy_serialized_as(alloc: Global, expected: &[u8]) -> Result<bool, AllocError> {
+    let bytes = LazyBuffer::<U4>::new(&[1, 2, 3, 4]).serialize::<U5>(alloc)?;
+    Ok(bytes.as_slice() == expected)
+}
+
+#[test]
+fn a_full_lazy_buffer_is_its_position_and_data(rt: HostRuntime) {
+    assert!(rt; is_lazy_serialized_as(rt.alloc(), &[4, 1, 2, 3, 4]) == Ok(true));
+}
+
+// Whether the buffer that is restored from a buffer's bytes holds these.
+fn is_restored<K: BufferKind, S: ArraySize>(
+    alloc: Global,
+    buffer: &BlockBuffer<U4, K>,
+    held: &[u8],
+) -> Result<bool, AllocError>
+    requires { S.USIZE ≡ 4 + K.WAITING }
+{
+    Ok(serialized_buffer::<_, _, S>(alloc, buffer)?.get_data() == held)
+}
+
+#[test]
+fn buffers_are_restored(rt: HostRuntime) {
+    let eager = EagerBuffer::<U4>::new(&[9, 8]);
+    assert!(rt; is_restored::<Eager, U4>(rt.alloc(), &eager, &[9, 8]) == Ok(true));
+    let lazy = LazyBuffer::<U4>::new(&[1, 2, 3, 4]);
+    assert!(rt; is_restored::<Lazy, U5>(rt.alloc(), &lazy, &[1, 2, 3, 4]) == Ok(true));
+}
+
+// How many bytes the buffer holds that gave these, if one did.
+fn held_of<K: BufferKind, S: ArraySize>(
+    alloc: Global,
+    bytes: &[u8],
+) -> Result<Option<usize>, AllocError>
+    requires size { S.USIZE ≡ 4 + K.WAITING }
+    requires len { length bytes.now ≡ S.USIZE }
+{
+    let array = array_of::<S>(bytes.to_vec(alloc)?);
+    match BlockBuffer::<U4, K>::deserialize(&array) {
+        Ok(buffer) => Ok(Some(buffer.get_pos())),
+        Err(_) => Ok(None),
+    }
+}
+
+#[test]
+fn an_eager_buffer_accepts_its_own_bytes_alone(rt: HostRuntime) {
+    for (bytes, held) in [
+        ([0, 0, 0, 0], Some(0)),
+        ([2, 9, 8, 0], Some(2)),
+        ([2, 9, 8, 1], None),
+        ([0, 1, 0, 0], None),
+        ([3, 0, 0, 0], Some(3)),
+        ([4, 0, 0, 0], None),
+        ([255, 0, 0, 0], None),
+    ] {
+        assert!(rt;
+            held_of::<Eager, U4>(rt.alloc(), &bytes) == Ok(held),
+            "{bytes:?}"
+        );
+    }
+}
+
+#[test]
+fn a_lazy_buffer_accepts_its_own_bytes_alone(rt: HostRuntime) {
+    for (bytes, held) in [
+        ([4, 1, 2, 3, 4], Some(4)),
+        ([5, 0, 0, 0, 0], None),
+        ([3, 1, 2, 3, 4], None),
+        ([0, 0, 0, 0, 0], Some(0)),
+    ] {
+        assert!(rt;
+            held_of::<Lazy, U5>(rt.alloc(), &bytes) == Ok(held),
+            "{bytes:?}"
+        );
+    }
+}
+
+// The block 5, 6, 7, 8.
+fn block(alloc: Global) -> Result<Array<u8, U4>, AllocError> {
+    Ok(array_of::<U4>([5, 6, 7, 8].to_vec(alloc)?))
+}
+
+// Whether a buffer that is set to so many bytes of the block holds these.
+fn is_set_to<K: BufferKind>(
+    alloc: Global,
+    buffer: &mut BlockBuffer<U4, K>,
+    pos: usize,
+    held: &[u8],
+) -> Result<bool, AllocError>
+    requires { pos < 4 + K.WAITING }
+{
+    buffer.set(&block(alloc)?, pos);
+    Ok(buffer.get_data() == held)
+}
+
+#[test]
+fn an_eager_buffer_is_set_up_to_a_position(rt: HostRuntime) {
+    let mut eager = EagerBuffer::<U4>::new(&[1]);
+    assert!(rt; is_set_to(rt.alloc(), &mut eager, 3, &[5, 6, 7]) == Ok(true));
+}
+
+#[test]
+fn a_lazy_buffer_is_set_to_a_block_and_to_nothing(rt: HostRuntime) {
+    let mut lazy = LazyBuffer::<U4>::new(&[1]);
+    assert!(rt; is_set_to(rt.alloc(), &mut lazy, 4, &[5, 6, 7, 8]) == Ok(true));
+    assert!(rt; is_set_to(rt.alloc(), &mut lazy, 0, &[]) == Ok(true));
+}

@@ -1,0 +1,186 @@
+//! Reading the blocks of a generator, on values worked by hand.
+
+use crate::buffer_bytes::array_of;
+use block_buffer::laws::read_in_two;
+use block_buffer::{BlockGen, ReadBuffer};
+use hybrid_array::ArrayMut;
+use hybrid_array::sizes::U4;
+use std::alloc::{AllocError, Global};
+
+// Gives the bytes 0, 1, 2 and so on, and after 255 again 0.
+#[derive(Drop)]
+struct Counting {
+    next: u8,
+    blocks: u64,
+}
+
+impl BlockGen<U4> for Counting {
+    ghost use Rattle.std.specs.Prelude.{None, ⊤};
+
+    ghost state = { λ s. record { stands = λ m. ⊤; room = None } };
+
+    fn fill(&mut self, block: &mut ArrayMut<'_, u8, U4>) {
+        let n = self.next;
+        block.copy_from_slice(&[n, n.wrapping_add(1), n.wrapping_add(2), n.wrapping_add(3)]);
+        self.next = n.wrapping_add(4);
+        self.blocks = self.blocks.saturating_add(1);
+    }
+}
+
+fn from_zero() -> Counting {
+    Counting { next: 0, blocks: 0 }
+}
+
+// A buffer of which six bytes were read, and the bytes 6 and 7 weren't.
+fn with_two_unread() -> ReadBuffer<U4> {
+    let mut buffer = ReadBuffer::<U4>::default();
+    buffer.read(&mut [0; 6], &mut from_zero());
+    buffer
+}
+
+#[test]
+fn pieces_follow_one_another(rt: HostRuntime) {
+    let mut generator = from_zero();
+    let mut buffer = ReadBuffer::<U4>::default();
+    let mut out = [0; 3];
+    buffer.read(&mut out, &mut generator);
+    assert!(rt; out == [0, 1, 2]);
+    buffer.read(&mut out, &mut generator);
+    assert!(rt; out == [3, 4, 5]);
+    assert!(rt; buffer.get_pos() == 2 && buffer.remaining() == 2 && buffer.size() == 4);
+}
+
+fn is_serialized_as(alloc: Global, expected: &[u8]) -> Result<bool, AllocError> {
+    Ok(with_two_unread().serialize(alloc)?.as_slice() == expected)
+}
+
+#[test]
+fn a_read_buffer_is_its_position_zeros_and_unread_bytes(rt: HostRuntime) {
+    assert!(rt; is_serialized_as(rt.alloc(), &[2, 0, 6, 7]) == Ok(true));
+}
+
+#[test]
+fn cached_bytes_are_read_once(rt: HostRuntime) {
+    let mut buffer = with_two_unread();
+    assert!(rt; buffer.read_cached(1) == [6].as_slice());
+    assert!(rt; buffer.read_cached(9) == [7].as_slice());
+    assert!(rt; buffer.read_cached(1).is_empty());
+}
+
+#[test]
+fn a_copy_has_unread_bytes_of_its_own(rt: HostRuntime) {
+    let mut buffer = with_two_unread();
+    let mut copy = buffer.clone();
+    buffer.read_cached(2);
+    assert!(rt; copy.read_cached(2) == [6, 7].as_slice());
+}
+
+#[test]
+fn two_pieces_are_as_one(rt: HostRuntime) {
+    let mut generator = from_zero();
+    let mut buffer = ReadBuffer::<U4>::default();
+    let mut first = [0; 3];
+    let mut second = [0; 6];
+    read_in_two(&mut buffer, &mut first, &mut second, &mut generator);
+    assert!(rt; first == [0, 1, 2] && second == [3, 4, 5, 6, 7, 8]);
+    assert!(rt; generator.blocks == 3 && buffer.remaining() == 3);
+}
+
+// Whether the bytes count up from the first.
+fn is_counting(bytes: &[u8], first: u8) -> bool {
+    let mut next = first;
+    for byte in bytes {
+        if *byte != next {
+            return false;
+        }
+        next = next.wrapping_add(1);
+    }
+    true
+}
+
+// How long pieces are, one after another, and how many blocks they take in all.
+#[test]
+fn no_block_is_made_that_is_not_needed(rt: HostRuntime) {
+    let mut generator = from_zero();
+    let mut buffer = ReadBuffer::<U4>::default();
+    let mut next = 0u8;
+    for (len, blocks) in [
+        (0, 0),
+        (1, 1),
+        (3, 1),
+        (0, 1),
+        (4, 2),
+        (9, 5),
+        (3, 5),
+        (8, 7),
+    ] {
+        let mut out = [0u8; 9];
+        buffer.read(&mut out[..len], &mut generator);
+        assert!(rt; is_counting(&out[..len], next), "{len} bytes from {next}");
+        assert!(rt; generator.blocks == blocks, "{len} bytes from {next}");
+        next = next.wrapping_add(len as u8);
+    }
+}
+
+#[test]
+fn no_byte_written_makes_no_block(rt: HostRuntime) {
+    let mut generator = from_zero();
+    let mut buffer = ReadBuffer::<U4>::default();
+    buffer.write_block(&mut generator, &mut []);
+    assert!(rt; generator.blocks == 0 && buffer.remaining() == 0);
+}
+
+#[test]
+fn a_written_block_replaces_what_was_unread(rt: HostRuntime) {
+    let mut generator = from_zero();
+    let mut buffer = ReadBuffer::<U4>::default();
+    let mut out = [9; 4];
+    buffer.write_block(&mut generator, &mut out[..1]);
+    assert!(rt; out == [0, 9, 9, 9]);
+    buffer.write_block(&mut generator, &mut out[..3]);
+    assert!(rt; out == [4, 5, 6, 9]);
+    assert!(rt; buffer.read_cached(4) == [7].as_slice());
+}
+
+#[test]
+fn a_whole_written_block_leaves_nothing_unread(rt: HostRuntime) {
+    let mut generator = Counting { next: 8, blocks: 2 };
+    let mut buffer = ReadBuffer::<U4>::default();
+    let mut out = [9; 4];
+    buffer.write_block(&mut generator, &mut out);
+    assert!(rt; out == [8, 9, 10, 11]);
+    assert!(rt; buffer.remaining() == 0);
+}
+
+#[test]
+fn a_reset_forgets_what_was_unread(rt: HostRuntime) {
+    let mut buffer = ReadBuffer::<U4>::default();
+    buffer.write_block(&mut from_zero(), &mut [9]);
+    buffer.reset();
+    assert!(rt; buffer.remaining() == 0 && buffer.get_pos() == 4);
+}
+
+// How many bytes are unread in the read buffer that gave these, if one did.
+fn unread_of(alloc: Global, bytes: &[u8; 4]) -> Result<Option<usize>, AllocError> {
+    let array = array_of::<U4>(bytes.to_vec(alloc)?);
+    match ReadBuffer::<U4>::deserialize(&array) {
+        Ok(buffer) => Ok(Some(buffer.remaining())),
+        Err(_) => Ok(None),
+    }
+}
+
+#[test]
+fn a_read_buffer_accepts_its_own_bytes_alone(rt: HostRuntime) {
+    for (bytes, unread) in [
+        ([2, 0, 6, 7], Some(2)),
+        ([2, 1, 6, 7], None),
+        ([1, 5, 6, 7], Some(3)),
+        ([0, 0, 0, 0], None),
+        ([4, 0, 0, 0], Some(0)),
+        ([4, 0, 0, 1], None),
+        ([4, 1, 0, 0], None),
+        ([5, 0, 0, 0], None),
+    ] {
+        assert!(rt; unread_of(rt.alloc(), &bytes) == Ok(unread), "{bytes:?}");
+    }
+}

@@ -1,0 +1,16 @@
+use Rattle.std.proofs.Common.{◌≡◌, ◌≤◌, ◌+◌, ◌*◌, ◌∙◌, arith, drop, length, length-drop, length-take-le, take}
+use Rattle.std.proofs.lemmas.Nat.{mul-le}
+use Rattle.hmac_sha256.proofs.LongRows.{sha256_of_row}
+use Rattle.hmac_sha256.proofs.hashing.Hash.finalize_rows.Goals as goal
+
+pub returns : goal.returns
+returns c = λ m j held low.
+    let len = c.args.len in
+    let rows = c.args.rows.now in
+    let row = take len (drop (j * len) rows) in
+    let room : (j + 1) * len ≤ 8 * len = mul-le (j + 1) len 8 len (omega (arith, low)) (omega arith) in
+    let next : (j + 1) * len ≡ j * len + len = omega arith in
+    let size : length row ≡ len = length-take-le len (drop (j * len) rows) (omega (arith, length-drop (j * len) rows, room, next, c.requires.one_after_another)) in
+    c.each_lane.invariant.1 j (omega (arith, low))
+    ∙ sha256_of_row c.args.self.now m row _ _ _ held c.requires.whole (omega (arith, size, c.absorbed.ensures.counts)) (omega (arith, size))
+    (c.fold_rows-state.ensures j low)

@@ -1,0 +1,149 @@
+//! Ends whose calls fail or that a signal interrupts, and words that are too long.
+use line_serve::{Sink, Source};
+use line_stdio::{StdSink, StdSource, words_of};
+use std::alloc::{AllocError, Global};
+use std::env::{Env, FillError};
+use std::io::{self, Error, ErrorKind, Read, Write};
+use std::test::Fail;
+
+// Fails so many times before it takes or gives one byte at a time.
+#[derive(Drop)]
+struct Interrupted {
+    failures: u32,
+    kind: ErrorKind,
+    calls: u32,
+}
+
+impl Interrupted {
+    fn call(&mut self) -> io::Result<()> {
+        self.calls = self.calls.wrapping_add(1);
+        if self.failures == 0 {
+            return Ok(());
+        }
+        self.failures -= 1;
+        Err(Error::from(self.kind))
+    }
+}
+
+impl Read for Interrupted {
+    fn read(&mut self, buf: &mut [u8]) -> io::Result<usize> {
+        self.call()?;
+        if buf.is_empty() {
+            return Ok(0);
+        }
+        buf[0] = 7;
+        Ok(1)
+    }
+}
+
+impl Write for Interrupted {
+    fn write(&mut self, buf: &[u8]) -> io::Result<usize> {
+        self.call()?;
+        Ok(buf.len().min(1))
+    }
+
+    fn flush(&mut self) -> io::Result<()> {
+        self.call()
+    }
+}
+
+fn failing(failures: u32, kind: ErrorKind) -> Interrupted {
+    Interrupted {
+        failures,
+        kind,
+        calls: 0,
+    }
+}
+
+#[test]
+fn an_interrupted_read_is_made_again(rt: HostRuntime) {
+    for failures in 0..4 {
+        let mut source = StdSource::new(failing(failures, ErrorKind::Interrupted));
+        let mut bytes = [0; 2];
+        assert_eq!(rt; source.read(&mut bytes).ok(), Some(1));
+        assert_eq!(rt; bytes, [7, 0]);
+    }
+}
+
+#[test]
+fn an_interrupted_write_or_flush_is_made_again(rt: HostRuntime) {
+    for failures in 0..4 {
+        let mut sink = StdSink::new(failing(failures, ErrorKind::Interrupted));
+        assert_eq!(rt; sink.write(&[1, 2]).ok(), Some(1));
+    }
+}
+
+#[test]
+fn another_error_is_a_fault(rt: HostRuntime) {
+    for kind in [
+        ErrorKind::WouldBlock,
+        ErrorKind::BrokenPipe,
+        ErrorKind::Other,
+    ] {
+        let mut source = StdSource::new(failing(1, kind));
+        assert!(rt; source.read(&mut [0; 2]).is_err());
+        let mut sink = StdSink::new(failing(1, kind));
+        assert!(rt; sink.write(&[1, 2]).is_err());
+    }
+}
+
+// Takes nothing.
+#[derive(Drop)]
+struct Full;
+
+impl Write for Full {
+    fn write(&mut self, _: &[u8]) -> io::Result<usize> {
+        Ok(0)
+    }
+
+    fn flush(&mut self) -> io::Result<()> {
+        Ok(())
+    }
+}
+
+#[test]
+fn a_write_that_takes_nothing_is_a_fault(rt: HostRuntime) {
+    let mut sink = StdSink::new(Full);
+    assert!(rt; sink.write(b"a").is_err());
+    assert_eq!(rt; sink.write(b"").ok(), Some(0));
+}
+
+// The program's name, the word `a`, and one that is too long.
+#[derive(Drop)]
+struct TwoWords;
+
+impl Env for TwoWords {
+    fn arg(&self, i: usize, buf: &mut [u8]) -> Result<usize, FillError> {
+        if i > 2 {
+            return Err(FillError::NotPresent);
+        }
+        if i == 2 || buf.is_empty() {
+            return Err(FillError::TooLong);
+        }
+        buf[0] = b'a';
+        Ok(1)
+    }
+
+    fn var(&self, _: &str, _: &mut [u8]) -> Result<usize, FillError> {
+        Err(FillError::NotPresent)
+    }
+
+    fn var_at(&self, _: usize, _: &mut [u8]) -> Result<usize, FillError> {
+        Err(FillError::NotPresent)
+    }
+}
+
+fn reads_two_words(alloc: Global) -> Result<bool, AllocError> {
+    let words = words_of(&(TwoWords, alloc))?;
+    Ok(
+        words.len() == 2
+            && words.get(0) == Some(b"a".as_slice())
+            && words.get(1) == Some(b"".as_slice()),
+    )
+}
+
+#[test]
+fn a_word_that_is_too_long_has_no_bytes(rt: HostRuntime) -> Result<(), Fail> {
+    assert!(rt; reads_two_words(rt.alloc())?);
+    Ok(())
+}

@@ -1,4 +1,0 @@
-use Rattle.slh_hash.proofs.tests.hashes_of_an_address.Given as goal
-
-abbrev pub ghosts-four_values : goal.ghosts-four_values
-ghosts-four_values g a = record { name = a.blank.name; parts = a.blank.parts }

@@ -1,0 +1,4 @@
+pub mod Words
+pub mod Vectors
+pub mod Windows
+pub mod Blocks
