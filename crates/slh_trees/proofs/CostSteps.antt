@@ -24,7 +24,7 @@ node_cost-above leaf low above =
     rw (node_cost-whole leaf low, node_cost-whole leaf (low + above), pow-add 2 low above) (omega arith)
 
 -- a leaf, the siblings on its way up and the way up itself: each node below the root once
-node_cost-path : (leaf h : ℕ) → leaf + auth_path_cost leaf h + h ≡ node_cost leaf h
+pub node_cost-path : (leaf h : ℕ) → leaf + auth_path_cost leaf h + h ≡ node_cost leaf h
 node_cost-path leaf h = omega (arith, path_room leaf h)
 
 pub one_more : (j x : ℕ) → (j + 1) * x ≡ j * x + x

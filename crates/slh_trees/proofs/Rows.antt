@@ -1,6 +1,6 @@
 -- Rows of leaves, and rows of the nodes above them.
-use Rattle.std.proofs.Common.{◌≡◌, ℕ, zero, suc, ◌+◌, ◌*◌, ◌/◌, ◌<◌, ◌≤◌, List, ◌++◌, length, take, drop, arith, ap, sym, refl, ◌∙◌, add-one, add-suc, add-zero, append_assoc}
-use Rattle.std.proofs.lemmas.List.{append-nil}
+use Rattle.std.proofs.Common.{◌≡◌, ℕ, zero, suc, ◌+◌, ◌*◌, ◌/◌, ◌^◌, ◌<◌, ◌≤◌, List, [], ◌++◌, length, take, drop, arith, ap, sym, refl, ◌∙◌, add-one, add-suc, add-zero, append_assoc}
+use Rattle.std.proofs.lemmas.List.{append-nil, take_all}
 use Rattle.std.proofs.lemmas.List.{take-append-drop, length-take-le}
 use Rattle.std.proofs.lemmas.Nat.{mul-le}
 use Rattle.slh_core.specs.Bytes.{joined, part}
@@ -47,11 +47,26 @@ rows_joined leaf first a b count whole =
     = joined_same _ _ b (λ k below. let place : first + a + k ≡ first + (a + k) = omega arith in ap leaf place) in
     rw (whole, next) (sym (joined-add (λ k. leaf (first + k)) a b))
 
+-- a buffer before its first part, and one that all parts fill
+pub none_joined : (f : ℕ → List ℕ) (size : ℕ) (out : List ℕ) → take (0 * size) out ≡ joined f 0
+unfolding joined
+none_joined f size out =
+    let none : 0 * size ≡ 0 = omega arith in rw none (refl {a = []})
+
+pub whole_front : (size count at : ℕ) (out made : List ℕ) → at ≡ count → length out ≡ count * size → take (at * size) out ≡ made → out ≡ made
+whole_front size count at out made last whole front =
+    sym (take_all (count * size) out (omega arith)) ∙ rw last at front
+
 -- eights of a row and what is left of it
 pub eights_fit : (count n : ℕ) → count / 8 * (8 * n) ≤ count * n
 eights_fit count n =
     let whole : count / 8 * (8 * n) ≡ (count / 8 * 8) * n = omega arith in
     rw whole (mul-le (count / 8 * 8) n count n (omega arith) (omega arith))
+
+-- a group of eight stands within a number of bytes
+pub eights_few : (g groups n : ℕ) → 8 * groups ≤ 2 ^ 32 → g < groups → n ≤ 32 → (g + 1) * (8 * n) ≤ 536870912 * 256
+eights_few g groups n few below small =
+    mul-le (g + 1) (8 * n) 536870912 256 (omega arith) (omega arith)
 
 pub in_eights : (count q r n : ℕ) → count ≡ 8 * q + r → count * n ≡ q * (8 * n) + r * n
 in_eights count q r n parts = rw parts (omega arith)

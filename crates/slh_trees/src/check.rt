@@ -15,7 +15,6 @@ use slh_core::steps::Steps;
 use std::sync::ledger::Ledger;
 
 /// The root that the bytes of a signature lead to, for a digest.
-#[tactic(auto, unfolding(crate::specs::Checking::digest_root))]
 pub fn root_for_digest<P: ForsParams, L: Ledger>(
     pk_seed: &NBytes<P::N>,
     digest: &[u8],

@@ -5,8 +5,9 @@ ghost use Rattle.slh_core.specs.Bytes.{joined, part};
 ghost use Rattle.slh_trees.specs.Fors.{fors_place, leaf_index};
 ghost use Rattle.slh_trees.specs.Merkle.{node_bytes};
 
-use crate::fors::{index_of, opened_len};
+use crate::fors::{index_of, opened_len, roots_len};
 use crate::node::NodeAddress;
+use crate::sig_view::piece;
 use hybrid_array::ArraySize;
 use slh_core::address::ForsTree;
 use slh_core::nbytes::NBytes;
@@ -41,7 +42,7 @@ pub(crate) fn opened_secrets<P: ForsParams>(sig: &[u8], out: &mut [u8])
     let n = P::N::USIZE;
     let size = opened_len::<P>();
     for i in 0..P::K::USIZE {
-        let opened = &sig[i * size..(i + 1) * size];
+        let opened = piece(sig, size, i);
         put_part(out, n, i, &opened[..n]);
     }
 }
@@ -56,8 +57,7 @@ fn sibling_in<P: ForsParams>(sig: &[u8], i: usize, z: usize) -> NBytes<P::N>
         result ≡ part P.N.USIZE (drop P.N.USIZE opened) z }
 {
     forest_sizes::<P>();
-    let size = opened_len::<P>();
-    let opened = &sig[i * size..(i + 1) * size];
+    let opened = piece(sig, opened_len::<P>(), i);
     part_of::<P::N>(&opened[P::N::USIZE..], z)
 }
 
@@ -140,6 +140,15 @@ fn halve(indices: &mut [u32])
     }
 }
 
+/// How many bytes the pairs of a height have, one of each tree.
+#[inline]
+fn pairs_len<P: ForsParams>() -> usize
+    ensures value { result ≡ P.K.USIZE * (2 * P.N.USIZE) }
+    ensures small { result ≤ 2 * MAX_ROOTS_LEN }
+{
+    2 * roots_len::<P>()
+}
+
 /// Takes the nodes of a height, one of each tree, and their indices to the next height.
 pub(crate) fn climb_level<P: ForsParams, L: Ledger>(
     indices: &mut [u32],
@@ -172,7 +181,7 @@ pub(crate) fn climb_level<P: ForsParams, L: Ledger>(
 {
     forest_sizes::<P>();
     let mut store = [0u8; 2 * MAX_ROOTS_LEN];
-    let pairs = &mut store[..indices.len() * (2 * P::N::USIZE)];
+    let pairs = &mut store[..pairs_len::<P>()];
     pair_nodes::<P>(indices, z, sig, nodes, pairs);
     halve(indices);
     let at = adrs.at_node(z as u32 + 1, 0);

@@ -4,7 +4,7 @@ ghost use Rattle.std.specs.Prelude.{slice_index, EachIndex};
 ghost use Rattle.slh_core.specs.Bytes.{joined};
 ghost use Rattle.slh_core.specs.Costs.{auth_path_cost, fors_leaf_cost, fors_node_cost};
 ghost use Rattle.slh_core.specs.Costs.{fors_sign_cost, fors_pk_from_sig_cost, fors_pk_cost};
-ghost use Rattle.slh_trees.specs.Checking.{checked_fors_node};
+ghost use Rattle.slh_trees.specs.Checking.{checked_fors_node, forest_size};
 ghost use Rattle.slh_trees.specs.Checking.{fors_pk_from_sig as spec_fors_pk_from_sig};
 ghost use Rattle.slh_trees.specs.Fors.{fors_secret, fors_leaf, fors_node as spec_fors_node};
 ghost use Rattle.slh_trees.specs.Fors.{fors_auth_path, fors_pk, opened_leaves, fors_sig};
@@ -45,7 +45,6 @@ pub fn fors_sk_gen<P: ForsParams, L: Ledger>(
 }
 
 /// Writes the leaves from index `first` on, eight at a time.
-#[tactic(auto, unfolding(slh_core::specs::Bytes::joined))]
 fn leaves_by_eight<P: ForsParams, L: Ledger>(
     sk_seed: &NBytes<P::N>,
     first: u32,
@@ -185,6 +184,16 @@ pub fn opened_len<P: ForsParams>() -> usize
     (1 + P::A::USIZE) * P::N::USIZE
 }
 
+/// How many bytes the forest's part of a signature has.
+#[inline]
+pub(crate) fn forest_len<P: ForsParams>() -> usize
+    ensures value { result ≡ forest_size P.N.USIZE P.K.USIZE P.A.USIZE }
+    ensures small { result ≤ MAX_FORS_TREES * MAX_OPENED_LEN }
+{
+    forest_sizes::<P>();
+    P::K::USIZE * opened_len::<P>()
+}
+
 /// How many bytes the roots of all trees of the forest have.
 pub fn roots_len<P: ForsParams>() -> usize
     ensures value { result ≡ P.K.USIZE * P.N.USIZE }
@@ -213,14 +222,13 @@ pub fn fors_sign<P: ForsParams, L: Ledger>(
     ensures cost { steps.new ≡ steps.old + fors_sign_cost P.K.USIZE P.A.USIZE }
 {
     forest_sizes::<P>();
-    let k = P::K::USIZE;
-    let mut digits = [0u16; MAX_FORS_TREES];
-    base_2b(md, P::A::USIZE as u32, &mut digits[..k]);
-    open_all::<P, L>(&digits[..k], sk_seed, keyed, adrs, out, steps);
+    let mut store = [0u16; MAX_FORS_TREES];
+    let digits = &mut store[..P::K::USIZE];
+    base_2b(md, P::A::USIZE as u32, digits);
+    open_all::<P, L>(digits, sk_seed, keyed, adrs, out, steps);
 }
 
 /// Opens one secret in each tree, by its digit.
-#[tactic(auto, unfolding(crate::specs::Fors::opened_leaves, slh_core::specs::Bytes::joined))]
 fn open_all<P: ForsParams, L: Ledger>(
     digits: &[u16],
     sk_seed: &NBytes<P::N>,
@@ -238,6 +246,7 @@ fn open_all<P: ForsParams, L: Ledger>(
         out.new ≡ opened_leaves K sk_seed.now t l P.K.USIZE P.A.USIZE digits.now }
     ensures cost { steps.new ≡ steps.old + fors_sign_cost P.K.USIZE P.A.USIZE }
 {
+    forest_sizes::<P>();
     let size = opened_len::<P>();
     for (i, digit) in digits.iter().enumerate() {
         let y = index_of::<P>(i, *digit);
@@ -259,7 +268,6 @@ pub fn index_of<P: ForsParams>(i: usize, digit: u16) -> u32
 
 /// The forest's public key that the signature of the digest's first part leads to (FIPS 205,
 /// algorithm 17).
-#[tactic(auto, unfolding(crate::specs::Checking::fors_pk_from_sig))]
 pub fn fors_pk_from_sig<P: ForsParams, L: Ledger>(
     sig: &[u8],
     md: &[u8],

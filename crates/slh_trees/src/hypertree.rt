@@ -5,6 +5,7 @@ ghost use Rattle.slh_core.specs.Costs.{ht_sign_cost, ht_verify_bound};
 ghost use Rattle.slh_trees.specs.Checking.{checked_message};
 ghost use Rattle.slh_trees.specs.Hypertree.{ht_sig, layer_size};
 
+use crate::sig_view::piece;
 use crate::xmss::{xmss_pk_from_sig, xmss_sign_root};
 use hybrid_array::ArraySize;
 use slh_core::address::WotsHash;
@@ -52,7 +53,6 @@ pub fn tree_adrs_of(layer: u32, tree: u64) -> WotsHash
 
 /// Writes the signature of a message under a leaf of a tree of the lowest layer: the signatures of
 /// all layers, from the lowest up (FIPS 205, algorithm 12).
-#[tactic(auto, unfolding(crate::specs::Hypertree::ht_sig, slh_core::specs::Bytes::joined))]
 pub fn ht_sign<P: HypertreeParams, L: Ledger>(
     m: &NBytes<P::N>,
     sk_seed: &NBytes<P::N>,
@@ -112,7 +112,7 @@ pub(crate) fn ht_root<P: HypertreeParams, L: Ledger>(
     let mut leaf = idx_leaf;
     for j in 0..P::D::USIZE {
         let at = tree_adrs_of(j as u32, tree);
-        let layer = &sig[j * size..(j + 1) * size];
+        let layer = piece(sig, size, j);
         message = xmss_pk_from_sig::<P, L>(leaf, layer, &message, keyed, &at, steps);
         (tree, leaf) = next_place(tree, height);
     }

@@ -12,7 +12,6 @@ use slh_core::steps::Steps;
 use std::sync::ledger::Ledger;
 
 /// The root of the top tree of a key's seeds (FIPS 205, algorithm 18, line 3).
-#[tactic(auto, unfolding(crate::specs::Keys::top_root))]
 pub fn top_root<P: ForsParams, L: Ledger>(
     sk_seed: &NBytes<P::N>,
     pk_seed: &NBytes<P::N>,

@@ -9,9 +9,10 @@ ghost use Rattle.slh_trees.specs.SignatureParts.{chain_value_of, fors_secret_of,
 ghost use Rattle.slh_trees.specs.SignatureParts.{layer_of, opened_of, randomizer_of};
 ghost use Rattle.slh_trees.specs.SignatureParts.{sibling_node_of};
 
-use crate::fors::opened_len;
+use crate::fors::{forest_len, opened_len};
 use crate::hypertree::layer_len;
 use crate::sizes::signature_len;
+use crate::xmss::chains_len;
 use hybrid_array::{ArrayRef, ArraySize};
 use slh_core::params::{ForsParams, forest_sizes, layer_sizes};
 use std::marker::{Model, PhantomData};
@@ -36,7 +37,8 @@ impl<'a, P: ForsParams> Model for SigView<'a, P> {
 }
 
 // The part of a slice with a number, of parts of `len` bytes.
-fn piece(bytes: &[u8], len: usize, i: usize) -> &[u8]
+#[inline]
+pub(crate) fn piece(bytes: &[u8], len: usize, i: usize) -> &[u8]
     requires { (i + 1) * len ≤ length bytes.now }
     ensures value { result.now ≡ part len bytes.now i }
     ensures len { length result.now ≡ len }
@@ -112,7 +114,7 @@ impl<'a, P: ForsParams> SigView<'a, P> {
         forest_sizes::<P>();
         layer_sizes::<P>();
         let n = P::N::USIZE;
-        &self.bytes[n..n + P::K::USIZE * opened_len::<P>()]
+        &self.bytes[n..n + forest_len::<P>()]
     }
 
     /// The parts of all layers, from layer 0 up: d(len + h') values.
@@ -123,7 +125,7 @@ impl<'a, P: ForsParams> SigView<'a, P> {
     {
         forest_sizes::<P>();
         layer_sizes::<P>();
-        &self.bytes[P::N::USIZE + P::K::USIZE * opened_len::<P>()..]
+        self.bytes.split_at(P::N::USIZE + forest_len::<P>()).1
     }
 
     // What is opened in tree `i` of the forest.
@@ -181,7 +183,7 @@ impl<'a, P: ForsParams> SigView<'a, P> {
         ensures siblings_len { length result.1.now ≡ P.HPrime.USIZE * P.N.USIZE }
     {
         layer_sizes::<P>();
-        self.xmss(j).split_at(P::WotsSigLen::USIZE * P::N::USIZE)
+        self.xmss(j).split_at(chains_len::<P>())
     }
 
     /// The value of chain `c` of layer `j`.

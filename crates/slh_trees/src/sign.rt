@@ -5,7 +5,7 @@ ghost use Rattle.slh_trees.specs.Checking.{signature_size};
 ghost use Rattle.slh_trees.specs.Signing.{digest_signature};
 
 use crate::digest::split_digest;
-use crate::fors::fors_sign_root;
+use crate::fors::{forest_len, fors_sign_root};
 use crate::hypertree::ht_sign;
 use hybrid_array::ArraySize;
 use slh_core::address::ForsTree;
@@ -16,7 +16,6 @@ use std::sync::ledger::Ledger;
 
 /// Writes the signature of a digest: the randomizer, the forest's part and the layers' parts
 /// (FIPS 205, algorithm 19, from line 5 on).
-#[tactic(auto, unfolding(crate::specs::Signing::digest_signature))]
 pub fn sign_digest<P: ForsParams, L: Ledger>(
     sk_seed: &NBytes<P::N>,
     pk_seed: &NBytes<P::N>,
@@ -33,10 +32,9 @@ pub fn sign_digest<P: ForsParams, L: Ledger>(
 {
     layer_sizes::<P>();
     forest_sizes::<P>();
-    let n = P::N::USIZE;
     let (md, tree, leaf) = split_digest::<P>(digest);
-    let (first, rest) = out.split_at_mut(n);
-    let (forest, layers) = rest.split_at_mut(P::K::USIZE * ((1 + P::A::USIZE) * n));
+    let (first, rest) = out.split_at_mut(P::N::USIZE);
+    let (forest, layers) = rest.split_at_mut(forest_len::<P>());
     first.copy_from_slice(rand.as_slice());
     let keyed = P::keyed(pk_seed);
     let adrs = ForsTree::new(tree, leaf);

@@ -3,6 +3,7 @@ ghost use Rattle.std.specs.Prelude.{◌≡◌, ◌≤◌, length};
 ghost use Rattle.slh_trees.specs.Checking.{signature_size};
 ghost use Rattle.slh_trees.specs.Frame.{frame_head as spec_frame_head};
 
+use crate::fors::forest_len;
 use crate::hypertree::layer_len;
 use hybrid_array::ArraySize;
 use slh_core::params::{ForsParams, forest_sizes, layer_sizes};
@@ -19,8 +20,7 @@ pub fn signature_len<P: ForsParams>() -> usize
 {
     layer_sizes::<P>();
     forest_sizes::<P>();
-    let n = P::N::USIZE;
-    n + P::K::USIZE * ((1 + P::A::USIZE) * n) + P::D::USIZE * layer_len::<P>()
+    P::N::USIZE + forest_len::<P>() + P::D::USIZE * layer_len::<P>()
 }
 
 /// The two bytes before the context of a message that is signed as it is (FIPS 205, algorithm 22).

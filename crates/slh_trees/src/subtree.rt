@@ -33,6 +33,17 @@ pub(crate) fn row_len(z: u32) -> usize
     1 << z
 }
 
+/// How many bytes the nodes of a row have.
+#[inline]
+pub(crate) fn row_size<P: WotsParams>(count: usize) -> usize
+    requires { count ≤ MAX_ROW }
+    ensures value { result ≡ count * P.N.USIZE }
+    ensures small { result ≤ count * MAX_N }
+{
+    chain_sizes::<P>();
+    count * P::N::USIZE
+}
+
 /// Puts the parents of a row of nodes at the front of the row: `count` of them, with the indices
 /// from `first` on at a height.
 fn hash_level<P: WotsParams, A: NodeAddress + Drop, L: Ledger>(
@@ -57,22 +68,15 @@ fn hash_level<P: WotsParams, A: NodeAddress + Drop, L: Ledger>(
     ensures cost { steps.new ≡ steps.old + count }
 {
     chain_sizes::<P>();
-    let n = P::N::USIZE;
+    let size = row_size::<P>(count);
     let mut row = [0u32; MAX_ROW / 2];
     let numbers = &mut row[..count];
     number_from(first, numbers);
     let mut buffer = [0u8; MAX_ROW / 2 * MAX_N];
-    let parents = &mut buffer[..count * n];
+    let parents = &mut buffer[..size];
     let at = adrs.at_node(height, 0);
-    P::h_each(
-        keyed,
-        &at,
-        numbers,
-        &nodes[..count * (2 * n)],
-        parents,
-        steps,
-    );
-    nodes[..count * n].copy_from_slice(parents);
+    P::h_each(keyed, &at, numbers, &nodes[..2 * size], parents, steps);
+    nodes[..size].copy_from_slice(parents);
 }
 
 /// Hashes the `2 ^ z` leaves below the node with index `i` level by level, up to the node.
@@ -104,7 +108,6 @@ fn hash_up<P: WotsParams, A: NodeAddress + Drop, L: Ledger>(
 
 /// Hashes the `2 ^ z` leaves of a tree level by level, up to the root, and writes the siblings on
 /// the way up from leaf `y`.
-#[tactic(auto, unfolding(crate::specs::Merkle::merkle_auth_path, slh_core::specs::Bytes::joined))]
 pub(crate) fn hash_up_and_path<P: WotsParams, A: NodeAddress + Drop, L: Ledger>(
     nodes: &mut [u8],
     y: u32,
@@ -160,7 +163,7 @@ pub(crate) fn subtree<P: WotsParams, A: Leaves<P> + Drop, L: Ledger>(
     leaf_numbers::<P, A>();
     let count = row_len(z);
     let mut buffer = [0u8; MAX_ROW * MAX_N];
-    let nodes = &mut buffer[..count * P::N::USIZE];
+    let nodes = &mut buffer[..row_size::<P>(count)];
     let first = index_below(i, z, 0);
     adrs.leaves(sk_seed, first, count, keyed, nodes, steps);
     hash_up::<P, A, L>(nodes, i, z, keyed, adrs, steps);

@@ -112,7 +112,6 @@ pub(crate) fn treehash<P: WotsParams, A: Leaves<P> + Drop, L: Ledger>(
 }
 
 /// Writes the siblings on the way up from leaf `y` to the root of its tree.
-#[tactic(auto, unfolding(crate::specs::Merkle::merkle_auth_path, slh_core::specs::Bytes::joined))]
 pub(crate) fn write_auth_path<P: WotsParams, A: Leaves<P> + Drop, L: Ledger>(
     sk_seed: &NBytes<P::N>,
     y: u32,

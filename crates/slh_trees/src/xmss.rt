@@ -9,19 +9,28 @@ ghost use Rattle.slh_trees.specs.Checking.{checked_node};
 ghost use Rattle.slh_trees.specs.Xmss.{xmss_node as spec_xmss_node, xmss_sig};
 
 use crate::climb::root_from_auth_path;
-use crate::laws::path_leads_to_root;
 use crate::leaves::{Leaves, MAX_ROW, ROW_HEIGHT};
-use crate::subtree::{hash_up_and_path, row_len};
+use crate::subtree::{hash_up_and_path, row_len, row_size};
 use crate::treehash::{treehash, write_auth_path};
 use hybrid_array::ArraySize;
 use slh_core::address::{HashTree, WotsHash};
 use slh_core::digits::{message_digits, no_digits};
 use slh_core::nbytes::NBytes;
-use slh_core::params::{MAX_ENDS_LEN, MAX_N, XmssParams, tree_sizes};
+use slh_core::params::{MAX_ENDS_LEN, MAX_N, WotsParams, XmssParams, chain_sizes, tree_sizes};
 use slh_core::parts::{part_of, put_part};
 use slh_core::steps::Steps;
 use slh_core::wots::{wots_pk_from_sig, wots_pk_gen, wots_sign, wots_sign_leaf};
 use std::sync::ledger::Ledger;
+
+/// How many bytes the values of all chains of a key pair have.
+#[inline]
+pub(crate) fn chains_len<P: WotsParams>() -> usize
+    ensures value { result ≡ P.WotsSigLen.USIZE * P.N.USIZE }
+    ensures small { result ≤ MAX_ENDS_LEN }
+{
+    chain_sizes::<P>();
+    P::WotsSigLen::USIZE * P::N::USIZE
+}
 
 /// The address of another key pair of the same tree.
 #[inline]
@@ -52,7 +61,6 @@ fn key_pair_of(adrs: &HashTree, key_pair: u32) -> WotsHash
 
 /// Writes the leaves from index `first` on, eight key pairs at a time. Number `signer` of them,
 /// from 0, leaves the values of its chains at digits in `sig`.
-#[tactic(auto, unfolding(slh_core::specs::Bytes::joined))]
 fn leaves_by_eight<P: XmssParams, L: Ledger>(
     sk_seed: &NBytes<P::N>,
     first: u32,
@@ -93,7 +101,6 @@ fn leaves_by_eight<P: XmssParams, L: Ledger>(
 }
 
 /// Writes the leaves from index `first` on, one key pair at a time.
-#[tactic(auto, unfolding(slh_core::specs::Bytes::joined))]
 fn leaves_one_by_one<P: XmssParams, L: Ledger>(
     sk_seed: &NBytes<P::N>,
     first: u32,
@@ -140,13 +147,11 @@ impl<P: XmssParams> Leaves<P> for HashTree {
         steps: &mut Steps<L>,
     ) {
         tree_sizes::<P>();
-        let n = P::N::USIZE;
-        let len = P::WotsSigLen::USIZE;
         let groups = count / 8;
-        let (eights, rest) = out.split_at_mut(groups * (8 * n));
+        let (eights, rest) = out.split_at_mut(groups * (8 * P::N::USIZE));
         let mut store = [0u8; MAX_ENDS_LEN];
-        let sig = &mut store[..len * n];
-        let none = no_digits(len);
+        let sig = &mut store[..chains_len::<P>()];
+        let none = no_digits(P::WotsSigLen::USIZE);
         leaves_by_eight::<P, L>(
             sk_seed, first, groups, 0, none, keyed, self, sig, eights, steps,
         );
@@ -201,14 +206,13 @@ pub fn xmss_sign<P: XmssParams, L: Ledger>(
 {
     tree_sizes::<P>();
     let height = P::HPrime::USIZE;
-    let (chains, path) = out.split_at_mut(P::WotsSigLen::USIZE * P::N::USIZE);
+    let (chains, path) = out.split_at_mut(chains_len::<P>());
     wots_sign::<P, L>(m, sk_seed, keyed, &at_leaf(adrs, idx), chains, steps);
     let place = adrs.tree_adrs();
     write_auth_path::<P, HashTree, L>(sk_seed, idx, height, keyed, &place, path, steps);
 }
 
 /// The root that the signature of a message under leaf `idx` leads to (FIPS 205, algorithm 11).
-#[tactic(auto, unfolding(crate::specs::Checking::checked_node))]
 pub fn xmss_pk_from_sig<P: XmssParams, L: Ledger>(
     idx: u32,
     sig: &[u8],
@@ -230,7 +234,7 @@ pub fn xmss_pk_from_sig<P: XmssParams, L: Ledger>(
 {
     tree_sizes::<P>();
     let height = P::HPrime::USIZE;
-    let (chains, path) = sig.split_at(P::WotsSigLen::USIZE * P::N::USIZE);
+    let (chains, path) = sig.split_at(chains_len::<P>());
     let leaf = wots_pk_from_sig::<P, L>(chains, m, keyed, &at_leaf(adrs, idx), steps);
     root_from_auth_path::<P, HashTree, L>(&leaf, idx, height, path, keyed, &adrs.tree_adrs(), steps)
 }
@@ -262,14 +266,14 @@ fn sign_in_row<P: XmssParams, L: Ledger>(
     tree_sizes::<P>();
     let height = P::HPrime::USIZE;
     let len = P::WotsSigLen::USIZE;
-    let (chains, path) = out.split_at_mut(len * P::N::USIZE);
+    let (chains, path) = out.split_at_mut(chains_len::<P>());
     let all = message_digits(m);
     let digits = &all[..len];
     let place = adrs.tree_adrs();
     let count = row_len(height as u32);
     let signer = idx as usize;
     let mut store = [0u8; MAX_ROW * MAX_N];
-    let nodes = &mut store[..count * P::N::USIZE];
+    let nodes = &mut store[..row_size::<P>(count)];
     leaves_by_eight::<P, L>(
         sk_seed,
         0,
@@ -309,14 +313,13 @@ pub fn xmss_sign_root<P: XmssParams, L: Ledger>(
     ensures cost { steps.new ≡ steps.old + xmss_node_cost P.WotsSigLen.USIZE P.HPrime.USIZE }
 {
     tree_sizes::<P>();
-    path_leads_to_root::<P>();
     let height = P::HPrime::USIZE;
     if 3 <= height && height <= ROW_HEIGHT as usize {
         return sign_in_row::<P, L>(m, sk_seed, keyed, idx, adrs, out, steps);
     }
-    let (chains, path) = out.split_at_mut(P::WotsSigLen::USIZE * P::N::USIZE);
+    let (chains, path) = out.split_at_mut(chains_len::<P>());
     let leaf = wots_sign_leaf::<P, L>(m, sk_seed, keyed, &at_leaf(adrs, idx), chains, steps);
     let place = adrs.tree_adrs();
     write_auth_path::<P, HashTree, L>(sk_seed, idx, height, keyed, &place, path, steps);
-    root_from_auth_path::<P, HashTree, L>(&leaf, idx, height, path, keyed, &adrs.tree_adrs(), steps)
+    root_from_auth_path::<P, HashTree, L>(&leaf, idx, height, path, keyed, &place, steps)
 }

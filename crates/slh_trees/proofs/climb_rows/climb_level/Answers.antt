@@ -1,11 +1,30 @@
-use Rattle.std.proofs.Common.{arith, ◌≡◌, ◌+◌, ◌*◌, ◌/◌, ◌%◌, ◌∙◌, length, drop, slice_index}
+use Rattle.std.proofs.Common.{ℕ, arith, ◌≡◌, ◌+◌, ◌*◌, ◌/◌, ◌%◌, ◌∙◌, length, drop, slice_index}
 use Rattle.std.specs.Prelude.{◌==◌}
+use Rattle.std.proofs.lemmas.List.{length-replicate, length-take}
 use Rattle.slh_core.specs.Bytes.{part}
 use Rattle.slh_core.proofs.Joins.{joined_same}
 use Rattle.slh_trees.specs.Fors.{fors_place}
 use Rattle.slh_trees.specs.Merkle.{node_bytes}
 use Rattle.slh_trees.proofs.Ascents.{hashed_in_order}
 use Rattle.slh_trees.proofs.climb_rows.climb_level.Goals as goal
+
+pub h_each-requires-clause-pairs : goal.h_each-requires-clause-pairs
+h_each-requires-clause-pairs g c =
+    let size : length c.halve.new.indices ≡ g.P.K.ArraySize.USIZE = omega arith in
+    rw size (omega (arith, c.pairs_len.ensures.value, c.pairs_len.ensures.small, c.pair_nodes.auto.pairs, length-take {A = ℕ}, length-replicate {A = ℕ}))
+
+pub h_each-requires-clause-room : goal.h_each-requires-clause-room
+h_each-requires-clause-room g c =
+    let size : length c.halve.new.indices ≡ g.P.K.ArraySize.USIZE = omega arith in
+    rw size c.requires.room
+
+pub returns-clause-indices : goal.returns-clause-indices
+returns-clause-indices g c = λ i low. c.halve.ensures i (omega (arith, low, c.requires.count))
+
+pub returns-clause-cost : goal.returns-clause-cost
+returns-clause-cost g c =
+    let size : length c.halve.new.indices ≡ g.P.K.ArraySize.USIZE = omega arith in
+    rw size at c.h_each.ensures.step
 
 pub returns-clause-value : goal.returns-clause-value
 returns-clause-value g c =

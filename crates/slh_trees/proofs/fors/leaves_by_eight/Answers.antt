@@ -1,9 +1,25 @@
-use Rattle.std.proofs.Common.{◌≡◌, ◌≤◌, ◌+◌, ◌-◌, ◌*◌, arith, length}
+use Rattle.std.proofs.Common.{◌≡◌, ◌≤◌, ◌+◌, ◌-◌, ◌*◌, arith, length, rules, ◌<◌}
 use Rattle.std.proofs.lemmas.Slice.{take-put_mid}
 use Rattle.slh_trees.specs.Fors.{fors_leaf, fors_secret}
 use Rattle.slh_trees.proofs.Layers.{part_fits}
-use Rattle.slh_trees.proofs.Rows.{rows_joined}
+use Rattle.slh_trees.proofs.Rows.{eights_few, none_joined, rows_joined, whole_front}
 use Rattle.slh_trees.proofs.fors.leaves_by_eight.Goals as goal
+
+pub overflow_mul-leaves : goal.overflow_mul-leaves
+overflow_mul-leaves g c =
+    let most = eights_few c.loop-g.g c.args.groups c.USIZE-size.result (omega (arith, c.requires.inside)) (omega arith) (omega arith) in
+    let small : c.loop-g.g * (8 * c.USIZE-size.result) < 18446744073709551616 = omega (arith, most) in search rules
+
+pub overflow_mul-leaves-in-loop-g : goal.overflow_mul-leaves-in-loop-g
+overflow_mul-leaves-in-loop-g g c =
+    let most = eights_few c.loop-g.g c.args.groups c.USIZE-size.result (omega (arith, c.requires.inside)) (omega arith) (omega arith) in
+    let small : (c.loop-g.g + 1) * (8 * c.USIZE-size.result) < 18446744073709551616 = omega (arith, most) in search rules
+
+pub loop-g-init : goal.loop-g-init
+loop-g-init g c = record {
+  leaves = none_joined _ _ _;
+  cost = omega arith;
+}
 
 pub loop-g-preserved : goal.loop-g-preserved
 unfolding fors_leaf fors_secret
@@ -21,3 +37,10 @@ loop-g-preserved g c =
           (rows_joined leaf c.args.first (8 * at) 8 (8 * (at + 1)) more);
       cost = omega (arith, c.leaves_eight.ensures.cost, c.loop-g.invariant.cost);
     }
+
+pub returns-clause-leaves : goal.returns-clause-leaves
+returns-clause-leaves g c =
+    let size = 8 * c.USIZE-size.result in
+    let last : c.loop-g.g ≡ c.args.groups = omega arith in
+    let whole : length c.loop-g.out ≡ c.args.groups * size = rw c.USIZE-size.ensures (omega (arith, c.requires.room)) in
+    rw last at (whole_front size c.args.groups c.loop-g.g c.loop-g.out _ last whole c.loop-g.invariant.leaves)

@@ -1,12 +1,45 @@
-use Rattle.std.proofs.Common.{arith, ◌≡◌, ◌+◌, ◌-◌, ◌*◌, ◌≤◌, ◌++◌, length, refl}
+use Rattle.std.proofs.Common.{ℕ, rules, arith, ◌≡◌, ◌+◌, ◌-◌, ◌*◌, ◌<◌, ◌≤◌, ◌++◌, length, refl}
+use Rattle.std.proofs.lemmas.List.{length-drop, length-take}
+use Rattle.std.proofs.lemmas.Nat.{mul-le}
 use Rattle.std.proofs.lemmas.Slice.{take-put_mid}
 use Rattle.slh_core.specs.Bytes.{joined}
 use Rattle.slh_core.proofs.Joins.{joined_more}
-use Rattle.slh_trees.specs.Fors.{fors_opened}
+use Rattle.slh_trees.specs.Fors.{fors_opened, opened_leaves}
 use Rattle.slh_core.specs.Costs.{auth_path_cost, fors_leaf_cost}
 use Rattle.slh_trees.proofs.CostSteps.{one_more}
 use Rattle.slh_trees.proofs.Layers.{part_fits}
+use Rattle.slh_trees.proofs.Rows.{none_joined, whole_front}
 use Rattle.slh_trees.proofs.fors.open_all.Goals as goal
+
+pub overflow_mul-opened : goal.overflow_mul-opened
+overflow_mul-opened g c =
+    let size = c.opened_len-size.result in
+    let most = mul-le (c.loop-i.i + 1) size 64 544 (omega (arith, c.forest_sizes.ensures.trees_high)) c.opened_len-size.ensures.small in
+    let small : c.loop-i.i * size < 18446744073709551616 = omega (arith, most) in search rules
+
+pub overflow_mul-opened-in-loop-i : goal.overflow_mul-opened-in-loop-i
+overflow_mul-opened-in-loop-i g c =
+    let size = c.opened_len-size.result in
+    let most = mul-le (c.loop-i.i + 1) size 64 544 (omega (arith, c.forest_sizes.ensures.trees_high)) c.opened_len-size.ensures.small in
+    let small : (c.loop-i.i + 1) * size < 18446744073709551616 = omega (arith, most) in search rules
+
+pub loop-i-init : goal.loop-i-init
+loop-i-init g c = record {
+  values = none_joined _ _ _;
+  cost = omega arith;
+}
+
+pub slice_bounds-opened-end : goal.slice_bounds-opened-end
+slice_bounds-opened-end g c =
+    let whole : length c.args.out.now ≡ g.P.K.ArraySize.USIZE * c.opened_len-size.result = rw c.opened_len-size.ensures.value c.requires.room in
+    part_fits c.loop-i.i g.P.K.ArraySize.USIZE c.opened_len-size.result _ (omega arith) (omega (arith, whole))
+
+pub open_secret-requires-clause-room : goal.open_secret-requires-clause-room
+open_secret-requires-clause-room g c =
+    let size = c.opened_len-size.result in
+    let whole : length c.args.out.now ≡ g.P.K.ArraySize.USIZE * size = rw c.opened_len-size.ensures.value c.requires.room in
+    let fits = part_fits c.loop-i.i g.P.K.ArraySize.USIZE size _ (omega arith) whole in
+    rw (← c.opened_len-size.ensures.value) (omega (arith, fits, length-take {A = ℕ}, length-drop {A = ℕ}))
 
 pub loop-i-preserved : goal.loop-i-preserved
 unfolding fors_opened
@@ -23,3 +56,12 @@ loop-i-preserved g c =
           (refl {a = joined opened c.loop-i.i ++ opened c.loop-i.i});
       cost = omega (arith, one_more c.loop-i.i (1 + auth_path_cost fors_leaf_cost g.P.A.ArraySize.USIZE), i.cost, c.open_secret.ensures.cost);
     }
+
+pub returns-clause-value : goal.returns-clause-value
+unfolding opened_leaves
+returns-clause-value g c =
+    let k = g.P.K.ArraySize.USIZE in
+    let size = c.opened_len-size.result in
+    let last : c.loop-i.i ≡ k = omega arith in
+    let whole : length c.loop-i.out ≡ k * size = rw c.opened_len-size.ensures.value (omega (arith, c.requires.room)) in
+    rw last at (whole_front size k c.loop-i.i c.loop-i.out _ last whole c.loop-i.invariant.values)

@@ -1,7 +1,8 @@
 use Rattle.std.proofs.Common.{arith, ◌≡◌, ap, refl}
-use Rattle.std.proofs.lemmas.Grind.{common_steps}
+use Rattle.slh_core.specs.Costs.{xmss_pk_from_sig_bound}
 use Rattle.slh_trees.specs.Checking.{checked_message}
-use Rattle.slh_trees.proofs.Layers.{tree_at-zero, tree_at-more, leaf_at-more, checked_message-more}
+use Rattle.slh_trees.proofs.CostSteps.{one_more}
+use Rattle.slh_trees.proofs.Layers.{tree_at-zero, tree_at-more, leaf_at-more, checked_message-more, part_fits}
 use Rattle.slh_trees.proofs.hypertree.ht_root.Goals as goal
 
 pub loop-j-init : goal.loop-j-init
@@ -16,6 +17,14 @@ loop-j-init g c =
       rises = omega arith;
     }
 
+pub piece-layer-requires : goal.piece-layer-requires
+piece-layer-requires g c =
+    part_fits c.loop-j.j g.P.D.ArraySize.USIZE c.layer_len-size.result _ (omega arith) (rw c.layer_len-size.ensures.value c.requires.whole)
+
+pub xmss_pk_from_sig-message-requires-clause-whole : goal.xmss_pk_from_sig-message-requires-clause-whole
+xmss_pk_from_sig-message-requires-clause-whole g c =
+    rw (c.piece-layer.ensures.len, c.layer_len-size.ensures.value, c.layer_sizes.ensures.signature_len) refl
+
 pub loop-j-preserved : goal.loop-j-preserved
 loop-j-preserved g c =
     let K = g.P.HashSuite.keyed_suite c.args.keyed.now in
@@ -26,7 +35,7 @@ loop-j-preserved g c =
       tree = rw (c.next_place.ensures.tree, c.USIZE-height.ensures, i.tree) (tree_at-more _ _ _);
       leaf = rw (c.next_place.ensures.leaf, c.USIZE-height.ensures, i.tree) (leaf_at-more hp c.args.idx_tree c.args.idx_leaf c.loop-j.j);
       below = rw (← c.USIZE-height.ensures) c.next_place.ensures.below;
-      message = rw (c.xmss_pk_from_sig-message.ensures.value, c.tree_adrs_of-at.ensures, i.tree, i.leaf, i.message, c.layer_len-size.ensures.value, ← size) (checked_message-more K hp c.args.idx_tree c.args.idx_leaf c.args.sig.now c.args.m.now c.loop-j.j);
-      cost = grind (arith, common_steps);
-      rises = grind (arith, common_steps);
+      message = rw (c.xmss_pk_from_sig-message.ensures.value, c.piece-layer.ensures.value, c.tree_adrs_of-at.ensures, i.tree, i.leaf, i.message, c.layer_len-size.ensures.value, ← size) (checked_message-more K hp c.args.idx_tree c.args.idx_leaf c.args.sig.now c.args.m.now c.loop-j.j);
+      cost = omega (arith, one_more c.loop-j.j (xmss_pk_from_sig_bound g.P.WotsSigLen.ArraySize.USIZE hp), i.cost, c.xmss_pk_from_sig-message.ensures.bound);
+      rises = omega (arith, i.rises, c.xmss_pk_from_sig-message.ensures.cost);
     }

@@ -1,11 +1,14 @@
-use Rattle.std.proofs.Common.{arith, ◌≡◌, ◌+◌, ◌-◌, ◌*◌, ◌≤◌, [], length, refl}
+use Rattle.std.proofs.Common.{ℕ, rules, arith, ◌≡◌, ◌+◌, ◌-◌, ◌*◌, ◌<◌, ◌≤◌, [], length, refl}
+use Rattle.std.proofs.lemmas.List.{length-drop, length-take}
+use Rattle.std.proofs.lemmas.Nat.{mul-le}
 use Rattle.std.proofs.lemmas.Slice.{take-put_mid}
 use Rattle.slh_core.specs.Bytes.{joined}
 use Rattle.slh_core.proofs.Joins.{joined_more}
-use Rattle.slh_trees.specs.Hypertree.{layer_signature}
+use Rattle.slh_trees.specs.Hypertree.{ht_sig, layer_signature}
 use Rattle.slh_core.specs.Costs.{xmss_node_cost}
 use Rattle.slh_trees.proofs.CostSteps.{one_more}
 use Rattle.slh_trees.proofs.Layers.{tree_at-zero, tree_at-more, leaf_at-more, layer_message-more, part_fits}
+use Rattle.slh_trees.proofs.Rows.{whole_front}
 use Rattle.slh_trees.proofs.hypertree.ht_sign.Goals as goal
 
 pub loop-j-init : goal.loop-j-init
@@ -20,6 +23,31 @@ loop-j-init g c =
       values = rw none (refl {a = []});
       cost = omega arith;
     }
+
+pub overflow_mul-layer : goal.overflow_mul-layer
+overflow_mul-layer g c =
+    let size = c.layer_len-size.result in
+    let most = mul-le (c.loop-j.j + 1) size 65 4096 (omega (arith, c.layer_sizes.ensures.few_layers)) c.layer_len-size.ensures.small in
+    let small : c.loop-j.j * size < 18446744073709551616 = omega (arith, most) in search rules
+
+pub overflow_mul-layer-in-loop-j : goal.overflow_mul-layer-in-loop-j
+overflow_mul-layer-in-loop-j g c =
+    let size = c.layer_len-size.result in
+    let most = mul-le (c.loop-j.j + 1) size 65 4096 (omega (arith, c.layer_sizes.ensures.few_layers)) c.layer_len-size.ensures.small in
+    let small : (c.loop-j.j + 1) * size < 18446744073709551616 = omega (arith, most) in search rules
+
+pub slice_bounds-layer-end : goal.slice_bounds-layer-end
+slice_bounds-layer-end g c =
+    let whole : length c.args.out.now ≡ g.P.D.ArraySize.USIZE * c.layer_len-size.result = rw c.layer_len-size.ensures.value c.requires.room in
+    part_fits c.loop-j.j g.P.D.ArraySize.USIZE c.layer_len-size.result _ (omega arith) (omega (arith, whole))
+
+pub xmss_sign_root-message-requires-clause-room : goal.xmss_sign_root-message-requires-clause-room
+xmss_sign_root-message-requires-clause-room g c =
+    let size = c.layer_len-size.result in
+    let whole : length c.args.out.now ≡ g.P.D.ArraySize.USIZE * size = rw c.layer_len-size.ensures.value c.requires.room in
+    let fits = part_fits c.loop-j.j g.P.D.ArraySize.USIZE size _ (omega arith) whole in
+    let each : size ≡ (g.P.WotsSigLen.ArraySize.USIZE + g.P.HPrime.ArraySize.USIZE) * g.P.N.ArraySize.USIZE = rw (c.layer_len-size.ensures.value, c.layer_sizes.ensures.signature_len) refl in
+    rw (← each) (omega (arith, fits, length-take {A = ℕ}, length-drop {A = ℕ}))
 
 pub loop-j-preserved : goal.loop-j-preserved
 unfolding layer_signature
@@ -39,3 +67,12 @@ loop-j-preserved g c =
       values = rw (take-put_mid (c.loop-j.j * size) ((c.loop-j.j + 1) * size - c.loop-j.j * size) c.loop-j.out c.xmss_sign_root-message.new.out ((c.loop-j.j + 1) * size) next (omega arith), i.values, joined_more, c.xmss_sign_root-message.ensures.value, c.tree_adrs_of-at.ensures, i.tree, i.leaf, i.message) refl;
       cost = omega (arith, one_more c.loop-j.j (xmss_node_cost g.P.WotsSigLen.ArraySize.USIZE hp), i.cost, c.xmss_sign_root-message.ensures.cost);
     }
+
+pub returns-clause-value : goal.returns-clause-value
+unfolding ht_sig
+returns-clause-value g c =
+    let d = g.P.D.ArraySize.USIZE in
+    let size = c.layer_len-size.result in
+    let last : c.loop-j.j ≡ d = omega arith in
+    let whole : length c.loop-j.out ≡ d * size = rw c.layer_len-size.ensures.value (omega (arith, c.requires.room)) in
+    rw last at (whole_front size d c.loop-j.j c.loop-j.out _ last whole c.loop-j.invariant.values)

@@ -1,7 +1,10 @@
-use Rattle.std.proofs.Common.{arith, refl}
+use Rattle.std.proofs.Common.{◌≡◌, ◌*◌, arith, length, refl}
 use Rattle.slh_core.proofs.Joins.{joined_more}
 use Rattle.slh_trees.proofs.CostSteps.{auth_path_cost-more}
+use Rattle.slh_trees.proofs.Layers.{part_fits}
 use Rattle.slh_trees.proofs.Powers.{sibling_below_of}
+use Rattle.slh_trees.proofs.Rows.{none_joined, whole_front}
+use Rattle.slh_trees.specs.Merkle.{merkle_auth_path}
 use Rattle.slh_trees.proofs.treehash.write_auth_path.Goals as goal
 
 pub loop-z-preserved : goal.loop-z-preserved
@@ -10,7 +13,25 @@ loop-z-preserved g c = record {
   cost = omega (arith, auth_path_cost-more g.A.Leaves.leaf_cost c.loop-z.z);
 }
 
+pub put_part-requires-clause-fits : goal.put_part-requires-clause-fits
+put_part-requires-clause-fits g c =
+    part_fits c.loop-z.z c.args.height c.USIZE-n.result _ (omega arith) (rw c.USIZE-n.ensures (omega (arith, c.requires.room)))
+
 pub treehash-value-requires-clause-node : goal.treehash-value-requires-clause-node
 treehash-value-requires-clause-node g c =
     rw c.sibling.ensures
     (sibling_below_of c.args.y c.loop-z.z g.A.Leaves.height g.A.Leaves.trees (omega arith) c.requires.leaf)
+
+pub loop-z-init : goal.loop-z-init
+loop-z-init g c = record {
+  values = none_joined _ _ _;
+  cost = omega arith;
+}
+
+pub returns-clause-value : goal.returns-clause-value
+unfolding merkle_auth_path
+returns-clause-value g c =
+    let n = c.USIZE-n.result in
+    let last : c.loop-z.z ≡ c.args.height = omega arith in
+    let whole : length c.loop-z.out ≡ c.args.height * n = rw c.USIZE-n.ensures (omega (arith, c.requires.room)) in
+    rw last at (whole_front n c.args.height c.loop-z.z c.loop-z.out _ last whole c.loop-z.invariant.values)

@@ -1,4 +1,4 @@
-use Rattle.std.proofs.Common.{◌≡◌, ◌≢◌, ◌<◌, ◌≤◌, ◌+◌, ◌-◌, ◌*◌, ◌/◌, ◌%◌, ◌∙◌, ℕ, ap, arith, inl, inr, length, refl, slice_index}
+use Rattle.std.proofs.Common.{◌≡◌, ◌≢◌, ◌<◌, ◌≤◌, ◌+◌, ◌-◌, ◌*◌, ◌/◌, ◌%◌, ◌∙◌, ℕ, ap, arith, inl, inr, length, refl, slice_index, rules}
 use Rattle.std.proofs.lemmas.Bool.{cases_eq}
 use Rattle.std.proofs.lemmas.Slice.{take-put_mid}
 use Rattle.slh_core.specs.Costs.{wots_pk_cost}
@@ -6,9 +6,27 @@ use Rattle.slh_core.specs.Wots.{wots_pk}
 use Rattle.slh_core.proofs.Chains.{values_none}
 use Rattle.slh_trees.proofs.CostSteps.{eight_more}
 use Rattle.slh_trees.proofs.Layers.{part_fits}
-use Rattle.slh_trees.proofs.Rows.{rows_joined}
+use Rattle.slh_trees.proofs.Rows.{eights_few, none_joined, rows_joined, whole_front}
 use Rattle.slh_trees.proofs.xmss.leaves_by_eight.Goals.{then-signer-g, else-signer-g}
 use Rattle.slh_trees.proofs.xmss.leaves_by_eight.Goals as goal
+
+pub overflow_mul-keys : goal.overflow_mul-keys
+overflow_mul-keys g c =
+    let most = eights_few c.loop-g.g c.args.groups c.USIZE-size.result (omega (arith, c.requires.inside)) (omega arith) (omega arith) in
+    let small : c.loop-g.g * (8 * c.USIZE-size.result) < 18446744073709551616 = omega (arith, most) in search rules
+
+pub overflow_mul-keys-in-loop-g : goal.overflow_mul-keys-in-loop-g
+overflow_mul-keys-in-loop-g g c =
+    let most = eights_few c.loop-g.g c.args.groups c.USIZE-size.result (omega (arith, c.requires.inside)) (omega arith) (omega arith) in
+    let small : (c.loop-g.g + 1) * (8 * c.USIZE-size.result) < 18446744073709551616 = omega (arith, most) in search rules
+
+pub loop-g-init : goal.loop-g-init
+loop-g-init g c = record {
+  leaves = none_joined _ _ _;
+  before = λ early. refl;
+  after = λ late. absurd (omega (arith, late));
+  cost = omega arith;
+}
 
 pub loop-g-preserved : goal.loop-g-preserved
 loop-g-preserved g c =
@@ -56,3 +74,10 @@ loop-g-preserved g c =
       ];
       cost = c.pairs_eight.ensures.cost ∙ rw (i.cost, long, c.requires.count) (eight_more c.args.steps.now at (wots_pk_cost g.P.WotsSigLen.ArraySize.USIZE));
     }
+
+pub returns-clause-leaves : goal.returns-clause-leaves
+returns-clause-leaves g c =
+    let size = 8 * c.USIZE-size.result in
+    let last : c.loop-g.g ≡ c.args.groups = omega arith in
+    let whole : length c.loop-g.out ≡ c.args.groups * size = rw c.USIZE-size.ensures (omega (arith, c.requires.room)) in
+    rw last at (whole_front size c.args.groups c.loop-g.g c.loop-g.out _ last whole c.loop-g.invariant.leaves)

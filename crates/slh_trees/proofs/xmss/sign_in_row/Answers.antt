@@ -36,19 +36,19 @@ leaves_by_eight-requires-clause-room g c =
     let count = c.row_len-count.result in
     let room = room_in_eights c.USIZE-height.result count n (omega (arith, c.requires.eights, c.USIZE-height.ensures)) c.row_len-count.ensures.value in
     let fits : count * n ≤ 64 * 32 = mul-le count n 64 32 (omega (arith, c.row_len-count.ensures.few)) (omega (arith, c.tree_sizes.ensures.n_high)) in
-    rw c.USIZE-2.ensures (omega (arith, room, fits, length-take {A = ℕ}, length-replicate {A = ℕ}))
+    rw c.row_size.ensures.value (omega (arith, room, fits, length-take {A = ℕ}, length-replicate {A = ℕ}))
 
 pub hash_up_and_path-requires-clause-room : goal.hash_up_and_path-requires-clause-room
 hash_up_and_path-requires-clause-room g c =
     let n = g.P.N.ArraySize.USIZE in
     let count = c.row_len-count.result in
     let fits : count * n ≤ 64 * 32 = mul-le count n 64 32 (omega (arith, c.row_len-count.ensures.few)) (omega (arith, c.tree_sizes.ensures.n_high)) in
-    let long = rw c.USIZE-2.ensures at c.leaves_by_eight.auto.out in
+    let long = rw c.row_size.ensures.value at c.leaves_by_eight.auto.out in
     rw (← c.row_len-count.ensures.value) (omega (arith, long, fits, length-take {A = ℕ}, length-replicate {A = ℕ}))
 
 pub hash_up_and_path-requires-clause-path_room : goal.hash_up_and_path-requires-clause-path_room
 hash_up_and_path-requires-clause-path_room g c =
-    let back = rw (c.USIZE-len.ensures, c.USIZE.ensures) at c.split_at_mut-chains.ensures.back_len in
+    let back = rw c.chains_len.ensures.value at c.split_at_mut-chains.ensures.back_len in
     rw c.USIZE-height.ensures (omega (arith, back, c.requires.room))
 
 pub returns-clause-root : goal.returns-clause-root

@@ -11,12 +11,12 @@ use Rattle.slh_trees.proofs.xmss.HashTreeLeaves.leaves.Goals as goal
 
 pub split_at_mut-eights-requires : goal.split_at_mut-eights-requires
 split_at_mut-eights-requires g c =
-    rw (c.requires.room, c.USIZE-n.ensures) (eights_fit c.args.count g.P.N.ArraySize.USIZE)
+    rw (c.requires.room, c.USIZE.ensures) (eights_fit c.args.count g.P.N.ArraySize.USIZE)
 
 pub leaves_one_by_one-requires-clause-room : goal.leaves_one_by_one-requires-clause-room
 leaves_one_by_one-requires-clause-room g c =
     let n = g.P.N.ArraySize.USIZE in
-    let back = rw c.USIZE-n.ensures at c.split_at_mut-eights.ensures.back_len in
+    let back = rw c.USIZE.ensures at c.split_at_mut-eights.ensures.back_len in
     let all = in_eights c.args.count (c.args.count / 8) (c.args.count % 8) n (omega arith) in
     omega (arith, back, all, c.requires.room)
 

@@ -1,0 +1,30 @@
+use Rattle.std.proofs.Common.{◌≡◌, ◌*◌, arith, length, refl}
+use Rattle.slh_core.specs.Costs.{wots_pk_cost}
+use Rattle.slh_core.proofs.Joins.{joined_more}
+use Rattle.slh_trees.proofs.CostSteps.{one_more}
+use Rattle.slh_trees.proofs.Layers.{part_fits}
+use Rattle.slh_trees.proofs.Rows.{none_joined, whole_front}
+use Rattle.slh_trees.proofs.xmss.leaves_one_by_one.Goals as goal
+
+pub put_part-requires-clause-fits : goal.put_part-requires-clause-fits
+put_part-requires-clause-fits g c =
+    part_fits c.loop-k.k c.args.count c.USIZE-n.result _ (omega arith) (rw c.USIZE-n.ensures (omega (arith, c.requires.room)))
+
+pub loop-k-init : goal.loop-k-init
+loop-k-init g c = record {
+  leaves = none_joined _ _ _;
+  cost = omega arith;
+}
+
+pub loop-k-preserved : goal.loop-k-preserved
+loop-k-preserved g c = record {
+  leaves = rw (c.put_part.ensures.front, c.loop-k.invariant.leaves, joined_more, c.as_slice.ensures.value, c.wots_pk_gen-leaf.ensures.value, c.key_pair_of-at.ensures) refl;
+  cost = omega (arith, one_more c.loop-k.k (wots_pk_cost g.P.WotsSigLen.ArraySize.USIZE), c.loop-k.invariant.cost, c.wots_pk_gen-leaf.ensures.cost);
+}
+
+pub returns-clause-leaves : goal.returns-clause-leaves
+returns-clause-leaves g c =
+    let n = c.USIZE-n.result in
+    let last : c.loop-k.k ≡ c.args.count = omega arith in
+    let whole : length c.loop-k.out ≡ c.args.count * n = rw c.USIZE-n.ensures (omega (arith, c.requires.room)) in
+    rw last at (whole_front n c.args.count c.loop-k.k c.loop-k.out _ last whole c.loop-k.invariant.leaves)

@@ -1,0 +1,23 @@
+use Rattle.std.proofs.Common.{arith, refl}
+use Rattle.slh_core.specs.Costs.{wots_pk_cost}
+use Rattle.slh_trees.proofs.CostSteps.{node_cost-path}
+use Rattle.slh_trees.proofs.xmss.xmss_sign.Goals as goal
+
+pub write_auth_path-requires-clause-room : goal.write_auth_path-requires-clause-room
+write_auth_path-requires-clause-room g c =
+    let back = rw c.chains_len.ensures.value at c.split_at_mut-chains.ensures.back_len in
+    rw c.USIZE-height.ensures (omega (arith, back, c.requires.room))
+
+pub returns-clause-value : goal.returns-clause-value
+returns-clause-value g c =
+    rw (c.wots_sign.ensures.value, c.at_leaf.ensures, c.write_auth_path.ensures.value, c.tree_adrs-place.ensures, c.USIZE-height.ensures) refl
+
+pub returns-clause-cost : goal.returns-clause-cost
+returns-clause-cost g c =
+    let path = rw c.USIZE-height.ensures at c.write_auth_path.ensures.cost in
+    omega (arith, c.wots_sign.ensures.cost, path)
+
+pub returns-clause-bound : goal.returns-clause-bound
+returns-clause-bound g c =
+    let path = rw c.USIZE-height.ensures at c.write_auth_path.ensures.cost in
+    omega (arith, node_cost-path (wots_pk_cost g.P.WotsSigLen.ArraySize.USIZE) g.P.HPrime.ArraySize.USIZE, c.wots_sign.ensures.bound, path)
