@@ -22,6 +22,7 @@ _slh() {
         manifest) words='seal check --help' ;;
         chain) words='delegate walk verify --help' ;;
         ring) words='master key record restore --help' ;;
+        help) words='keygen public sign verify audit check inspect batch manifest chain ring' ;;
         esac
     fi
     if [ -z "$words" ]; then
@@ -48,10 +49,14 @@ _slh() {
         esac
     fi
 
-    case $previous:$word in
-    --set:* | --prehash:* | *:-*) ;;
-    *) [ "$COMP_CWORD" -le 1 ] || mapfile -t COMPREPLY < <(compgen -f -- "$word") ;;
+    local files=yes
+    case $COMP_CWORD:${COMP_WORDS[1]} in
+    1:* | 2:batch | 2:manifest | 2:chain | 2:ring | *:help) files= ;;
     esac
+    case $previous:$word in
+    --set:* | --prehash:* | *:-*) files= ;;
+    esac
+    [ -z "$files" ] || mapfile -t COMPREPLY < <(compgen -f -- "$word")
     local found
     while read -r found; do
         COMPREPLY+=("$found")

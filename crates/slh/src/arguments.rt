@@ -1,23 +1,40 @@
 //! What the words of a command stand for.
 use crate::failure::Failure;
 use crate::files;
-use crate::outcome::Outcome;
 use clap::ArgMatches;
-use line_serve::hex_field;
 use slh_files::{
-    Key, Kind, Message, has_own_root, read_key, read_signature, seed_len, signature_len,
+    Key, Kind, Message, Outcome, digits_of, read_key, read_signature, read_signing_key, seed_len,
+    signature_len,
 };
 use slh_run::{ByteString, Mode, Set};
 use std::random::RandomSource;
 
+/// The most bytes of a context.
+const MAX_CONTEXT: usize = 255;
+
+/// What names an input, in any command.
+const INPUTS: [&str; 8] = [
+    "key",
+    "signature",
+    "receipt",
+    "chain",
+    "subject",
+    "manifest",
+    "master",
+    "file",
+];
+
 /// A value that the command requires.
-pub fn text<'a>(words: &ArgMatches<'a>, name: &str) -> &'a str {
-    words.get_str(name).unwrap_or("")
+pub fn required<'a>(words: &ArgMatches<'a>, name: &str) -> Result<&'a str, Failure<'static>> {
+    match words.get_str(name) {
+        Some(value) => Ok(value),
+        None => Err(Failure::Command),
+    }
 }
 
 /// The set of `--set`.
 pub fn set_of(words: &ArgMatches<'_>) -> Result<Set, Failure<'static>> {
-    match Set::from_name(text(words, "set").as_bytes()) {
+    match Set::from_name(required(words, "set")?.as_bytes()) {
         Some(set) => Ok(set),
         None => Err(Failure::Told("--set", "no such set")),
     }
@@ -26,8 +43,8 @@ pub fn set_of(words: &ArgMatches<'_>) -> Result<Set, Failure<'static>> {
 /// Refuses words by which more than one file is standard input.
 pub fn check_inputs(words: &ArgMatches<'_>) -> Result<(), Failure<'static>> {
     let mut inputs = 0u8;
-    for name in ["key", "signature", "receipt", "chain", "file"] {
-        if text(words, name) == files::STANDARD {
+    for name in INPUTS {
+        if words.get_str(name) == Some(files::STANDARD) {
             inputs = inputs.saturating_add(1);
         }
     }
@@ -37,35 +54,60 @@ pub fn check_inputs(words: &ArgMatches<'_>) -> Result<(), Failure<'static>> {
     Ok(())
 }
 
-fn mode(words: &ArgMatches<'_>) -> Mode {
+/// Refuses an output at the place of an input of these names.
+pub fn check_output<'a>(
+    rt: &HostRuntime,
+    words: &ArgMatches<'a>,
+    names: &[&str],
+    output: &str,
+) -> Result<(), Failure<'a>> {
+    for name in names {
+        if let Some(input) = words.get_str(name)
+            && files::are_one(rt, input, output)
+        {
+            return Err(Failure::Told(input, "the output would be written over it"));
+        }
+    }
+    Ok(())
+}
+
+fn mode(words: &ArgMatches<'_>) -> Result<Mode, Failure<'static>> {
     match words.get_str("prehash") {
-        Some("sha256") => Mode::Sha256,
-        Some("sha512") => Mode::Sha512,
-        _ => Mode::Pure,
+        Some("sha256") => Ok(Mode::Sha256),
+        Some("sha512") => Ok(Mode::Sha512),
+        Some(_) => Err(Failure::Told("--prehash", "no such hash")),
+        None => Ok(Mode::Pure),
     }
 }
 
-fn context(rt: &HostRuntime, words: &ArgMatches<'_>) -> Result<ByteString, Failure<'static>> {
-    let Some(digits) = words.get_str("context-hex") else {
-        let context = text(words, "context");
-        return Ok(ByteString::from_slice(rt.alloc(), context.as_bytes())?);
+/// The context of `--context` or `--context-hex`, or none.
+pub fn context(rt: &HostRuntime, words: &ArgMatches<'_>) -> Result<ByteString, Failure<'static>> {
+    let context = match words.get_str("context-hex") {
+        Some(digits) => match digits_of(rt.alloc(), digits.as_bytes())? {
+            Some(bytes) => bytes,
+            None => return Err(Failure::ContextHex),
+        },
+        None => {
+            let context = words.get_str("context").unwrap_or("");
+            ByteString::from_slice(rt.alloc(), context.as_bytes())?
+        }
     };
-    let mut bytes = ByteString::new(rt.alloc());
-    if hex_field(rt.alloc(), digits.as_bytes(), &mut bytes)? {
-        Ok(bytes)
-    } else {
-        Err(Failure::ContextHex)
+    if context.len() > MAX_CONTEXT {
+        return Err(Failure::Context);
     }
+    Ok(context)
 }
 
-/// The file and how it is signed.
-pub fn message<'a>(rt: &HostRuntime, words: &ArgMatches<'a>) -> Result<Message, Failure<'a>> {
-    let context = context(rt, words)?;
-    let bytes = files::read(rt, text(words, "file"))?;
+/// The file, and how it is signed with a context.
+pub fn message<'a>(
+    rt: &HostRuntime,
+    words: &ArgMatches<'a>,
+    context: ByteString,
+) -> Result<Message, Failure<'a>> {
     Ok(Message {
-        mode: mode(words),
+        mode: mode(words)?,
         context,
-        bytes,
+        bytes: files::read(rt, required(words, "file")?)?,
     })
 }
 
@@ -80,17 +122,16 @@ pub fn key_of_kind<'a>(rt: &HostRuntime, kind: Kind, path: &'a str) -> Result<Ke
 
 /// The verifying key of `--key`.
 pub fn verifying_key<'a>(rt: &HostRuntime, words: &ArgMatches<'a>) -> Result<Key, Failure<'a>> {
-    key_of_kind(rt, Kind::Verifying, text(words, "key"))
+    key_of_kind(rt, Kind::Verifying, required(words, "key")?)
 }
 
 /// The signing key of `--key`, whose root is that of its own seeds.
 pub fn signing_key<'a>(rt: &HostRuntime, words: &ArgMatches<'a>) -> Result<Key, Failure<'a>> {
-    let path = text(words, "key");
-    let key = key_of_kind(rt, Kind::Signing, path)?;
-    match has_own_root(rt.alloc(), &key) {
-        Ok(true) => Ok(key),
-        Ok(false) => Err(Failure::Root(path)),
-        Err(error) => Err(Failure::Refused(path, error)),
+    let path = required(words, "key")?;
+    let file = files::read(rt, path)?;
+    match read_signing_key(rt.alloc(), file.as_slice()) {
+        Ok(key) => Ok(key),
+        Err(error) => Err(Failure::Key(path, error)),
     }
 }
 
@@ -100,7 +141,7 @@ pub fn signature<'a>(
     words: &ArgMatches<'a>,
     set: Set,
 ) -> Result<ByteString, Failure<'a>> {
-    let path = text(words, "signature");
+    let path = required(words, "signature")?;
     let file = files::read(rt, path)?;
     let signature = read_signature(rt.alloc(), set, file)?;
     if signature.len() == signature_len(set) {

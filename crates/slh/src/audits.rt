@@ -1,22 +1,22 @@
 //! `slh audit` and `slh check`.
-use crate::arguments::{check_inputs, message, signature, signing_key, tell, text};
+use crate::arguments::{check_inputs, context, message, required, signature, signing_key, tell};
 use crate::failure::Failure;
-use crate::outcome::Outcome;
 use clap::ArgMatches;
-use slh_files::evidence_of;
+use slh_files::{Outcome, evidence_of};
 use slh_run::{ByteString, Error, Evidence, Verdict, push_evidence};
 
 /// Tells whether the holder of a key made a signature that the key accepts.
 pub fn audit<'a>(rt: &HostRuntime, words: &ArgMatches<'a>) -> Result<Outcome, Failure<'a>> {
     check_inputs(words)?;
+    let context = context(rt, words)?;
     let key = signing_key(rt, words)?;
     let signature = signature(rt, words, key.set)?;
-    let message = message(rt, words)?;
+    let message = message(rt, words, context)?;
     match slh_files::audit(rt.alloc(), key, message, signature) {
         Ok(Verdict::Genuine) => tell(rt, Outcome::Genuine),
         Ok(Verdict::Foreign(evidence)) => tell_foreign(rt, evidence),
         Err(Error::Invalid) => tell(rt, Outcome::Invalid),
-        Err(error) => Err(Failure::Refused(text(words, "file"), error)),
+        Err(error) => Err(Failure::Refused(required(words, "file")?, error)),
     }
 }
 
@@ -35,15 +35,16 @@ fn tell_foreign(rt: &HostRuntime, evidence: Evidence) -> Result<Outcome, Failure
 /// Tells whether evidence shows against a signature.
 pub fn check<'a>(rt: &HostRuntime, words: &ArgMatches<'a>) -> Result<Outcome, Failure<'a>> {
     check_inputs(words)?;
-    let Some(evidence) = evidence_of(rt.alloc(), text(words, "evidence").as_bytes())? else {
+    let Some(evidence) = evidence_of(rt.alloc(), required(words, "evidence")?.as_bytes())? else {
         return Err(Failure::Evidence);
     };
+    let context = context(rt, words)?;
     let key = signing_key(rt, words)?;
     let signature = signature(rt, words, key.set)?;
-    let message = message(rt, words)?;
+    let message = message(rt, words, context)?;
     match slh_files::check(rt.alloc(), key, message, signature, evidence) {
         Ok(true) => tell(rt, Outcome::Shown),
         Ok(false) => tell(rt, Outcome::NotShown),
-        Err(error) => Err(Failure::Refused(text(words, "file"), error)),
+        Err(error) => Err(Failure::Refused(required(words, "file")?, error)),
     }
 }

@@ -1,12 +1,15 @@
 //! `slh batch`: one signature for many files, and a receipt for each.
-use crate::arguments::{Randomness, check_inputs, signing_key, tell, text, verifying_key};
+use crate::arguments::{
+    Randomness, check_inputs, check_output, required, signing_key, tell, verifying_key,
+};
 use crate::failure::Failure;
-use crate::files;
-use crate::outcome::Outcome;
+use crate::files::{self, FileId};
 use clap::ArgMatches;
 use slh_batch::{Batch, BatchError, ReceiptError, Sealed, accept};
 use slh_dsa::ParameterSet;
+use slh_files::Outcome;
 use slh_line::{OnSet, signing_key as signing_key_of, verifying_key as verifying_key_of};
+use std::alloc::AllocError;
 
 // The files of a batch that is to be signed.
 #[derive(Drop)]
@@ -58,6 +61,40 @@ fn batch_of<'a>(rt: &HostRuntime, paths: &[&'a str]) -> Result<Batch, Failure<'a
     Ok(batch)
 }
 
+// Which files stand at these paths, in order.
+fn ids_of(rt: &HostRuntime, paths: &[&str]) -> Result<Vec<FileId>, AllocError> {
+    let mut ids = Vec::new(rt.alloc());
+    for path in paths {
+        if let Some(id) = FileId::of(rt, *path) {
+            ids.push(id)?;
+        }
+    }
+    ids.sort()?;
+    Ok(ids)
+}
+
+// A receipt goes beside its file, so each file has a name, and none is another one's receipt.
+fn check_names<'a>(
+    rt: &HostRuntime,
+    words: &ArgMatches<'a>,
+    paths: &[&'a str],
+) -> Result<(), Failure<'a>> {
+    let ids = ids_of(rt, paths)?;
+    for path in paths {
+        if *path == files::STANDARD {
+            return Err(Failure::Told(*path, "a file of a batch has a name, for its receipt"));
+        }
+        let output = format!(in rt.alloc(); "{path}.receipt")?;
+        check_output(rt, words, &["key"], output.as_str())?;
+        if let Some(id) = FileId::of(rt, output.as_str())
+            && ids.binary_search(&id).is_ok()
+        {
+            return Err(Failure::Told(*path, "its receipt would be written over a file"));
+        }
+    }
+    Ok(())
+}
+
 // Writes FILE.receipt for each file.
 fn write_receipts<'a, P: ParameterSet>(
     rt: &HostRuntime,
@@ -87,6 +124,7 @@ pub fn sign<'s, 'a>(
     let Some(paths) = words.get_strs("files") else {
         return Err(Failure::Command);
     };
+    check_names(rt, words, paths)?;
     let key = signing_key(rt, words)?;
     let randomness = Randomness::new(rt, words)?;
     let random = randomness.of_set(key.set);
@@ -126,7 +164,7 @@ impl<'s> OnSet for Accepting<'s> {
 pub fn verify<'a>(rt: &HostRuntime, words: &ArgMatches<'a>) -> Result<Outcome, Failure<'a>> {
     check_inputs(words)?;
     let key = verifying_key(rt, words)?;
-    let (path, file) = (text(words, "receipt"), text(words, "file"));
+    let (path, file) = (required(words, "receipt")?, required(words, "file")?);
     let receipt = files::read(rt, path)?;
     let message = files::read(rt, file)?;
     let accepted = key.set.run(Accepting {

@@ -1,16 +1,15 @@
 //! `slh chain`: keys that sign keys.
 use crate::arguments::{
-    Randomness, check_inputs, key_of_kind, message, signature, signing_key, tell, text,
-    verifying_key,
+    Randomness, check_inputs, check_output, context, key_of_kind, message, required, signature,
+    signing_key, tell, verifying_key,
 };
 use crate::failure::Failure;
 use crate::files;
 use crate::keys::key_file;
-use crate::outcome::Outcome;
 use clap::ArgMatches;
 use slh_chain::{ChainError, LinkError, delegate as link_of, walk as end_of};
 use slh_dsa::ParameterSet;
-use slh_files::{Key, Kind, digits_of};
+use slh_files::{Key, Kind, Outcome, digits_of};
 use slh_line::{OnSet, signing_key as signing_key_of, verifying_key as verifying_key_of};
 use slh_run::ByteString;
 use std::alloc::Global;
@@ -57,19 +56,30 @@ impl<'k, 'a> OnSet for Delegation<'k, 'a> {
     }
 }
 
-// The bytes of a chain, which may be written in hexadecimal: no link begins with a digit.
+// The bytes of a chain, which may be written in hexadecimal: a link ends with a signature, which is
+// never all digits and blanks, but by chance.
 fn chain<'a>(rt: &HostRuntime, path: &'a str) -> Result<ByteString, Failure<'a>> {
     let file = files::read(rt, path)?;
-    match digits_of(rt.alloc(), file.as_slice())? {
-        Some(bytes) => Ok(bytes),
-        None => Ok(file),
+    let links = match digits_of(rt.alloc(), file.as_slice())? {
+        Some(bytes) => bytes,
+        None => file,
+    };
+    if links.is_empty() {
+        return Err(Failure::Told(path, "an empty file, not a chain"));
     }
+    Ok(links)
 }
 
 /// Lets another key act: writes the chain, if there is one, and the link behind it.
 pub fn delegate<'a>(rt: &HostRuntime, words: &ArgMatches<'a>) -> Result<Outcome, Failure<'a>> {
+    check_inputs(words)?;
+    let output = required(words, "output")?;
+    check_output(rt, words, &["key", "subject"], output)?;
+    let Some(depth) = words.get_one::<u8>("depth") else {
+        return Err(Failure::Command);
+    };
     let key = signing_key(rt, words)?;
-    let path = text(words, "subject");
+    let path = required(words, "subject")?;
     let subject = key_of_kind(rt, Kind::Verifying, path)?;
     if subject.set != key.set {
         return Err(Failure::Told(path, "a key of another set than the one that delegates"));
@@ -83,13 +93,13 @@ pub fn delegate<'a>(rt: &HostRuntime, words: &ArgMatches<'a>) -> Result<Outcome,
     let link = key.set.run(Delegation {
         alloc: rt.alloc(),
         key: key.bytes.as_slice(),
-        name: text(words, "name").as_bytes(),
-        depth: words.get_one::<u8>("depth").unwrap_or(0),
+        name: required(words, "name")?.as_bytes(),
+        depth,
         subject: subject.bytes.as_slice(),
         random,
     })?;
     links.push_slice(&link)?;
-    files::put(rt, text(words, "output"), links.as_slice())?;
+    files::put(rt, output, links.as_slice())?;
     Ok(Outcome::Done)
 }
 
@@ -136,7 +146,7 @@ impl<'s> OnSet for Walking<'s> {
 // The key at the end of a chain.
 fn last_key<'a>(rt: &HostRuntime, words: &ArgMatches<'a>) -> Result<Key, Failure<'a>> {
     let root = verifying_key(rt, words)?;
-    let path = text(words, "chain");
+    let path = required(words, "chain")?;
     let chain = chain(rt, path)?;
     let end = root.set.run(Walking {
         alloc: rt.alloc(),
@@ -164,13 +174,11 @@ fn last_key<'a>(rt: &HostRuntime, words: &ArgMatches<'a>) -> Result<Key, Failure
 /// Writes the key at the end of a chain.
 pub fn walk<'a>(rt: &HostRuntime, words: &ArgMatches<'a>) -> Result<Outcome, Failure<'a>> {
     check_inputs(words)?;
+    let output = words.get_str("output").unwrap_or(files::STANDARD);
+    check_output(rt, words, &["key", "chain"], output)?;
     let key = last_key(rt, words)?;
-    let file = key_file(rt, Kind::Verifying, &key, text(words, "chain"))?;
-    files::put(
-        rt,
-        words.get_str("output").unwrap_or(files::STANDARD),
-        file.as_slice(),
-    )?;
+    let file = key_file(rt, Kind::Verifying, &key, required(words, "chain")?)?;
+    files::put(rt, output, file.as_slice())?;
     Ok(Outcome::Done)
 }
 
@@ -178,6 +186,7 @@ pub fn walk<'a>(rt: &HostRuntime, words: &ArgMatches<'a>) -> Result<Outcome, Fai
 /// good, none is, and which link that is goes to standard error.
 pub fn verify<'a>(rt: &HostRuntime, words: &ArgMatches<'a>) -> Result<Outcome, Failure<'a>> {
     check_inputs(words)?;
+    let context = context(rt, words)?;
     let key = match last_key(rt, words) {
         Ok(key) => key,
         Err(Failure::BadLink(path, text, i)) => {
@@ -188,10 +197,10 @@ pub fn verify<'a>(rt: &HostRuntime, words: &ArgMatches<'a>) -> Result<Outcome, F
         Err(failure) => return Err(failure),
     };
     let signature = signature(rt, words, key.set)?;
-    let message = message(rt, words)?;
+    let message = message(rt, words, context)?;
     match slh_files::verify(rt.alloc(), key, message, signature) {
         Ok(true) => tell(rt, Outcome::Accepted),
         Ok(false) => tell(rt, Outcome::Invalid),
-        Err(error) => Err(Failure::Refused(text(words, "file"), error)),
+        Err(error) => Err(Failure::Refused(required(words, "file")?, error)),
     }
 }

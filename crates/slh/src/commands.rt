@@ -3,10 +3,10 @@ use crate::audits::{audit, check};
 use crate::failure::Failure;
 use crate::inspect::inspect;
 use crate::keys::{keygen, public};
-use crate::outcome::Outcome;
 use crate::signatures::{sign, verify};
 use crate::{batches, chains, manifests, rings};
 use clap::ArgMatches;
+use slh_files::Outcome;
 
 /// Does what the words ask for.
 pub fn outcome_of<'a>(rt: &HostRuntime, matches: &ArgMatches<'a>) -> Result<Outcome, Failure<'a>> {

@@ -4,6 +4,12 @@ use slh_run::{Error, Set};
 use std::alloc::AllocError;
 use std::{fmt, io};
 
+const CONTEXT: &str = "the context has more than 255 bytes";
+
+const FAULT: &str = "the machine computed wrongly, and no signature is written";
+
+const ROOT: &str = "the key's root is not that of its seeds";
+
 /// Why a command failed. A file is named as on the command line.
 #[derive(Drop)]
 pub enum Failure<'a> {
@@ -19,12 +25,12 @@ pub enum Failure<'a> {
     NewFile(&'a str, &'static str, io::Error),
     /// A file is no such key.
     Key(&'a str, KeyFileError),
-    /// The root of a signing key isn't that of its seeds.
-    Root(&'a str),
     /// A file is no signature of this set.
     Signature(&'a str, Set),
     /// A file is neither a key nor a signature.
     Unknown(&'a str),
+    /// The context is too long.
+    Context,
     /// The context isn't hexadecimal.
     ContextHex,
     /// The words of evidence are none.
@@ -37,6 +43,10 @@ pub enum Failure<'a> {
     Path(&'a str),
     /// What is wrong with a file.
     Told(&'a str, &'static str),
+    /// What is wrong with a file below a folder.
+    Entry(&'a str, String, &'static str),
+    /// A file below a folder can't be read.
+    EntryFile(&'a str, String, io::Error),
     /// What is wrong with a part of a file, counted from 0.
     ToldAt(&'a str, &'static str, u32),
     /// The signature that was made isn't the key's own.
@@ -67,7 +77,6 @@ impl fmt::Display for Failure<'_> {
                 let text = key_text(*error);
                 write!(f, "{path}: {text}")
             }
-            Failure::Root(path) => { write!(f, "{path}: the key's root is not that of its seeds") }
             Failure::Signature(path, set) => {
                 let name = set.name();
                 let len = signature_len(*set);
@@ -77,6 +86,7 @@ impl fmt::Display for Failure<'_> {
                 )
             }
             Failure::Unknown(path) => write!(f, "{path}: neither a key nor a signature"),
+            Failure::Context => f.write_str(CONTEXT),
             Failure::ContextHex => f.write_str("--context-hex: not hexadecimal"),
             Failure::Evidence => f.write_str("--evidence: not what an audit prints"),
             Failure::Refused(path, error) => {
@@ -86,13 +96,10 @@ impl fmt::Display for Failure<'_> {
             Failure::BadLink(path, text, i) => write!(f, "{path}: link {i}: {text}"),
             Failure::Path(text) => write!(f, "{text}: not up to 8 numbers with slashes, or ."),
             Failure::Told(path, text) => write!(f, "{path}: {text}"),
+            Failure::Entry(folder, name, text) => write!(f, "{folder}/{name}: {text}"),
+            Failure::EntryFile(folder, name, error) => write!(f, "{folder}/{name}: {error}"),
             Failure::ToldAt(path, text, number) => write!(f, "{path}: {text} {number}"),
-            Failure::Fault(path) => {
-                write!(
-                    f,
-                    "{path}: the machine computed wrongly, and no signature is written"
-                )
-            }
+            Failure::Fault(path) => write!(f, "{path}: {FAULT}"),
             Failure::Random(error) => write!(f, "no random bytes: {error}"),
             Failure::Output(error) => write!(f, "standard output: {error}"),
             Failure::Memory => f.write_str("out of memory"),
@@ -113,6 +120,7 @@ fn key_text(error: KeyFileError) -> &'static str {
         KeyFileError::Hex => "the key is not hexadecimal",
         KeyFileError::Algorithm => "a key of another algorithm than SLH-DSA over SHA-2",
         KeyFileError::Length => "not the bytes of a key of its set, and nothing else",
+        KeyFileError::Root => ROOT,
         KeyFileError::Memory => "out of memory",
     }
 }
@@ -120,10 +128,10 @@ fn key_text(error: KeyFileError) -> &'static str {
 fn job_text(error: Error) -> &'static str {
     match error {
         Error::Length => "a key or a signature has a wrong length",
-        Error::ContextTooLong => "the context has more than 255 bytes",
+        Error::ContextTooLong => CONTEXT,
         Error::RandomizerLength => "the randomizer has a wrong length",
         Error::MessageTooLong => "the file has more than 2^60 bytes",
-        Error::KeyMismatch => "the key's root is not that of its seeds",
+        Error::KeyMismatch => ROOT,
         Error::Invalid => "the signature is invalid",
         Error::Memory => "out of memory",
     }

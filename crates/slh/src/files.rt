@@ -1,50 +1,14 @@
 //! Files: each is read once, whole, and a regular one is written whole or not at all.
-ghost use Rattle.std.specs.Prelude.{◌≡◌, IfOk, IfSome};
-
 use crate::failure::Failure;
+use slh_files::gather;
 use slh_run::ByteString;
-use std::alloc::Global;
 use std::fs::{self, OpenFile, OpenOptions, Permissions};
-use std::io::{self, Error, ErrorKind, Read, Write};
-use std::os::unix::fs::OpenOptionsExt;
+use std::io::{self, ErrorKind, Write};
+use std::os::unix::fs::{MetadataExt, OpenOptionsExt};
 use std::random::RandomSource;
 
 /// The name of standard input and output.
 pub const STANDARD: &str = "-";
-
-/// The bytes that are read.
-#[derive(Drop)]
-struct Gathered {
-    bytes: ByteString,
-}
-
-impl Write for Gathered {
-    ghost use Rattle.std.specs.Prelude.{Some};
-
-    ghost contents = { λ g. Some g.bytes };
-
-    fn write(&mut self, piece: &[u8]) -> io::Result<usize> {
-        match self.bytes.push_slice(piece) {
-            Ok(()) => Ok(piece.len()),
-            Err(_) => Err(Error::from(ErrorKind::OutOfMemory)),
-        }
-    }
-
-    fn flush(&mut self) -> io::Result<()> {
-        Ok(())
-    }
-}
-
-// All bytes of a reader.
-fn gather<R: Read>(alloc: Global, reader: &mut R) -> io::Result<ByteString>
-    ensures { IfOk result (λ bytes. IfSome (R.remaining reader.old) (λ all. bytes ≡ all)) }
-{
-    let mut gathered = Gathered {
-        bytes: ByteString::new(alloc),
-    };
-    io::copy(reader, &mut gathered)?;
-    Ok(gathered.bytes)
-}
 
 /// The bytes of a file, or of standard input where the path is `-`.
 pub fn read<'a>(rt: &HostRuntime, path: &'a str) -> Result<ByteString, Failure<'a>> {
@@ -63,6 +27,37 @@ pub fn read<'a>(rt: &HostRuntime, path: &'a str) -> Result<ByteString, Failure<'
 pub fn read_file(rt: &HostRuntime, path: &str) -> io::Result<ByteString> {
     let mut file = fs::open(rt, path)?;
     gather(rt.alloc(), &mut file)
+}
+
+/// Which regular file it is, whatever its path.
+#[derive(Clone, Copy, PartialEq, Eq, PartialOrd, Ord)]
+pub struct FileId {
+    device: u64,
+    number: u64,
+}
+
+impl FileId {
+    /// The regular file that a path leads to, by links or not. There is none for `-`.
+    pub fn of(rt: &HostRuntime, path: &str) -> Option<FileId> {
+        if path == STANDARD {
+            return None;
+        }
+        match fs::metadata(rt, path) {
+            Ok(found) if found.is_file() => Some(FileId {
+                device: found.dev(),
+                number: found.ino(),
+            }),
+            _ => None,
+        }
+    }
+}
+
+/// Whether two paths lead to one regular file.
+pub fn are_one(rt: &HostRuntime, path: &str, other: &str) -> bool {
+    match (FileId::of(rt, path), FileId::of(rt, other)) {
+        (Some(one), Some(two)) => one == two,
+        _ => false,
+    }
 }
 
 /// Writes a file that isn't there yet, of a mode. What was begun is removed where that fails.

@@ -1,18 +1,18 @@
 //! `slh inspect`.
-use crate::arguments::text;
+use crate::arguments::required;
 use crate::failure::Failure;
 use crate::files;
-use crate::outcome::Outcome;
 use clap::ArgMatches;
 use line_serve::push_hex;
 use slh_files::{
-    Key, KeyFileError, Kind, digits_of, has_own_root, read_key, set_of_signature, verifying_key,
+    Key, KeyFileError, Kind, Outcome, digits_of, has_own_root, read_key, set_of_signature,
+    verifying_key,
 };
 use slh_run::{ByteString, Set};
 
 /// Tells what a key or a signature is. Of a signing key nothing secret is told.
 pub fn inspect<'a>(rt: &HostRuntime, words: &ArgMatches<'a>) -> Result<Outcome, Failure<'a>> {
-    let path = text(words, "file");
+    let path = required(words, "file")?;
     let file = files::read(rt, path)?;
     let told = match read_key(rt.alloc(), Kind::Signing, file.as_slice()) {
         Ok(key) => signing_text(rt, path, &key)?,
@@ -21,7 +21,7 @@ pub fn inspect<'a>(rt: &HostRuntime, words: &ArgMatches<'a>) -> Result<Outcome, 
             Kind::Verifying,
             file.as_slice(),
         ) {
-            Ok(key) => key_text(rt, "verifying key", &key)?,
+            Ok(key) => verifying_text(rt, "verifying key", &key)?,
             Err(error) => return Err(Failure::Key(path, error)),
         },
         Err(KeyFileError::NoKey) => signature_text(rt, path, &file)?,
@@ -33,7 +33,7 @@ pub fn inspect<'a>(rt: &HostRuntime, words: &ArgMatches<'a>) -> Result<Outcome, 
 
 // The text for a signing key: that of its verifying key, and whether its root is its own.
 fn signing_text<'a>(rt: &HostRuntime, path: &'a str, key: &Key) -> Result<ByteString, Failure<'a>> {
-    let mut told = key_text(rt, "signing key", &verifying_key(rt.alloc(), key)?)?;
+    let mut told = verifying_text(rt, "signing key", &verifying_key(rt.alloc(), key)?)?;
     match has_own_root(rt.alloc(), key) {
         Ok(true) => told.push_slice(b"root: that of its seeds\n")?,
         Ok(false) => told.push_slice(b"root: not that of its seeds\n")?,
@@ -42,7 +42,7 @@ fn signing_text<'a>(rt: &HostRuntime, path: &'a str, key: &Key) -> Result<ByteSt
     Ok(told)
 }
 
-fn key_text(rt: &HostRuntime, what: &str, key: &Key) -> Result<ByteString, Failure<'static>> {
+fn verifying_text(rt: &HostRuntime, what: &str, key: &Key) -> Result<ByteString, Failure<'static>> {
     let mut told = set_text(rt, what, key.set)?;
     told.push_slice(b"verifying key: ")?;
     push_hex(&mut told, key.bytes.as_slice())?;

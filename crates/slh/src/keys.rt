@@ -1,10 +1,9 @@
 //! `slh keygen` and `slh public`.
-use crate::arguments::{random, set_of, signing_key, text};
+use crate::arguments::{check_output, random, required, set_of, signing_key};
 use crate::failure::Failure;
 use crate::files;
-use crate::outcome::Outcome;
 use clap::ArgMatches;
-use slh_files::{Key, Kind, encode_key, made_key, verifying_key};
+use slh_files::{Key, Kind, Outcome, encode_key, made_key, verifying_key};
 use slh_run::ByteString;
 use std::fs;
 
@@ -28,7 +27,7 @@ pub fn key_file<'a>(
 
 /// Makes a key of random bytes: NAME.key and NAME.pub. Where one can't be made neither is left.
 pub fn keygen<'a>(rt: &HostRuntime, words: &ArgMatches<'a>) -> Result<Outcome, Failure<'a>> {
-    let name = text(words, "name");
+    let name = required(words, "name")?;
     let set = set_of(words)?;
     let key = match made_key(rt.alloc(), set, &random::<96>(rt)?) {
         Ok(key) => key,
@@ -55,10 +54,11 @@ pub fn write_pair<'a>(rt: &HostRuntime, name: &'a str, key: &Key) -> Result<Outc
 
 /// Writes the verifying key of a signing key.
 pub fn public<'a>(rt: &HostRuntime, words: &ArgMatches<'a>) -> Result<Outcome, Failure<'a>> {
-    let key = signing_key(rt, words)?;
-    let path = text(words, "key");
-    let public = key_file(rt, Kind::Verifying, &verifying_key(rt.alloc(), &key)?, path)?;
+    let path = required(words, "key")?;
     let output = words.get_str("output").unwrap_or(files::STANDARD);
+    check_output(rt, words, &["key"], output)?;
+    let key = signing_key(rt, words)?;
+    let public = key_file(rt, Kind::Verifying, &verifying_key(rt.alloc(), &key)?, path)?;
     files::put(rt, output, public.as_slice())?;
     Ok(Outcome::Done)
 }

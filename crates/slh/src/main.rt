@@ -14,7 +14,6 @@ mod group_words;
 mod inspect;
 mod keys;
 mod manifests;
-mod outcome;
 mod rings;
 mod signatures;
 mod words;

@@ -1,14 +1,19 @@
 //! `slh manifest`: one signature for the files of a folder.
-use crate::arguments::{Randomness, check_inputs, signing_key, tell, text, verifying_key};
+use crate::arguments::{
+    Randomness, check_inputs, check_output, required, signing_key, tell, verifying_key,
+};
 use crate::failure::Failure;
 use crate::files;
 use crate::folder::{Folder, names_below};
-use crate::outcome::Outcome;
 use clap::ArgMatches;
 use slh_dsa::ParameterSet;
+use slh_files::Outcome;
 use slh_line::{OnSet, signing_key as signing_key_of, verifying_key as verifying_key_of};
 use slh_manifest::{BuildError, Builder, CheckError, check as check_over};
-use std::alloc::Global;
+use std::alloc::{AllocError, Global};
+use std::{fs, io, str};
+
+const UNREADABLE: &str = "it can't be read";
 
 // The entries that are to be signed.
 #[derive(Drop)]
@@ -40,34 +45,77 @@ impl<'s> OnSet for Sealing<'s> {
     }
 }
 
-fn build_failure<'a>(path: &'a str, error: BuildError) -> Failure<'a> {
+fn build_text(error: BuildError) -> &'static str {
     match error {
-        BuildError::Name => Failure::Told(path, "a file's name has more than 255 bytes"),
-        BuildError::Full => Failure::Told(path, "more than 4096 files"),
-        BuildError::Fault => Failure::Told(path, "a file can't be read"),
-        BuildError::Missing => Failure::Told(path, "a file is gone"),
-        BuildError::TooLarge => Failure::Told(path, "a file has more than 2^32 bytes"),
-        BuildError::Empty => Failure::Told(path, "no files"),
-        BuildError::Randomizer => Failure::Told(path, "a wrong randomizer"),
-        BuildError::Memory => Failure::Memory,
+        BuildError::Name => "its name has more than 255 bytes",
+        BuildError::Full => "more than 4096 files",
+        BuildError::Fault => UNREADABLE,
+        BuildError::Missing => "it is gone",
+        BuildError::TooLarge => "it has more than 2^32 bytes",
+        BuildError::Empty => "no files",
+        BuildError::Randomizer => "a wrong randomizer",
+        BuildError::Memory => "out of memory",
     }
 }
 
-/// Signs the regular files below a folder.
-pub fn seal<'a>(rt: &HostRuntime, words: &ArgMatches<'a>) -> Result<Outcome, Failure<'a>> {
-    let path = text(words, "folder");
-    let key = signing_key(rt, words)?;
+// The folder that the words name.
+fn folder_path<'a>(rt: &HostRuntime, words: &ArgMatches<'a>) -> Result<&'a str, Failure<'a>> {
+    let path = required(words, "folder")?;
+    match fs::metadata(rt, path) {
+        Ok(found) if found.is_dir() => Ok(path),
+        Ok(_) => Err(Failure::Told(path, "not a folder")),
+        Err(error) => Err(Failure::File(path, error)),
+    }
+}
+
+// The names of the files below a folder, none of which is the output.
+fn names_for<'a>(
+    rt: &HostRuntime,
+    path: &'a str,
+    output: &'a str,
+) -> Result<Vec<String>, Failure<'a>> {
     let names = match names_below(rt, path) {
         Ok(names) => names,
         Err(error) => return Err(Failure::File(path, error)),
     };
-    let mut folder = Folder::new(rt, path);
-    let mut entries = Builder::new(rt.alloc());
     for name in &names {
-        if let Err(error) = entries.add(name.as_bytes(), &mut folder) {
-            return Err(build_failure(path, error));
+        let below = format!(in rt.alloc(); "{path}/{name}")?;
+        if files::are_one(rt, below.as_str(), output) {
+            return Err(Failure::Told(output, "it is one of the files below the folder"));
         }
     }
+    Ok(names)
+}
+
+// The entries of the files of these names.
+fn entries_of<'a>(
+    rt: &HostRuntime,
+    path: &'a str,
+    names: &[String],
+) -> Result<Builder, Failure<'a>> {
+    let mut folder = Folder::new(rt, path);
+    let mut entries = Builder::new(rt.alloc());
+    for name in names {
+        if let Err(error) = entries.add(name.as_bytes(), &mut folder) {
+            let name = shown(rt.alloc(), name.as_bytes())?;
+            return Err(match (error, folder.fault.take()) {
+                (BuildError::Full, _) => Failure::Told(path, build_text(error)),
+                (BuildError::Fault, Some(fault)) => Failure::EntryFile(path, name, fault),
+                _ => Failure::Entry(path, name, build_text(error)),
+            });
+        }
+    }
+    Ok(entries)
+}
+
+/// Signs the regular files below a folder.
+pub fn seal<'a>(rt: &HostRuntime, words: &ArgMatches<'a>) -> Result<Outcome, Failure<'a>> {
+    let path = folder_path(rt, words)?;
+    let output = required(words, "output")?;
+    check_output(rt, words, &["key"], output)?;
+    let key = signing_key(rt, words)?;
+    let names = names_for(rt, path, output)?;
+    let entries = entries_of(rt, path, &names)?;
     let randomness = Randomness::new(rt, words)?;
     let random = randomness.of_set(key.set);
     let manifest = key.set.run(Sealing {
@@ -78,10 +126,10 @@ pub fn seal<'a>(rt: &HostRuntime, words: &ArgMatches<'a>) -> Result<Outcome, Fai
     });
     match manifest {
         Ok(manifest) => {
-            files::put(rt, text(words, "output"), &manifest)?;
+            files::put(rt, output, &manifest)?;
             Ok(Outcome::Done)
         }
-        Err(error) => Err(build_failure(path, error)),
+        Err(error) => Err(Failure::Told(path, build_text(error))),
     }
 }
 
@@ -96,20 +144,21 @@ struct Checking<'s> {
 impl<'s> OnSet for Checking<'s> {
     ghost use Rattle.std.specs.Prelude.{⊤};
 
-    type Out = Result<(), CheckError>;
+    type Out = (Result<(), CheckError>, Folder<'s>);
 
     ghost gives = { λ _ _ _ _. ⊤ };
 
-    fn on<P: ParameterSet>(self) -> Result<(), CheckError> {
+    fn on<P: ParameterSet>(self) -> (Result<(), CheckError>, Folder<'s>) {
         let Checking {
             key,
             manifest,
             mut folder,
         } = self;
-        match verifying_key_of::<P>(key) {
+        let checked = match verifying_key_of::<P>(key) {
             Ok(key) => check_over(&key, manifest, &mut folder),
             Err(_) => Err(CheckError::Form),
-        }
+        };
+        (checked, folder)
     }
 }
 
@@ -127,13 +176,14 @@ fn name_of(manifest: &[u8], entry: u32) -> Option<&[u8]> {
 /// Tells whether a folder has the files of a manifest.
 pub fn check<'a>(rt: &HostRuntime, words: &ArgMatches<'a>) -> Result<Outcome, Failure<'a>> {
     check_inputs(words)?;
+    let below = folder_path(rt, words)?;
     let key = verifying_key(rt, words)?;
-    let path = text(words, "manifest");
+    let path = required(words, "manifest")?;
     let manifest = files::read(rt, path)?;
-    let checked = key.set.run(Checking {
+    let (checked, folder) = key.set.run(Checking {
         key: key.bytes.as_slice(),
         manifest: manifest.as_slice(),
-        folder: Folder::new(rt, text(words, "folder")),
+        folder: Folder::new(rt, below),
     });
     match checked {
         Ok(()) => tell(rt, Outcome::Accepted),
@@ -145,20 +195,47 @@ pub fn check<'a>(rt: &HostRuntime, words: &ArgMatches<'a>) -> Result<Outcome, Fa
             tell_name(rt, Outcome::Differs, name_of(manifest.as_slice(), i))
         }
         Err(CheckError::Form) => Err(Failure::Told(path, "not a manifest of the key's set")),
-        Err(CheckError::Fault) => {
-            Err(Failure::Told(text(words, "folder"), "a file can't be read"))
-        }
+        Err(CheckError::Fault) => Err(fault_failure(rt.alloc(), below, folder)?),
     }
 }
 
-// Prints the word of a verdict and a name, of which what isn't graphic ASCII is shown as `?`.
+// Why a file that a manifest names couldn't be read.
+fn fault_failure<'a>(
+    alloc: Global,
+    path: &'a str,
+    folder: Folder<'_>,
+) -> Result<Failure<'a>, AllocError> {
+    let name = shown(alloc, folder.name())?;
+    Ok(match folder.fault {
+        Some(fault) => Failure::EntryFile(path, name, fault),
+        None => Failure::Entry(path, name, UNREADABLE),
+    })
+}
+
+// Prints the word of a verdict and a name.
 fn tell_name(
     rt: &HostRuntime,
     outcome: Outcome,
     name: Option<&[u8]>,
 ) -> Result<Outcome, Failure<'static>> {
-    let mut shown = String::new(rt.alloc());
-    for byte in name.unwrap_or(&[]) {
+    let name = shown(rt.alloc(), name.unwrap_or(&[]))?;
+    let word = outcome.word();
+    match println!(rt; "{word} {name}") {
+        Ok(()) => Ok(outcome),
+        Err(error) => Err(Failure::Output(error)),
+    }
+}
+
+// A name as it is printed: UTF-8 without control characters as it stands; of any other name what
+// isn't graphic ASCII is shown as `?`.
+fn shown(alloc: Global, name: &[u8]) -> Result<String, AllocError> {
+    if let Ok(text) = str::from_utf8(name)
+        && !text.chars().any(|c| c.is_control())
+    {
+        return text.to_owned(alloc);
+    }
+    let mut shown = String::new(alloc);
+    for byte in name {
         let c = if byte.is_ascii_graphic() || *byte == b' ' {
             char::from(*byte)
         } else {
@@ -166,9 +243,5 @@ fn tell_name(
         };
         shown.push(c)?;
     }
-    let word = outcome.word();
-    match println!(rt; "{word} {shown}") {
-        Ok(()) => Ok(outcome),
-        Err(error) => Err(Failure::Output(error)),
-    }
+    Ok(shown)
 }

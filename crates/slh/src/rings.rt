@@ -1,13 +1,12 @@
 //! `slh ring`: the keys that one master secret gives.
-use crate::arguments::{random, set_of, text};
+use crate::arguments::{check_inputs, check_output, random, required, set_of};
 use crate::failure::Failure;
 use crate::files;
 use crate::keys::{SECRET, write_pair};
-use crate::outcome::Outcome;
 use clap::ArgMatches;
 use line_serve::{decimal_value, push_hex_line, push_number};
 use slh_dsa::ParameterSet;
-use slh_files::{Key, digits_of};
+use slh_files::{Key, Outcome, digits_of};
 use slh_line::OnSet;
 use slh_ring::{Path, RestoreError, Ring, RingError, derive};
 use slh_run::{ByteString, Set};
@@ -52,7 +51,7 @@ fn push_path(text: &mut ByteString, path: &Path) -> Result<(), AllocError> {
 
 // The master of a file, which has it in hexadecimal.
 fn master<'a>(rt: &HostRuntime, words: &ArgMatches<'a>) -> Result<ByteString, Failure<'a>> {
-    let path = text(words, "master");
+    let path = required(words, "master")?;
     let file = files::read(rt, path)?;
     match digits_of(rt.alloc(), file.as_slice())? {
         Some(bytes) if !bytes.is_empty() && bytes.len() <= MAX_MASTER => Ok(bytes),
@@ -62,7 +61,10 @@ fn master<'a>(rt: &HostRuntime, words: &ArgMatches<'a>) -> Result<ByteString, Fa
 
 /// Makes a master secret of 32 random bytes.
 pub fn make_master<'a>(rt: &HostRuntime, words: &ArgMatches<'a>) -> Result<Outcome, Failure<'a>> {
-    let path = text(words, "file");
+    let path = required(words, "file")?;
+    if path == files::STANDARD {
+        return Err(Failure::Told(path, "a master goes to a file of mode 600"));
+    }
     let mut line = ByteString::new(rt.alloc());
     push_hex_line(&mut line, b"", &random::<32>(rt)?)?;
     match files::write_new(rt, path, SECRET, line.as_slice()) {
@@ -97,8 +99,9 @@ impl<'s> OnSet for Derivation<'s> {
 
 /// Makes the key at a path again, and writes it as `keygen` does.
 pub fn key<'a>(rt: &HostRuntime, words: &ArgMatches<'a>) -> Result<Outcome, Failure<'a>> {
-    let Some(path) = path_of(text(words, "path")) else {
-        return Err(Failure::Path(text(words, "path")));
+    let text = required(words, "path")?;
+    let Some(path) = path_of(text) else {
+        return Err(Failure::Path(text));
     };
     let set = set_of(words)?;
     let master = master(rt, words)?;
@@ -107,7 +110,7 @@ pub fn key<'a>(rt: &HostRuntime, words: &ArgMatches<'a>) -> Result<Outcome, Fail
         master: master.as_slice(),
         path: &path,
     })?;
-    write_pair(rt, text(words, "name"), &Key { set, bytes })
+    write_pair(rt, required(words, "name")?, &Key { set, bytes })
 }
 
 // The record of the ring of some paths.
@@ -155,6 +158,8 @@ pub fn record<'a>(rt: &HostRuntime, words: &ArgMatches<'a>) -> Result<Outcome, F
     let Some(paths) = words.get_strs("paths") else {
         return Err(Failure::Command);
     };
+    let output = words.get_str("output").unwrap_or(files::STANDARD);
+    check_output(rt, words, &["master"], output)?;
     let set = set_of(words)?;
     let master = master(rt, words)?;
     let record = set.run(Recording {
@@ -164,11 +169,7 @@ pub fn record<'a>(rt: &HostRuntime, words: &ArgMatches<'a>) -> Result<Outcome, F
     })?;
     let mut line = ByteString::from_slice(rt.alloc(), set.name().as_bytes())?;
     push_hex_line(&mut line, b" ", &record)?;
-    files::put(
-        rt,
-        words.get_str("output").unwrap_or(files::STANDARD),
-        line.as_slice(),
-    )?;
+    files::put(rt, output, line.as_slice())?;
     Ok(Outcome::Done)
 }
 
@@ -226,7 +227,8 @@ fn record_in(alloc: Global, file: &[u8]) -> Result<Option<(Set, ByteString)>, Al
 
 /// Writes the paths of a record, where their keys under the master are those that were recorded.
 pub fn restore<'a>(rt: &HostRuntime, words: &ArgMatches<'a>) -> Result<Outcome, Failure<'a>> {
-    let path = text(words, "file");
+    check_inputs(words)?;
+    let path = required(words, "file")?;
     let master = master(rt, words)?;
     let file = files::read(rt, path)?;
     let Some((set, record)) = record_in(rt.alloc(), file.as_slice())? else {

@@ -1,21 +1,22 @@
 //! `slh sign` and `slh verify`.
 use crate::arguments::{
-    Randomness, check_inputs, message, signature, signing_key, tell, text, verifying_key,
+    Randomness, check_inputs, check_output, context, message, required, signature, signing_key,
+    tell, verifying_key,
 };
 use crate::failure::Failure;
 use crate::files;
-use crate::outcome::Outcome;
 use clap::ArgMatches;
-use slh_files::{Key, Message, SignError};
+use slh_files::{Key, Message, Outcome, SignError};
 use slh_run::ByteString;
 
 /// Signs a file. The signature goes to `--output`, else to FILE.sig, or from standard input to
 /// standard output.
 pub fn sign<'a>(rt: &HostRuntime, words: &ArgMatches<'a>) -> Result<Outcome, Failure<'a>> {
     check_inputs(words)?;
-    let path = text(words, "file");
+    let path = required(words, "file")?;
+    let context = context(rt, words)?;
     let key = signing_key(rt, words)?;
-    let message = message(rt, words)?;
+    let message = message(rt, words, context)?;
     let random = Randomness::new(rt, words)?;
     match made(rt, key, message, random.bytes(), words.get_flag("audit")) {
         Ok(signature) => put(rt, words, path, signature.as_slice()),
@@ -48,11 +49,13 @@ fn put<'a>(
     signature: &[u8],
 ) -> Result<Outcome, Failure<'a>> {
     if let Some(output) = words.get_str("output") {
+        check_output(rt, words, &["key", "file"], output)?;
         files::put(rt, output, signature)?;
     } else if path == files::STANDARD {
         files::put(rt, path, signature)?;
     } else {
         let output = format!(in rt.alloc(); "{path}.sig")?;
+        check_output(rt, words, &["key", "file"], output.as_str())?;
         if let Err(error) = files::write(rt, output.as_str(), signature) {
             return Err(Failure::NewFile(path, ".sig", error));
         }
@@ -63,12 +66,13 @@ fn put<'a>(
 /// Tells whether a signature is one of a file.
 pub fn verify<'a>(rt: &HostRuntime, words: &ArgMatches<'a>) -> Result<Outcome, Failure<'a>> {
     check_inputs(words)?;
+    let context = context(rt, words)?;
     let key = verifying_key(rt, words)?;
     let signature = signature(rt, words, key.set)?;
-    let message = message(rt, words)?;
+    let message = message(rt, words, context)?;
     match slh_files::verify(rt.alloc(), key, message, signature) {
         Ok(true) => tell(rt, Outcome::Accepted),
         Ok(false) => tell(rt, Outcome::Invalid),
-        Err(error) => Err(Failure::Refused(text(words, "file"), error)),
+        Err(error) => Err(Failure::Refused(required(words, "file")?, error)),
     }
 }

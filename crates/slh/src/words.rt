@@ -1,5 +1,6 @@
 //! The words that the command knows.
 use crate::group_words::{batch, chain, manifest, ring};
+use clap::builder::ValueParser;
 use clap::{Arg, ArgAction, Command};
 use std::alloc::{AllocError, Global};
 
@@ -191,6 +192,7 @@ pub fn flag<'a>(alloc: Global, name: &'a str, help: &'a str) -> Arg<'a> {
 pub fn operand<'a>(alloc: Global, name: &'a str, value: &'a str, help: &'a str) -> Arg<'a> {
     Arg::new(alloc, name)
         .value_name(value)
+        .value_parser(ValueParser::NonEmptyString)
         .required(true)
         .help(help)
 }

@@ -131,7 +131,7 @@ has_all Sha2_256f = inr (inr (inr (inr (inr (inl refl)))))
 pub found_in_all : (p : Set → Bool) (x : Set) → p x ≡ true → ((y : Set) → p y ≡ true → y ≡ x) → find p all_sets ≡ Some x
 found_in_all p x passes only = found_alone p x passes only all_sets (has_all x)
 
-abbrev are_bytes : List ℕ → Bool
+abbrev pub are_bytes : List ℕ → Bool
 are_bytes = list_all (λ b. nat_lt b 256)
 
 bytes_append : (front : List ℕ) → are_bytes front ≡ true → (back : List ℕ) → IsBytes back → (i : ℕ) → slice_index (front ++ back) i < 256

@@ -4,3 +4,5 @@ pub mod Rows
 pub mod Symbols
 pub mod HeadTable
 pub mod RoundTrip
+pub mod Genuine
+pub mod ReadBack

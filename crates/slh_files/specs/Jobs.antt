@@ -1,18 +1,29 @@
 -- What the answer to a job says.
-use Rattle.std.specs.Prelude.{ℕ, ◌*◌, Bool, true, false, List, [], take, drop, Option, option_map}
-use Rattle.std.specs.Prelude.{Result, Ok, Err, ⊤}
+use Rattle.std.specs.Prelude.{◌≡◌, ℕ, ◌*◌, Bool, true, false, List, [], take, drop, Option, option_map}
+use Rattle.std.specs.Prelude.{Result, Ok, Err, ⊤, if◌then◌else◌}
+use Rattle.std.specs.Str.{bytes_eq}
 use Rattle.slh_audit.specs.declared.evidence.Verdict.{Verdict}
+use Rattle.slh_audit.specs.declared.evidence.Verdict.TheVariants.{Genuine}
+use Rattle.slh_core.specs.Bytes.{part}
+use Rattle.slh_core.specs.Parameters.{Scheme}
+use Rattle.slh_dsa.specs.declared.frame.Mode.{Mode}
 use Rattle.slh_line.specs.Sets.{scheme_for}
 use Rattle.slh_line.specs.declared.set.Set.{Set}
+use Rattle.slh_run.specs.Judgement.{judgement}
 use Rattle.slh_run.specs.declared.job.Answer.{Answer}
 use Rattle.slh_run.specs.declared.job.Answer.TheVariants.{Signature, Shown}
 use Rattle.slh_run.specs.declared.job.Answer.TheVariants.{Verdict as VerdictAnswer}
 use Rattle.slh_run.specs.declared.job.Error.{Error}
-use Rattle.slh_run.specs.declared.job.Error.TheVariants.{Invalid}
+use Rattle.slh_run.specs.declared.job.Error.TheVariants.{Invalid, KeyMismatch}
 use Rattle.slh_run.specs.declared.job.Job.{Job}
 use Rattle.slh_run.specs.declared.job.Job.TheVariants.{Audit, Sign}
-use Rattle.slh_trees.specs.Keys.{signing_key_bytes}
+use Rattle.slh_trees.specs.Keys.{signing_key_bytes, top_root}
 use Rattle.slh_files.specs.Heads.{seed_len}
+use Rattle.slh_files.specs.declared.error.KeyFileError.{KeyFileError}
+use Rattle.slh_files.specs.declared.error.KeyFileError.TheVariants.{Root}
+use Rattle.slh_files.specs.declared.jobs.SignError.{SignError}
+use Rattle.slh_files.specs.declared.jobs.SignError.TheVariants.{Fault, Refused}
+use Rattle.slh_files.specs.declared.key.Key.{Key}
 
 -- the signing key of three seeds, which are the first bytes
 abbrev pub made_of : Set → List ℕ → List ℕ
@@ -20,6 +31,11 @@ made_of set bytes =
     let n = seed_len set in
     signing_key_bytes (scheme_for set)
     (take n bytes) (take n (drop n bytes)) (take n (drop (2 * n) bytes))
+
+-- a signing key, where it is the one that its own seeds make
+abbrev pub own_key : Result Key KeyFileError → Result Key KeyFileError
+own_key (Err e) = Err e
+own_key (Ok key) = if bytes_eq key.bytes (made_of key.set key.bytes) then Ok key else Err Root
 
 -- the first bytes, as many as a randomizer is made from
 abbrev pub randomizer_of : Set → Option (List ℕ) → Option (List ℕ)
@@ -49,6 +65,31 @@ abbrev pub signature_by : Result Answer Error → Result (List ℕ) Error
 signature_by (Ok (Signature bytes)) = Ok bytes
 signature_by (Ok _) = Err Invalid
 signature_by (Err e) = Err e
+
+-- a signature is handed out by the answer to its audit
+abbrev pub genuine_by : List ℕ → Result Answer Error → Result (List ℕ) SignError
+genuine_by signature (Ok (VerdictAnswer Genuine)) = Ok signature
+genuine_by signature (Ok _) = Err Fault
+genuine_by signature (Err Invalid) = Err Fault
+genuine_by signature (Err e) = Err (Refused e)
+
+-- the key's root is that of its seeds
+abbrev pub has_true_root : Scheme → List ℕ → Bool
+has_true_root Z key = bytes_eq (part Z.n key 3) (top_root Z (part Z.n key 2) (part Z.n key 0))
+
+-- what signing with an audit answers
+abbrev pub audited_by : Scheme → List ℕ → Result (List ℕ) Error → Result (List ℕ) SignError
+audited_by Z key (Err e) = Err (Refused e)
+audited_by Z key (Ok signature) =
+    if has_true_root Z key then Ok signature else Err (Refused KeyMismatch)
+
+-- the audit of what was signed finds what the key makes, or that the key's root is another
+abbrev pub MadeIsGenuine : Scheme → Type 0
+MadeIsGenuine Z =
+    (mode : Mode) (key context message signature : List ℕ) (randomizer : Option (List ℕ))
+    → judgement Z (Sign mode key context message randomizer) ≡ Ok (Signature signature)
+    → judgement Z (Audit mode key context message signature)
+    ≡ (if has_true_root Z key then Ok (VerdictAnswer Genuine) else Err KeyMismatch)
 
 abbrev pub accepted_by : Result Answer Error → Result Bool Error
 accepted_by (Ok _) = Ok true

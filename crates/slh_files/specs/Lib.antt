@@ -7,3 +7,4 @@ pub mod Writing
 pub mod Signatures
 pub mod EvidenceWords
 pub mod Jobs
+pub mod Outcomes

@@ -26,6 +26,8 @@ pub enum KeyFileError {
     Algorithm,
     /// It isn't the bytes of a key of the set that is named, and nothing else.
     Length,
+    /// The root of a signing key isn't that of its seeds.
+    Root,
     /// There was no memory.
     Memory,
 }

@@ -1,6 +1,6 @@
 //! Jobs with keys.
-ghost use Rattle.std.specs.Prelude.{◌≡◌, ◌⊎◌, ◌↔◌, ◌≢◌, ◌≤◌, ◌*◌, ◌/◌, length, drop, take, Ok, Err};
-ghost use Rattle.std.specs.Prelude.{IfOk, IfErr, option_map};
+ghost use Rattle.std.specs.Prelude.{◌≡◌, ◌⊎◌, ◌↔◌, ◌≢◌, ◌≤◌, ◌*◌, ◌/◌, length, drop, Ok, Err};
+ghost use Rattle.std.specs.Prelude.{IfOk, IfErr};
 ghost use Rattle.std.specs.Option.{option_copied};
 ghost use Rattle.std.specs.Str.{bytes_eq};
 ghost use Rattle.slh_audit.specs.Verdicts.{message_audit};
@@ -13,12 +13,13 @@ ghost use Rattle.slh_run.specs.Judgement.{judgement};
 ghost use Rattle.slh_run.specs.declared.job.Error.TheVariants.{Length, Memory};
 ghost use Rattle.slh_run.specs.declared.job.Job.TheVariants.{Sign, Verify, Audit, Check};
 ghost use Rattle.slh_files.specs.Heads.{seed_len as spec_seed_len};
-ghost use Rattle.slh_files.specs.declared.jobs.SignError.TheVariants.{Refused};
+ghost use Rattle.slh_files.specs.declared.jobs.SignError.TheVariants.{Fault, Refused};
 ghost use Rattle.slh_files.specs.Jobs.{IsAudit, IsSign, audit_of, signature_under};
-ghost use Rattle.slh_files.specs.Jobs.{accepted_by, made_of, shown_by, signature_by};
+ghost use Rattle.slh_files.specs.Jobs.{accepted_by, audited_by, genuine_by, made_of, shown_by, signature_by};
 ghost use Rattle.slh_files.specs.Jobs.{randomizer_of, verdict_by};
 
 use crate::key::Key;
+use crate::laws::made_is_genuine;
 use crate::sizes::seed_len;
 use slh_run::{Answer, ByteString, Error, Evidence, Job, Mode, Set, Verdict, run};
 use std::alloc::{AllocError, Global};
@@ -187,17 +188,27 @@ pub fn sign_audited(
     ensures audited { let signed = mode_frame message.mode message.context message.bytes in
         IfOk result (λ sig. message_audit (scheme_for key.set) key.bytes signed sig ≡ Ok Genuine) }
     ensures judged { let opt_rand = randomizer_of key.set (option_copied random.entry) in
+        let Z = scheme_for key.set in
         let job = Sign message.mode key.bytes message.context message.bytes opt_rand in
-        IfErr (signature_by (judgement (scheme_for key.set) job))
-        (λ e. (result ≡ Err (Refused e)) ⊎ (result ≡ Err (Refused Memory))) }
+        (result ≡ audited_by Z key.bytes (signature_by (judgement Z job)))
+        ⊎ (result ≡ Err (Refused Memory)) }
+    ensures no_fault { IfErr result (λ e. e ≢ Fault) }
 {
     let set = key.set;
+    made_is_genuine(set);
     let job = match sign_job(alloc, key, message, random) {
         Ok(job) => job,
         Err(_) => return Err(SignError::Refused(Error::Memory)),
     };
     let signature = made_signature(alloc, set, &job)?;
-    let job = audit_job(job, signature);
+    audited(alloc, set, audit_job(job, signature))
+}
+
+// The signature that an audit is of, where it is genuine.
+fn audited(alloc: Global, set: Set, job: Job) -> Result<ByteString, SignError>
+    requires { IsAudit job }
+    ensures { result ≡ genuine_by (signature_under job) (judgement (scheme_for set) job) }
+{
     match run(alloc, set, &job) {
         Ok(Answer::Verdict(Verdict::Genuine)) => Ok(audited_signature(job)),
         Ok(_) | Err(Error::Invalid) => Err(SignError::Fault),

@@ -1,15 +1,89 @@
-//! What is written is read, as a contract.
-ghost use Rattle.std.specs.Prelude.{◌≡◌, ℕ, List, Ok, length};
-ghost use Rattle.base64.specs.GeneralPurpose.{IsBytes};
-ghost use Rattle.slh_files.specs.Heads.{key_len};
-ghost use Rattle.slh_files.specs.Reading.{key_in, key_with};
+//! What is written is read, and nothing else; what is signed is genuine; and what tells kinds and
+//! refusals apart: as contracts.
+ghost use Rattle.std.specs.Prelude.{◌≡◌, ◌↔◌, ℕ, List, Ok, IsTrue, length};
+ghost use Rattle.base64.specs.Engines.{standard};
+ghost use Rattle.base64.specs.GeneralPurpose.{IsBytes, encode_of};
+ghost use Rattle.slh_files.specs.Blocks.{block_in};
+ghost use Rattle.slh_files.specs.Heads.{der_of, key_len};
+ghost use Rattle.slh_files.specs.Jobs.{MadeIsGenuine};
+ghost use Rattle.slh_files.specs.Lines.{squeezed};
+ghost use Rattle.slh_files.specs.Reading.{key_in, key_with, pem_key};
 ghost use Rattle.slh_files.specs.Writing.{key_file};
-ghost use Rattle.slh_files.specs.declared.key.Kind.{Kind};
-ghost use Rattle.slh_line.specs.declared.set.Set.{Set};
+ghost use Rattle.slh_files.specs.declared.key.Key.{Key as AnyKey};
+ghost use Rattle.slh_files.specs.declared.key.Kind.{Kind as KeyKind};
+ghost use Rattle.slh_line.specs.Sets.{scheme_for};
+ghost use Rattle.slh_line.specs.declared.set.Set.{Set as KeySet};
+
+use crate::error::KeyFileError;
+use crate::jobs::SignError;
+use crate::key::Kind;
+use slh_dsa::ParameterSet;
+use slh_line::OnSet;
+use slh_run::Set;
 
 /// The text of each key's file is read as this key and no other, for each kind and set.
 pub fn written_is_read()
-    ensures { (kind : Kind) (set : Set) (key : List ℕ) → IsBytes key
+    ensures { (kind : KeyKind) (set : KeySet) (key : List ℕ) → IsBytes key
         → length key ≡ key_len kind set
         → key_in kind (key_file kind set key) ≡ Ok (key_with set key) }
 {}
+
+/// A block that is read as a key has the symbols that are written for this key, and no others: but
+/// for blanks and ends of lines, each key has one form.
+pub fn read_is_written()
+    ensures { (kind : KeyKind) (text found body : List ℕ) (key : AnyKey) → IsBytes text
+        → block_in text ≡ Ok (found, body) → pem_key kind text ≡ Ok key
+        → squeezed body ≡ encode_of standard (der_of kind key.set key.bytes) }
+{}
+
+fn made_is_genuine_in<P: ParameterSet>()
+    ensures { MadeIsGenuine P.scheme }
+{}
+
+#[derive(Drop)]
+struct MadeGenuine;
+
+impl OnSet for MadeGenuine {
+    type Out = ();
+
+    ghost gives = { λ _ Z _ _. MadeIsGenuine Z };
+
+    fn on<P: ParameterSet>(self) {
+        made_is_genuine_in::<P>();
+    }
+}
+
+/// The audit of what a job of a signature gave, with the same key, mode, context and message, says
+/// `Genuine`, or `KeyMismatch` where the key's root isn't that of its seeds: for each of them.
+pub fn made_is_genuine(set: Set)
+    ensures { MadeIsGenuine (scheme_for set) }
+{
+    set.run(MadeGenuine);
+}
+
+/// A clone of a refusal is that refusal, and `==` holds exactly where both are the same.
+pub fn clone_and_equality_of_key_file_errors(
+    a: &KeyFileError,
+    b: &KeyFileError,
+) -> (KeyFileError, bool)
+    ensures clone { result.0 ≡ a.now }
+    ensures equal { IsTrue result.1 ↔ (a.now ≡ b.now) }
+{
+    (a.clone().unwrap(), a == b)
+}
+
+/// A clone of a kind is that kind, and `==` holds exactly where both are the same.
+pub fn clone_and_equality_of_kinds(a: &Kind, b: &Kind) -> (Kind, bool)
+    ensures clone { result.0 ≡ a.now }
+    ensures equal { IsTrue result.1 ↔ (a.now ≡ b.now) }
+{
+    (a.clone().unwrap(), a == b)
+}
+
+/// A clone of a refusal to sign is that refusal, and `==` holds exactly where both are the same.
+pub fn clone_and_equality_of_sign_errors(a: &SignError, b: &SignError) -> (SignError, bool)
+    ensures clone { result.0 ≡ a.now }
+    ensures equal { IsTrue result.1 ↔ (a.now ≡ b.now) }
+{
+    (a.clone().unwrap(), a == b)
+}

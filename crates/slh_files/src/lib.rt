@@ -8,13 +8,29 @@
 //! A key's file, and what a key file and a file say of a signature:
 //!
 //! ```
-//! use slh_files::{Error, KeyFileError, Kind, Message, encode_key, made_key, read_key, verify};
-//! use slh_run::{ByteString, Mode, Set};
+//! use slh_files::{Key, KeyFileError, Kind, Message, encode_key, made_key, verify};
+//! use slh_run::{ByteString, Error, Mode, Set};
 //! use std::alloc::Global;
 //!
 //! fn key_file(alloc: Global, random: &[u8; 96]) -> Result<ByteString, KeyFileError> {
-//!     let key = made_key(alloc, Set::Sha2_128f, random)?;
+//!     let Ok(key) = made_key(alloc, Set::Sha2_128f, random) else {
+//!         return Err(KeyFileError::Memory);
+//!     };
 //!     encode_key(alloc, Kind::Signing, &key)
+//! }
+//!
+//! fn accepted(
+//!     alloc: Global,
+//!     key: Key,
+//!     file: ByteString,
+//!     signature: ByteString,
+//! ) -> Result<bool, Error> {
+//!     let message = Message {
+//!         mode: Mode::Pure,
+//!         context: ByteString::new(alloc),
+//!         bytes: file,
+//!     };
+//!     verify(alloc, key, message, signature)
 //! }
 //! ```
 //!
@@ -29,7 +45,9 @@ mod jobs;
 mod key;
 pub mod laws;
 mod lines;
+mod outcome;
 mod places;
+mod readers;
 mod reading;
 mod signatures;
 mod sizes;
@@ -42,7 +60,9 @@ pub use jobs::{
     verifying_key,
 };
 pub use key::{Key, Kind};
-pub use reading::read_key;
+pub use outcome::Outcome;
+pub use readers::gather;
+pub use reading::{read_key, read_signing_key};
 pub use signatures::{digits_of, read_signature, set_of_signature};
 pub use sizes::{seed_len, signature_len};
 pub use writing::encode_key;

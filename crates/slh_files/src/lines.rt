@@ -1,6 +1,7 @@
 //! A key as a line `SET KEY`, as the programs of lines have it.
-ghost use Rattle.std.specs.Prelude.{◌≡◌, ◌⊎◌, IfOk, Err};
+ghost use Rattle.std.specs.Prelude.{◌≡◌, ◌⊎◌, IfOk, Err, length};
 ghost use Rattle.line_serve.specs.Fields.{contents};
+ghost use Rattle.slh_files.specs.Heads.{key_len};
 ghost use Rattle.slh_files.specs.Lines.{is_blank as spec_is_blank, line_key};
 ghost use Rattle.slh_files.specs.Lines.{sized_key as spec_sized_key};
 ghost use Rattle.slh_files.specs.Lines.{words_of};
@@ -33,7 +34,8 @@ pub(crate) fn words(alloc: Global, text: &[u8]) -> Result<Vec<&[u8]>, AllocError
 
 /// The key of a kind and a set that has these bytes.
 pub(crate) fn sized_key(kind: Kind, set: Set, bytes: ByteString) -> Result<Key, KeyFileError>
-    ensures { result ≡ spec_sized_key kind set bytes }
+    ensures value { result ≡ spec_sized_key kind set bytes }
+    ensures length { IfOk result (λ key. length key.bytes ≡ key_len kind key.set) }
 {
     if bytes.len() == kind.key_len(set) {
         Ok(Key { set, bytes })
@@ -46,7 +48,8 @@ pub(crate) fn sized_key(kind: Kind, set: Set, bytes: ByteString) -> Result<Key, 
 
 /// The key of a text of two words.
 pub(crate) fn read_line(alloc: Global, kind: Kind, text: &[u8]) -> Result<Key, KeyFileError>
-    ensures { (result ≡ line_key kind text.now) ⊎ (result ≡ Err Memory) }
+    ensures value { (result ≡ line_key kind text.now) ⊎ (result ≡ Err Memory) }
+    ensures length { IfOk result (λ key. length key.bytes ≡ key_len kind key.set) }
 {
     let words = words(alloc, text)?;
     if words.is_empty() {

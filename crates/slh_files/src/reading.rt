@@ -2,16 +2,19 @@
 ghost use Rattle.std.specs.Prelude.{◌≡◌, ◌⊎◌, ◌≤◌, IfOk, IfSome, Err, length, not};
 ghost use Rattle.std.specs.List.{find};
 ghost use Rattle.slh_files.specs.Heads.{is_der, key_len};
+ghost use Rattle.slh_files.specs.Jobs.{own_key};
 ghost use Rattle.slh_line.specs.Sets.{all_sets};
 ghost use Rattle.slh_files.specs.Lines.{is_blank as spec_is_blank, squeezed};
 ghost use Rattle.slh_files.specs.Reading.{body_key, der_key, der_error as spec_der_error};
 ghost use Rattle.slh_files.specs.Reading.{key_in, label_error as spec_label_error};
 ghost use Rattle.slh_files.specs.Reading.{names_set as spec_names_set, pem_key};
 ghost use Rattle.slh_files.specs.declared.error.KeyFileError.TheVariants.{Memory};
+ghost use Rattle.slh_files.specs.declared.key.Kind.TheVariants.{Signing};
 
 use crate::blocks::{BEGIN, block_of};
 use crate::error::KeyFileError;
 use crate::heads::{algorithm, head};
+use crate::jobs::has_own_root;
 use crate::key::{Key, Kind};
 use crate::lines::{is_blank, read_line};
 use crate::places::place_of;
@@ -23,6 +26,7 @@ use std::alloc::{AllocError, Global};
 /// The key of a key file: of its one PEM block, or of a line `SET KEY`.
 pub fn read_key(alloc: Global, kind: Kind, text: &[u8]) -> Result<Key, KeyFileError>
     ensures exact { (result ≡ key_in kind text.now) ⊎ (result ≡ Err Memory) }
+    ensures length { IfOk result (λ key. length key.bytes ≡ key_len kind key.set) }
 {
     if place_of(text, BEGIN).is_some() {
         read_pem(alloc, kind, text)
@@ -31,8 +35,22 @@ pub fn read_key(alloc: Global, kind: Kind, text: &[u8]) -> Result<Key, KeyFileEr
     }
 }
 
+/// The signing key of a key file, which is used only where it is the one that its own seeds make.
+/// `Root`: its root is another.
+pub fn read_signing_key(alloc: Global, text: &[u8]) -> Result<Key, KeyFileError>
+    ensures exact { (result ≡ own_key (key_in Signing text.now)) ⊎ (result ≡ Err Memory) }
+{
+    let key = read_key(alloc, Kind::Signing, text)?;
+    match has_own_root(alloc, &key) {
+        Ok(true) => Ok(key),
+        Ok(false) => Err(KeyFileError::Root),
+        Err(_) => Err(KeyFileError::Memory),
+    }
+}
+
 fn read_pem(alloc: Global, kind: Kind, text: &[u8]) -> Result<Key, KeyFileError>
-    ensures { (result ≡ pem_key kind text.now) ⊎ (result ≡ Err Memory) }
+    ensures value { (result ≡ pem_key kind text.now) ⊎ (result ≡ Err Memory) }
+    ensures length { IfOk result (λ key. length key.bytes ≡ key_len kind key.set) }
 {
     let block = block_of(text)?;
     if block.label == kind.label() {
@@ -70,7 +88,8 @@ fn is_kept(byte: &u8) -> bool
 
 // The key of what stands between a block's lines.
 fn read_body(alloc: Global, kind: Kind, body: &[u8]) -> Result<Key, KeyFileError>
-    ensures { (result ≡ body_key kind body.now) ⊎ (result ≡ Err Memory) }
+    ensures value { (result ≡ body_key kind body.now) ⊎ (result ≡ Err Memory) }
+    ensures length { IfOk result (λ key. length key.bytes ≡ key_len kind key.set) }
 {
     let symbols = squeeze(alloc, body)?;
     match STANDARD.decode(alloc, &symbols) {
@@ -82,7 +101,8 @@ fn read_body(alloc: Global, kind: Kind, body: &[u8]) -> Result<Key, KeyFileError
 
 // The key whose DER these bytes are.
 fn read_der(alloc: Global, kind: Kind, der: &[u8]) -> Result<Key, KeyFileError>
-    ensures { (result ≡ der_key kind der.now) ⊎ (result ≡ Err Memory) }
+    ensures value { (result ≡ der_key kind der.now) ⊎ (result ≡ Err Memory) }
+    ensures length { IfOk result (λ key. length key.bytes ≡ key_len kind key.set) }
 {
     let Some(set) = set_of_der(kind, der) else {
         return Err(der_error(der));

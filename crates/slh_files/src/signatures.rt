@@ -1,9 +1,8 @@
 //! Signature files: the bytes, as OpenSSL writes them, or hexadecimal digits of them.
 ghost use Rattle.std.specs.Prelude.{◌≡◌, ◌==◌, IfOk};
 ghost use Rattle.std.specs.List.{find};
-ghost use Rattle.line_serve.specs.Fields.{hex_value};
 ghost use Rattle.slh_files.specs.Lines.{squeezed};
-ghost use Rattle.slh_files.specs.Signatures.{signature_in};
+ghost use Rattle.slh_files.specs.Signatures.{digits_value, signature_in};
 ghost use Rattle.slh_line.specs.Sets.{all_sets, scheme_for};
 ghost use Rattle.slh_trees.specs.Checking.{signature_size};
 
@@ -16,9 +15,12 @@ use std::alloc::{AllocError, Global};
 /// The bytes that a text's hexadecimal digits stand for. Blanks and ends of lines don't count.
 /// `None`: it has other bytes, or an odd number of digits.
 pub fn digits_of(alloc: Global, text: &[u8]) -> Result<Option<ByteString>, AllocError>
-    ensures { IfOk result (λ bytes. bytes ≡ hex_value (squeezed text.now)) }
+    ensures { IfOk result (λ bytes. bytes ≡ digits_value (squeezed text.now)) }
 {
     let digits = squeeze(alloc, text)?;
+    if digits.as_slice() == b"-".as_slice() {
+        return Ok(None);
+    }
     let mut bytes = ByteString::new(alloc);
     if hex_field(alloc, &digits, &mut bytes)? {
         Ok(Some(bytes))

@@ -1,6 +1,6 @@
 //! What becomes of a command.
 ghost use Rattle.std.specs.Prelude.{◌≡◌};
-ghost use Rattle.slh.specs.Outcomes.{status_of, word_of};
+ghost use Rattle.slh_files.specs.Outcomes.{status_of, word_of};
 
 /// What became of a command that wasn't refused.
 #[derive(Clone, Copy, Debug, PartialEq, Eq)]

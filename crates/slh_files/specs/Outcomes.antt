@@ -1,9 +1,9 @@
 -- The exit status and the word of each outcome.
 use Rattle.std.specs.Prelude.{ℕ, List, codes}
-use Rattle.slh.specs.declared.outcome.Outcome.{Outcome}
-use Rattle.slh.specs.declared.outcome.Outcome.TheVariants.{Done, Accepted, Invalid, Genuine}
-use Rattle.slh.specs.declared.outcome.Outcome.TheVariants.{Foreign, Shown, NotShown}
-use Rattle.slh.specs.declared.outcome.Outcome.TheVariants.{Missing, Differs}
+use Rattle.slh_files.specs.declared.outcome.Outcome.{Outcome}
+use Rattle.slh_files.specs.declared.outcome.Outcome.TheVariants.{Done, Accepted, Invalid, Genuine}
+use Rattle.slh_files.specs.declared.outcome.Outcome.TheVariants.{Foreign, Shown, NotShown}
+use Rattle.slh_files.specs.declared.outcome.Outcome.TheVariants.{Missing, Differs}
 
 -- 1 for a verdict that says no
 abbrev pub status_of : Outcome → ℕ
