@@ -2,8 +2,8 @@
 //!
 //! A port of the Rust crate `slh-dsa` 0.1.0. A key is made of three seeds of n bytes each, which
 //! have to be random and secret (the third is public); it signs a message with a context of up to
-//! 255 bytes, and what it signs its verifying key accepts with the same message and context. The
-//! test `example_of_the_page` of `slh_tests` runs this:
+//! 255 bytes, and what it signs its verifying key accepts with the same message and context. In
+//! `slh_tests`, `page_of_keys::example_of_the_page` runs this:
 //!
 //! ```
 //! use slh_dsa::{Error, Sha2_128f, Signature, SigningKey, VerifyingKey};
