@@ -7,6 +7,9 @@
 # built from: the checksum of the sources of the crate and of all below it, with their rows of
 # crates.txt, and the toolchain's line. No file's time counts.
 
+# shellcheck disable=SC2034
+programs='slh slh_cli slh_batch_cli slh_chain_cli slh_manifest_cli slh_ring_cli'
+
 # say TEXT: a message on standard error
 say() {
     echo "${0##*/}: $*" >&2
@@ -100,7 +103,7 @@ build() {
         of=$(sources_sum "$1") || exit 1
         # who waited may find it built
         is_built "$4" "$of" && exit 0
-        say "proving and building $1 for $cpu: minutes the first time"
+        say "proving and building $1 for $cpu, which takes long the first time (README.md)"
         cd "$top/crates/$1" || exit 1
         # without words the command for people ends with status 2
         if [ "$1" = slh ]; then
@@ -112,6 +115,8 @@ build() {
             say 'a source was edited meanwhile: call it once more'
             exit 1
         }
+        # without NAME.of it isn't built: so an interrupt leaves no program beside another one's
+        rm -f "$4.of"
         cp "out/$3" "$4.new" && mv "$4.new" "$4" && echo "$of $(toolchain)" >"$4.of"
     ) 9>"$top/out/lock"
 }

@@ -1,13 +1,20 @@
 # shellcheck shell=sh
-# What the recipes share: `slh`, the programs of lines, the commands of bin/, a folder to work in that is removed
-# in the end, and `expect`.
+# What the recipes share: `slh`, the programs of lines, the commands of bin/, a folder to work in that is
+# removed in the end, and what holds replies to what is wanted: `expect`, `refused`, `accepts_line`.
 set -eu
 examples=$(dirname "$(readlink -f "$0")")
-# absolute FILE: a name that holds in any folder
+# absolute FILE: a name that holds in any folder; without a slash it may be a command of the PATH
 absolute() {
     case $1 in
     /* | '') echo "$1" ;;
-    *) echo "$PWD/$1" ;;
+    */*) echo "$PWD/$1" ;;
+    *)
+        if [ -e "$1" ]; then
+            echo "$PWD/$1"
+        else
+            command -v "$1" || { echo "there is no $1" >&2; return 1; }
+        fi
+        ;;
     esac
 }
 SLH=$(absolute "${SLH:-$examples/../slh}")
@@ -44,14 +51,39 @@ slh() {
     "$SLH" "$@"
 }
 
-# hex_of FILE: the hexadecimal digits of its bytes
+# The hexadecimal digits of the bytes on standard input.
+hex() {
+    od -An -v -tx1 | tr -d ' \n'
+}
+
+# hex_of FILE: those of its bytes
 hex_of() {
-    od -An -v -tx1 <"$1" | tr -d ' \n'
+    hex <"$1"
 }
 
 # vk_of NAME.pub: the line `SET VK` of a verifying key
 vk_of() {
     slh inspect "$1" | awk '/^set: / { set = $2 } /^verifying key: / { print set, $3 }'
+}
+
+# accepts_line NAME.pub CONTEXT MESSAGE SIGNATURE: the plain `verify` of the program of lines accepts a
+# signature. Message and signature are in hexadecimal
+accepts_line() {
+    printf '%s %s %s %s\n' "$(vk_of "$1" | sed 's/ / verify /')" "$(printf %s "$2" | hex)" \
+        "$3" "$4" >line
+    expect 0 accepted "$SLH_PROGRAM" <line
+}
+
+# refused TEXT WORDS..: slh ends with status 2, prints nothing, and says this
+refused() {
+    wanted=$1
+    shift
+    status=0
+    slh "$@" >printed 2>message || status=$?
+    [ "$status" -eq 2 ] || fail "slh $*: status $status"
+    [ ! -s printed ] || fail "slh $*: printed $(cat printed)"
+    grep -qF -- "$wanted" message || fail "slh $*: $(cat message), and not $wanted"
+    cat message
 }
 
 # skip REASON: ends a recipe that this machine can't run
