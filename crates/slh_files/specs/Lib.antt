@@ -5,6 +5,5 @@ pub mod Lines
 pub mod Reading
 pub mod Writing
 pub mod Signatures
-pub mod EvidenceWords
 pub mod Jobs
 pub mod Outcomes

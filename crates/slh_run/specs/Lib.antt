@@ -1,6 +1,6 @@
 pub mod Judgement
 pub mod Errors
-pub mod EvidenceFields
+pub mod EvidenceWords
 pub mod Requests
 pub mod Reply
 pub mod Usage

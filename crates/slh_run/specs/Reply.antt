@@ -6,7 +6,7 @@ use Rattle.slh_audit.specs.declared.evidence.Verdict.{Verdict}
 use Rattle.slh_audit.specs.declared.evidence.Verdict.TheVariants.{Genuine, Foreign}
 use Rattle.slh_line.specs.Readings.{and_then}
 use Rattle.slh_line.specs.Replies.{Answers, reply_by}
-use Rattle.slh_run.specs.EvidenceFields.{evidence_text}
+use Rattle.slh_run.specs.EvidenceWords.{evidence_text}
 use Rattle.slh_run.specs.Judgement.{judgement}
 use Rattle.slh_run.specs.Requests.{job_at}
 use Rattle.slh_run.specs.declared.job.Answer.{Answer}

@@ -1,5 +1,5 @@
 -- What a job line asks for, by its fields (docs/LINES.md).
-use Rattle.std.specs.Prelude.{◌==◌, ℕ, List, length, Bool, true, Option, None, Some}
+use Rattle.std.specs.Prelude.{◌==◌, ℕ, List, length, drop, Bool, true, Option, None, Some}
 use Rattle.std.specs.Prelude.{Result, Ok, Err, codes, if◌then◌else◌}
 use Rattle.std.specs.Str.{bytes_eq}
 use Rattle.line_serve.specs.Fields.{field_at}
@@ -7,7 +7,7 @@ use Rattle.slh_dsa.specs.declared.frame.Mode.TheVariants.{Pure, Sha256, Sha512}
 use Rattle.slh_line.specs.Readings.{and_then, bytes_at, randomizer_at, some_or_fields}
 use Rattle.slh_line.specs.declared.line_error.LineError.{LineError}
 use Rattle.slh_line.specs.declared.line_error.LineError.TheVariants as line_error
-use Rattle.slh_run.specs.EvidenceFields.{evidence_at}
+use Rattle.slh_run.specs.EvidenceWords.{evidence_in}
 use Rattle.slh_run.specs.declared.job.Job.{Job}
 use Rattle.slh_run.specs.declared.job.Job.TheVariants as job
 use Rattle.slh_run.specs.declared.request.Command.{Command}
@@ -75,7 +75,7 @@ job_of (Audit mode) fields =
     and_then (bytes_at fields 5) (λ signature.
     Ok (job.Audit mode keyed.key keyed.context keyed.message signature)))
 job_of (Check mode) fields =
-    and_then (some_or_fields (evidence_at fields)) (λ evidence.
+    and_then (some_or_fields (evidence_in (drop 6 fields))) (λ evidence.
     and_then (keyed_message_of fields) (λ keyed.
     and_then (bytes_at fields 5) (λ signature.
     Ok (job.Check mode keyed.key keyed.context keyed.message signature evidence))))

@@ -3,89 +3,89 @@ ghost use Rattle.std.specs.Prelude.{◌≡◌, ◌++◌, length, OnOk};
 ghost use Rattle.line_serve.specs.Fields.{contents};
 ghost use Rattle.slh_audit.specs.declared.evidence.Evidence.TheVariants.{ForsNode, ChainStep};
 ghost use Rattle.slh_audit.specs.declared.evidence.Evidence.TheVariants.{Leaf, TreeNode, Early};
-ghost use Rattle.slh_run.specs.EvidenceFields.{evidence_at, evidence_text, spaced};
-ghost use Rattle.slh_run.specs.EvidenceFields.{one_number, two_numbers, three_numbers};
+ghost use Rattle.slh_run.specs.EvidenceWords.{evidence_in, evidence_text, spaced};
+ghost use Rattle.slh_run.specs.EvidenceWords.{one_number, two_numbers, three_numbers};
 
 use line_serve::{ByteString, field_at, number_at, push_number};
 use slh_audit::Evidence;
 use std::alloc::AllocError;
 
-fn read_fors_node(fields: &[&[u8]]) -> Option<Evidence>
-    ensures { result ≡ two_numbers (contents fields.now) (λ x y. ForsNode x y) }
+fn read_fors_node(words: &[&[u8]]) -> Option<Evidence>
+    ensures { result ≡ two_numbers (contents words.now) (λ x y. ForsNode x y) }
 {
-    if fields.len() != 9 {
+    if words.len() != 3 {
         return None;
     }
-    let tree = number_at(fields, 7)?;
-    let height = number_at(fields, 8)?;
+    let tree = number_at(words, 1)?;
+    let height = number_at(words, 2)?;
     Some(Evidence::ForsNode { tree, height })
 }
 
-fn read_tree_node(fields: &[&[u8]]) -> Option<Evidence>
-    ensures { result ≡ two_numbers (contents fields.now) (λ x y. TreeNode x y) }
+fn read_tree_node(words: &[&[u8]]) -> Option<Evidence>
+    ensures { result ≡ two_numbers (contents words.now) (λ x y. TreeNode x y) }
 {
-    if fields.len() != 9 {
+    if words.len() != 3 {
         return None;
     }
-    let layer = number_at(fields, 7)?;
-    let height = number_at(fields, 8)?;
+    let layer = number_at(words, 1)?;
+    let height = number_at(words, 2)?;
     Some(Evidence::TreeNode { layer, height })
 }
 
-fn read_early(fields: &[&[u8]]) -> Option<Evidence>
-    ensures { result ≡ two_numbers (contents fields.now) (λ x y. Early x y) }
+fn read_early(words: &[&[u8]]) -> Option<Evidence>
+    ensures { result ≡ two_numbers (contents words.now) (λ x y. Early x y) }
 {
-    if fields.len() != 9 {
+    if words.len() != 3 {
         return None;
     }
-    let layer = number_at(fields, 7)?;
-    let chain = number_at(fields, 8)?;
+    let layer = number_at(words, 1)?;
+    let chain = number_at(words, 2)?;
     Some(Evidence::Early { layer, chain })
 }
 
-fn read_chain_step(fields: &[&[u8]]) -> Option<Evidence>
-    ensures { result ≡ three_numbers (contents fields.now) (λ x y z. ChainStep x y z) }
+fn read_chain_step(words: &[&[u8]]) -> Option<Evidence>
+    ensures { result ≡ three_numbers (contents words.now) (λ x y z. ChainStep x y z) }
 {
-    if fields.len() != 10 {
+    if words.len() != 4 {
         return None;
     }
-    let layer = number_at(fields, 7)?;
-    let chain = number_at(fields, 8)?;
-    let step = number_at(fields, 9)?;
+    let layer = number_at(words, 1)?;
+    let chain = number_at(words, 2)?;
+    let step = number_at(words, 3)?;
     Some(Evidence::ChainStep { layer, chain, step })
 }
 
-fn read_leaf(fields: &[&[u8]]) -> Option<Evidence>
-    ensures { result ≡ one_number (contents fields.now) (λ x. Leaf x) }
+fn read_leaf(words: &[&[u8]]) -> Option<Evidence>
+    ensures { result ≡ one_number (contents words.now) (λ x. Leaf x) }
 {
-    if fields.len() != 8 {
+    if words.len() != 2 {
         return None;
     }
-    let layer = number_at(fields, 7)?;
+    let layer = number_at(words, 1)?;
     Some(Evidence::Leaf { layer })
 }
 
-/// The evidence of a line of these fields.
-pub(crate) fn read_evidence(fields: &[&[u8]]) -> Option<Evidence>
-    ensures { result ≡ evidence_at (contents fields.now) }
+/// The evidence of these words: a kind, and its numbers.
+pub fn read_evidence(words: &[&[u8]]) -> Option<Evidence>
+    ensures { result ≡ evidence_in (contents words.now) }
 {
-    let kind = field_at(fields, 6);
+    let kind = field_at(words, 0);
     if kind == b"fors-node".as_slice() {
-        read_fors_node(fields)
+        read_fors_node(words)
     } else if kind == b"fors-roots".as_slice() {
-        if fields.len() == 7 {
+        if words.len() == 1 {
             Some(Evidence::ForsRoots)
         } else {
             None
         }
     } else if kind == b"chain-step".as_slice() {
-        read_chain_step(fields)
+        read_chain_step(words)
     } else if kind == b"leaf".as_slice() {
-        read_leaf(fields)
+        read_leaf(words)
     } else if kind == b"tree-node".as_slice() {
-        read_tree_node(fields)
+        read_tree_node(words)
     } else if kind == b"early".as_slice() {
-        read_early(fields)
+        read_early(words)
     } else {
         None
     }

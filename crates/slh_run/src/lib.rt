@@ -35,7 +35,7 @@ mod program;
 mod reply;
 mod request;
 
-pub use evidence::push_evidence;
+pub use evidence::{push_evidence, read_evidence};
 pub use job::{Answer, Error, Job};
 pub use judge::run;
 pub use line_serve::{

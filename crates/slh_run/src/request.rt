@@ -1,7 +1,8 @@
 //! What a job line asks for.
-ghost use Rattle.std.specs.Prelude.{◌≡◌, ◌⊎◌, Err};
+ghost use Rattle.std.specs.Prelude.{◌≡◌, ◌⊎◌, Err, drop};
 ghost use Rattle.line_serve.specs.Fields.{contents};
 ghost use Rattle.slh_line.specs.declared.line_error.LineError.TheVariants.{Memory};
+ghost use Rattle.slh_run.specs.EvidenceWords.{evidence_in};
 ghost use Rattle.slh_run.specs.Requests.{command_named, job_at, job_of, keyed_message_of};
 ghost use Rattle.slh_run.specs.declared.request.Command.TheVariants.{Keygen, Sign, Verify, Audit};
 ghost use Rattle.slh_run.specs.declared.request.Command.TheVariants.{Check};
@@ -9,6 +10,7 @@ ghost use Rattle.slh_run.specs.declared.request.Command.TheVariants.{Check};
 use crate::evidence::read_evidence;
 use crate::job::Job;
 use line_serve::{ByteString, field_at};
+use slh_audit::Evidence;
 use slh_dsa::Mode;
 use slh_line::{LineError, bytes_at, randomizer_at};
 use std::alloc::Global;
@@ -134,10 +136,17 @@ fn read_audit(alloc: Global, mode: Mode, fields: &[&[u8]]) -> Result<Job, LineEr
     })
 }
 
+// The evidence behind the signature.
+fn evidence_behind(fields: &[&[u8]]) -> Option<Evidence>
+    ensures { result ≡ evidence_in (drop 6 (contents fields.now)) }
+{
+    read_evidence(fields.get(6..)?)
+}
+
 fn read_check(alloc: Global, mode: Mode, fields: &[&[u8]]) -> Result<Job, LineError>
     ensures { (result ≡ job_of (Check mode) (contents fields.now)) ⊎ (result ≡ Err Memory) }
 {
-    let Some(evidence) = read_evidence(fields) else {
+    let Some(evidence) = evidence_behind(fields) else {
         return Err(LineError::Fields);
     };
     let keyed = read_keyed_message(alloc, fields)?;

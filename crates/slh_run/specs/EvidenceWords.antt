@@ -1,6 +1,6 @@
--- Evidence in words, as audits print it (docs/LINES.md).
-use Rattle.std.specs.Prelude.{◌==◌, ℕ, List, length, Option, None, Some}
-use Rattle.std.specs.Prelude.{codes, if◌then◌else◌}
+-- How evidence stands in words, as on a line behind the signature (docs/LINES.md).
+use Rattle.std.specs.Prelude.{◌==◌, ℕ, List, ◌++◌, length, Option, None, Some}
+use Rattle.std.specs.Prelude.{codes, decimal, if◌then◌else◌}
 use Rattle.std.specs.Str.{bytes_eq}
 use Rattle.line_serve.specs.Decimals.{number_value}
 use Rattle.line_serve.specs.Fields.{field_at, for_some}
@@ -30,6 +30,13 @@ three_numbers words make =
     for_some (number_value (field_at words 3)) (λ z. Some (make x y z))))
     else None
 
+-- the evidence of some words
+--   fors-node TREE HEIGHT
+--   fors-roots
+--   chain-step LAYER CHAIN STEP
+--   leaf LAYER
+--   tree-node LAYER HEIGHT
+--   early LAYER CHAIN
 abbrev pub evidence_in : List (List ℕ) → Option Evidence
 evidence_in words =
     let kind = field_at words 0 in
@@ -41,3 +48,15 @@ evidence_in words =
     else if bytes_eq kind (codes "tree-node") then two_numbers words (λ j z. TreeNode j z)
     else if bytes_eq kind (codes "early") then two_numbers words (λ j c. Early j c)
     else None
+
+-- how it is printed: numbers without leading zeros
+abbrev pub spaced : ℕ → List ℕ
+spaced number = codes " " ++ decimal number
+
+abbrev pub evidence_text : Evidence → List ℕ
+evidence_text (ForsNode i z) = codes "fors-node" ++ spaced i ++ spaced z
+evidence_text ForsRoots = codes "fors-roots"
+evidence_text (ChainStep j c q) = codes "chain-step" ++ spaced j ++ spaced c ++ spaced q
+evidence_text (Leaf j) = codes "leaf" ++ spaced j
+evidence_text (TreeNode j z) = codes "tree-node" ++ spaced j ++ spaced z
+evidence_text (Early j c) = codes "early" ++ spaced j ++ spaced c
