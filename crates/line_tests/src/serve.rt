@@ -76,37 +76,39 @@ fn runs_to<S: Source>(
     serve_lines(alloc, &First, source, sink) == status && sink.bytes() == written
 }
 
-// A source of these bytes, and a sink, of which no call fails.
-fn ends_of(alloc: Global, input: Vec<u8>) -> (MemSource, MemSink) {
-    let source = MemSource::new(input, Vec::new(alloc));
-    (source, MemSink::new(alloc, Vec::new(alloc)))
-}
-
 // Whether `First` answers this input by this output.
-fn answers(alloc: Global, input: &[u8], output: &[u8]) -> Result<bool, AllocError> {
-    let (mut source, mut sink) = ends_of(alloc, input.to_vec(alloc)?);
-    Ok(runs_to(alloc, &mut source, &mut sink, 0, output))
+fn answers_all(alloc: Global, input: Vec<u8>, output: &[u8]) -> bool {
+    let mut source = MemSource::new(input, Vec::new(alloc));
+    let mut sink = MemSink::new(alloc, Vec::new(alloc));
+    runs_to(alloc, &mut source, &mut sink, 0, output)
 }
 
-fn answers_in_turn(alloc: Global) -> Result<bool, AllocError> {
-    Ok(
-        answers(alloc, b"", b"")?
-            && answers(alloc, b"\n\r\n \n", b"")?
-            && answers(alloc, b"a b\nc", b"a\nc\n")?
-            && answers(alloc, b" a \r\n\rb\r\r\n", b"a\n\rb\r\n")?
-            && answers(alloc, b"a\n\nb\n", b"a\nb\n")?,
-    )
+fn answers(alloc: Global, input: &[u8], output: &[u8]) -> bool {
+    match input.to_vec(alloc) {
+        Ok(input) => answers_all(alloc, input, output),
+        Err(_) => false,
+    }
 }
 
-fn status_of_nothing_written(alloc: Global) -> Result<u8, AllocError> {
-    let mut source = QuietSource::new(b"a\n".to_vec(alloc)?);
-    Ok(serve_lines(alloc, &First, &mut source, &mut NullSink))
+fn answers_in_turn(alloc: Global) -> bool {
+    answers(alloc, b"", b"")
+        && answers(alloc, b"\n\r\n \n", b"")
+        && answers(alloc, b"a b\nc", b"a\nc\n")
+        && answers(alloc, b" a \r\n\rb\r\r\n", b"a\n\rb\r\n")
+        && answers(alloc, b"a\n\nb\n", b"a\nb\n")
+}
+
+fn answers_into_nothing(alloc: Global) -> bool {
+    match b"a\n".to_vec(alloc) {
+        Ok(input) => serve_lines(alloc, &First, &mut QuietSource::new(input), &mut NullSink) == 0,
+        Err(_) => false,
+    }
 }
 
 #[test]
 fn lines_are_answered_in_turn(rt: HostRuntime) {
-    assert!(rt; answers_in_turn(rt.alloc()) == Ok(true));
-    assert!(rt; status_of_nothing_written(rt.alloc()) == Ok(0));
+    assert!(rt; answers_in_turn(rt.alloc()));
+    assert!(rt; answers_into_nothing(rt.alloc()));
 }
 
 // So many bytes `a`, and then these.
@@ -117,44 +119,42 @@ fn long_line(alloc: Global, length: usize, end: &[u8]) -> Result<Vec<u8>, AllocE
 }
 
 // Whether `First` answers a long line by this output.
-fn answers_long(
-    alloc: Global,
-    length: usize,
-    end: &[u8],
-    output: &[u8],
-) -> Result<bool, AllocError> {
-    let (mut source, mut sink) = ends_of(alloc, long_line(alloc, length, end)?);
-    Ok(runs_to(alloc, &mut source, &mut sink, 0, output))
-}
-
-// How many bytes `First` answers a long line by.
-fn length_of_answer(alloc: Global, length: usize, end: &[u8]) -> Result<Option<usize>, AllocError> {
-    let (mut source, mut sink) = ends_of(alloc, long_line(alloc, length, end)?);
-    match serve_lines(alloc, &First, &mut source, &mut sink) {
-        0 => Ok(Some(sink.bytes().len())),
-        _ => Ok(None),
+fn answers_long(alloc: Global, length: usize, end: &[u8], output: &[u8]) -> bool {
+    match long_line(alloc, length, end) {
+        Ok(input) => answers_all(alloc, input, output),
+        Err(_) => false,
     }
 }
 
-fn are_too_long(alloc: Global) -> Result<bool, AllocError> {
-    Ok(
-        answers_long(alloc, LIMIT + 1, b"\nb\n", b"error line\nb\n")?
-            && answers_long(alloc, LIMIT, b"\r\nb\n", b"error line\nb\n")?
-            && answers_long(alloc, LIMIT + 1, b"", b"error line\n")?,
-    )
+// Whether `First` answers this input by so many bytes.
+fn answers_by(alloc: Global, input: Vec<u8>, count: usize) -> bool {
+    let mut source = MemSource::new(input, Vec::new(alloc));
+    let mut sink = MemSink::new(alloc, Vec::new(alloc));
+    serve_lines(alloc, &First, &mut source, &mut sink) == 0 && sink.bytes().len() == count
 }
 
-fn are_not_too_long(alloc: Global) -> Result<bool, AllocError> {
-    Ok(
-        length_of_answer(alloc, LIMIT, b"\n")? == Some(LIMIT + 1)
-            && length_of_answer(alloc, LIMIT - 1, b"\r\n")? == Some(LIMIT),
-    )
+fn answers_long_by(alloc: Global, length: usize, end: &[u8], count: usize) -> bool {
+    match long_line(alloc, length, end) {
+        Ok(input) => answers_by(alloc, input, count),
+        Err(_) => false,
+    }
+}
+
+fn are_too_long(alloc: Global) -> bool {
+    answers_long(alloc, LIMIT + 1, b"\nb\n", b"error line\nb\n")
+        && answers_long(alloc, LIMIT, b"\r\nb\n", b"error line\nb\n")
+        && answers_long(alloc, LIMIT + 1, b"", b"error line\n")
+}
+
+fn are_not_too_long(alloc: Global) -> bool {
+    answers_long_by(alloc, LIMIT, b"\n", LIMIT + 1)
+        && answers_long_by(alloc, LIMIT - 1, b"\r\n", LIMIT)
 }
 
 #[test]
 fn a_line_is_too_long_past_the_limit(rt: HostRuntime) {
-    assert!(rt; are_too_long(rt.alloc()) == Ok(true));
-    assert!(rt; are_not_too_long(rt.alloc()) == Ok(true));
+    assert!(rt; are_too_long(rt.alloc()));
+    assert!(rt; are_not_too_long(rt.alloc()));
 }
 
 // A thousand lines of seven bytes are two pieces of at most 4096 bytes, and a third read finds the
@@ -176,77 +176,72 @@ fn source_failing(alloc: Global, fails: &[u64]) -> Result<MemSource, AllocError>
 // Whether a run ends with this status, and has written so much of the whole.
 fn ends_at(
     alloc: Global,
-    (source, sink): (&mut MemSource, &mut MemSink),
+    source: MemSource,
+    sink: MemSink,
     whole: &[u8],
     status: u8,
     length: usize,
 ) -> bool {
-    serve_lines(alloc, &First, source, sink) == status
+    let mut source = source;
+    let mut sink = sink;
+    serve_lines(alloc, &First, &mut source, &mut sink) == status
         && sink.bytes().len() == length
         && whole.starts_with(sink.bytes())
 }
 
-// The replies to a thousand lines, if all are written.
-fn whole_replies(alloc: Global) -> Result<Option<MemSink>, AllocError> {
-    let mut source = source_failing(alloc, &[])?;
-    let mut sink = MemSink::new(alloc, Vec::new(alloc));
-    match serve_lines(alloc, &First, &mut source, &mut sink) {
-        0 => Ok(Some(sink)),
-        _ => Ok(None),
+fn ends_by_read(alloc: Global, whole: &[u8], call: u64, status: u8, length: usize) -> bool {
+    let sink = MemSink::new(alloc, Vec::new(alloc));
+    match source_failing(alloc, &[call]) {
+        Ok(source) => ends_at(alloc, source, sink, whole, status, length),
+        Err(_) => false,
     }
 }
 
-fn ends_by_read(
-    alloc: Global,
-    whole: &[u8],
-    call: u64,
-    status: u8,
-    length: usize,
-) -> Result<bool, AllocError> {
-    let mut source = source_failing(alloc, &[call])?;
-    let mut sink = MemSink::new(alloc, Vec::new(alloc));
-    Ok(ends_at(alloc, (&mut source, &mut sink), whole, status, length))
+fn ends_by_each_read(alloc: Global, whole: &[u8]) -> bool {
+    ends_by_read(alloc, whole, 0, 3, 0)
+        && ends_by_read(alloc, whole, 1, 3, 1755)
+        && ends_by_read(alloc, whole, 2, 3, 3000)
+        && ends_by_read(alloc, whole, 3, 0, 3000)
 }
 
-fn ends_by_write(
-    alloc: Global,
-    whole: &[u8],
-    call: u64,
-    status: u8,
-    length: usize,
-) -> Result<bool, AllocError> {
-    let mut sink = MemSink::new(alloc, [call].to_vec(alloc)?);
-    let mut source = source_failing(alloc, &[])?;
-    Ok(ends_at(alloc, (&mut source, &mut sink), whole, status, length))
+// A source of a thousand lines, and a sink of which one write fails.
+fn ends_failing(alloc: Global, call: u64) -> Result<(MemSource, MemSink), AllocError> {
+    let source = source_failing(alloc, &[])?;
+    Ok((source, MemSink::new(alloc, [call].to_vec(alloc)?)))
 }
 
-fn ends_by_each_read(alloc: Global, whole: &[u8]) -> Result<bool, AllocError> {
-    Ok(
-        ends_by_read(alloc, whole, 0, 3, 0)?
-            && ends_by_read(alloc, whole, 1, 3, 1755)?
-            && ends_by_read(alloc, whole, 2, 3, 3000)?
-            && ends_by_read(alloc, whole, 3, 0, 3000)?,
-    )
+fn ends_by_write(alloc: Global, whole: &[u8], call: u64, status: u8, length: usize) -> bool {
+    match ends_failing(alloc, call) {
+        Ok((source, sink)) => ends_at(alloc, source, sink, whole, status, length),
+        Err(_) => false,
+    }
 }
 
-fn ends_by_each_write(alloc: Global, whole: &[u8]) -> Result<bool, AllocError> {
-    Ok(
-        ends_by_write(alloc, whole, 0, 4, 0)?
-            && ends_by_write(alloc, whole, 1, 4, 1755)?
-            && ends_by_write(alloc, whole, 2, 0, 3000)?,
-    )
+fn ends_by_each_write(alloc: Global, whole: &[u8]) -> bool {
+    ends_by_write(alloc, whole, 0, 4, 0)
+        && ends_by_write(alloc, whole, 1, 4, 1755)
+        && ends_by_write(alloc, whole, 2, 0, 3000)
+}
+
+// Whether a run is whole where no call fails, and cut by each that does.
+fn is_cut_by_each_fault(alloc: Global, mut source: MemSource) -> bool {
+    let mut whole = MemSink::new(alloc, Vec::new(alloc));
+    serve_lines(alloc, &First, &mut source, &mut whole) == 0
+        && whole.bytes().len() == 3000
+        && ends_by_each_read(alloc, whole.bytes())
+        && ends_by_each_write(alloc, whole.bytes())
+}
+
+fn is_cut_in_turn(alloc: Global) -> bool {
+    match source_failing(alloc, &[]) {
+        Ok(source) => is_cut_by_each_fault(alloc, source),
+        Err(_) => false,
+    }
 }
 
 #[test]
 fn each_fault_in_turn(rt: HostRuntime) {
-    match whole_replies(rt.alloc()) {
-        Ok(Some(whole)) => {
-            assert!(rt; whole.bytes().len() == 3000);
-            assert!(rt; ends_by_each_read(rt.alloc(), whole.bytes()) == Ok(true));
-            assert!(rt; ends_by_each_write(rt.alloc(), whole.bytes()) == Ok(true));
-        }
-        _ => assert!(rt; false, "a run without a fault fails"),
-    }
+    assert!(rt; is_cut_in_turn(rt.alloc()));
 }
 
 fn slow_source(alloc: Global, bytes: &[u8]) -> Result<Slow, AllocError> {
@@ -267,23 +262,29 @@ fn one_byte_a_read(rt: HostRuntime) {
     assert!(rt; runs_slowly(rt.alloc()) == Ok(true));
 }
 
-// How many bytes a read of at most `most` asks for.
-fn asked(alloc: Global, most: u64) -> Result<Option<usize>, AllocError>
+// Whether a read of at most `most` bytes asks for so many.
+fn asks_for(alloc: Global, most: u64, asked: usize) -> bool
     requires { 0 < most }
 {
-    let mut source = slow_source(alloc, b"a")?;
-    match read_some(&mut source, &mut [0; 4096], most) {
-        Ok(1) => Ok(Some(source.most)),
-        _ => Ok(None),
+    match slow_source(alloc, b"a") {
+        Ok(mut source) => {
+            read_some(&mut source, &mut [0; 4096], most) == Ok(1) && source.most == asked
+        }
+        Err(_) => false,
     }
 }
 
 // The last read before the limit asks for what is left up to it.
+fn asks_for_what_is_left(alloc: Global) -> bool {
+    asks_for(alloc, 5, 5)
+        && asks_for(alloc, 4095, 4095)
+        && asks_for(alloc, 4096, 4096)
+        && asks_for(alloc, 1 << 40, 4096)
+}
+
 #[test]
 fn no_read_asks_for_more_than_is_left(rt: HostRuntime) {
-    for (most, wanted) in [(5, 5), (4095, 4095), (4096, 4096), (1 << 40, 4096)] {
-        assert!(rt; asked(rt.alloc(), most) == Ok(Some(wanted)));
-    }
+    assert!(rt; asks_for_what_is_left(rt.alloc()));
 }
 
 // Whether a run over a sink in memory ends with 4 where the sink found no memory, with 6 where
@@ -307,37 +308,47 @@ fn memory_that_a_sink_was_refused_is_its_fault(rt: HostRuntime) {
     assert!(rt; ends_by_its_cause(rt.alloc()).unwrap_or(true));
 }
 
-// Whether a whole program of lines, with and without a word, ends with this status and text.
-fn serves(alloc: Global, words: &Words, status: u8, text: &[u8]) -> Result<bool, AllocError> {
-    let mut source = QuietSource::new(b"a b\nc".to_vec(alloc)?);
+// Whether a whole program of lines ends with this status and text.
+fn serves(alloc: Global, words: &Words, input: Vec<u8>, status: u8, text: &[u8]) -> bool {
+    let mut source = QuietSource::new(input);
     let mut sink = MemSink::new(alloc, Vec::new(alloc));
-    let ended = serve_words(alloc, &First, b"usage: x\n", words, &mut source, &mut sink);
-    Ok(ended == status && sink.bytes() == text)
+    serve_words(alloc, &First, b"usage: x\n", words, &mut source, &mut sink) == status
+        && sink.bytes() == text
+}
+
+fn serves_lines(alloc: Global) -> bool {
+    match b"a b\nc".to_vec(alloc) {
+        Ok(input) => serves(alloc, &Words::new(alloc), input, 0, b"a\nc\n"),
+        Err(_) => false,
+    }
 }
 
 fn refuses(alloc: Global, word: &[u8]) -> Result<bool, AllocError> {
     let mut words = Words::new(alloc);
     words.push(word)?;
-    serves(alloc, &words, 2, b"usage: x\n")
+    let input = b"a b\nc".to_vec(alloc)?;
+    Ok(serves(alloc, &words, input, 2, b"usage: x\n"))
 }
 
 #[test]
 fn a_program_of_lines_takes_no_words(rt: HostRuntime) {
-    let alloc = rt.alloc();
-    assert!(rt; serves(alloc, &Words::new(alloc), 0, b"a\nc\n") == Ok(true));
-    assert!(rt; refuses(alloc, b"help") == Ok(true));
-    assert!(rt; refuses(alloc, b"") == Ok(true));
+    assert!(rt; serves_lines(rt.alloc()));
+    assert!(rt; refuses(rt.alloc(), b"help") == Ok(true));
+    assert!(rt; refuses(rt.alloc(), b"") == Ok(true));
 }
 
 // Long replies to the lines of one piece don't all wait for its end: the second write fails here.
+fn is_written_early(alloc: Global, mut source: QuietSource, fails: Vec<u64>) -> bool {
+    let mut sink = MemSink::new(alloc, fails);
+    serve_lines(alloc, &Zeros { count: 1000 }, &mut source, &mut sink) == 4
+        && sink.bytes().len() == 66_000
+        && sink.refused() == 0
+}
+
 fn writes_early(alloc: Global) -> Result<bool, AllocError> {
-    let mut source = QuietSource::new(vec![in alloc; b'\n'; 200]?);
-    let mut sink = MemSink::new(alloc, vec![in alloc; 1]?);
-    Ok(
-        serve_lines(alloc, &Zeros { count: 1000 }, &mut source, &mut sink) == 4
-            && sink.bytes().len() == 66_000
-            && sink.refused() == 0,
-    )
+    let source = QuietSource::new(vec![in alloc; b'\n'; 200]?);
+    let fails = vec![in alloc; 1]?;
+    Ok(is_written_early(alloc, source, fails))
 }
 
 #[test]
@@ -376,18 +387,25 @@ fn fields_of_lines(rt: HostRuntime) {
     assert!(rt; cuts_in_place());
 }
 
+fn is_cut(all: &[&[u8]], count: usize, second: &[u8]) -> bool {
+    all.len() == count && field_at(all, 1) == second
+}
+
 // Whether all fields of a line are cut as this one is.
-fn cuts(alloc: Global, line: &[u8], count: usize, second: &[u8]) -> Result<bool, AllocError> {
-    let all = all_fields(alloc, line)?;
-    Ok(all.len() == count && field_at(&all, 1) == second)
+fn cuts(alloc: Global, line: &[u8], count: usize, second: &[u8]) -> bool {
+    match all_fields(alloc, line) {
+        Ok(all) => is_cut(&all, count, second),
+        Err(_) => false,
+    }
+}
+
+fn cuts_all(alloc: Global) -> bool {
+    cuts(alloc, b"", 0, b"") && cuts(alloc, b" a  b c\r", 3, b"b") && cuts(alloc, b"a", 1, b"")
 }
 
 #[test]
 fn all_fields_of_lines(rt: HostRuntime) {
-    let alloc = rt.alloc();
-    assert!(rt; cuts(alloc, b"", 0, b"") == Ok(true));
-    assert!(rt; cuts(alloc, b" a  b c\r", 3, b"b") == Ok(true));
-    assert!(rt; cuts(alloc, b"a", 1, b"") == Ok(true));
+    assert!(rt; cuts_all(rt.alloc()));
 }
 
 // Whether the text is this number, and no other follows.
@@ -455,24 +473,30 @@ fn puts_hex(alloc: Global, bytes: &[u8], found: bool, value: &[u8]) -> Result<bo
     }
 }
 
-fn puts_hex_values(alloc: Global) -> Result<bool, AllocError> {
-    Ok(puts_hex(alloc, b"-", true, b"")? && puts_hex(alloc, b"00fFAb", true, b"\x00\xff\xab")?)
+fn puts_value(alloc: Global, bytes: &[u8], value: &[u8]) -> bool {
+    puts_hex(alloc, bytes, true, value).unwrap_or(false)
 }
 
-fn puts_no_hex(alloc: Global) -> Result<bool, AllocError> {
-    Ok(
-        puts_hex(alloc, b"00fFAb9", false, b"")?
-            && puts_hex(alloc, b"0g", false, b"")?
-            && puts_hex(alloc, b"00g0", false, b"")?
-            && puts_hex(alloc, b"--", false, b"")?
-            && puts_hex(alloc, b"7", false, b"")?,
-    )
+fn puts_nothing(alloc: Global, bytes: &[u8]) -> bool {
+    puts_hex(alloc, bytes, false, b"").unwrap_or(false)
+}
+
+fn puts_values(alloc: Global) -> bool {
+    puts_value(alloc, b"-", b"") && puts_value(alloc, b"00fFAb", b"\x00\xff\xab")
+}
+
+fn puts_nothing_else(alloc: Global) -> bool {
+    puts_nothing(alloc, b"00fFAb9")
+        && puts_nothing(alloc, b"0g")
+        && puts_nothing(alloc, b"00g0")
+        && puts_nothing(alloc, b"--")
+        && puts_nothing(alloc, b"7")
 }
 
 #[test]
 fn hexadecimal_fields(rt: HostRuntime) {
-    assert!(rt; puts_hex_values(rt.alloc()) == Ok(true));
-    assert!(rt; puts_no_hex(rt.alloc()) == Ok(true));
+    assert!(rt; puts_values(rt.alloc()));
+    assert!(rt; puts_nothing_else(rt.alloc()));
 }
 
 // Two strings, the second put behind the first.
@@ -482,11 +506,19 @@ fn appended(alloc: Global, first: &[u8], second: &[u8]) -> Result<ByteString, Al
     Ok(text)
 }
 
+fn appends(alloc: Global, first: &[u8], second: &[u8], whole: &[u8]) -> bool {
+    is_text(&appended(alloc, first, second), whole)
+}
+
+fn appends_all(alloc: Global) -> bool {
+    appends(alloc, b"", b"b", b"b")
+        && appends(alloc, b"a", b"", b"a")
+        && appends(alloc, b"a", b"b", b"ab")
+}
+
 #[test]
 fn strings_are_put_behind_others(rt: HostRuntime) {
-    assert!(rt; is_text(&appended(rt.alloc(), b"", b"b"), b"b"));
-    assert!(rt; is_text(&appended(rt.alloc(), b"a", b""), b"a"));
-    assert!(rt; is_text(&appended(rt.alloc(), b"a", b"b"), b"ab"));
+    assert!(rt; appends_all(rt.alloc()));
 }
 
 fn key_text(alloc: Global) -> Result<ByteString, AllocError> {
