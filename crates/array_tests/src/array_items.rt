@@ -27,19 +27,29 @@ pub(crate) fn holds<T: PartialEq + Drop, U: ArraySize>(
     }
 }
 
-fn is_example_right(alloc: Global) -> Result<bool, AllocError> {
-    let mut frame = Array::<u8, U6>::default(alloc)?;
+fn write_head_and_body(frame: &mut Array<u8, U6>) {
     let (head, body) = halves_mut::<u8, U2, U4>(frame.as_mut_slice());
     let mut head = ArrayMut::<u8, U2>::of(head);
     head.copy_from_slice(&[1, 2]);
     let mut body = ArrayMut::<u8, U4>::of(body);
     body.set(3, 9);
+}
+
+fn is_three_pairs(frame: &Array<u8, U6>) -> bool {
     let (pairs, rest) = Array::<u8, U2>::slice_as_chunks(frame.as_slice());
-    let is_cut = pairs.len() == 3 && rest.is_empty();
+    pairs.len() == 3 && rest.is_empty()
+}
+
+fn has_head_and_body(rows: &Array<Array<u8, U2>, U3>) -> bool {
+    rows[0].as_slice() == [1, 2].as_slice() && rows[2].as_slice() == [0, 9].as_slice()
+}
+
+fn is_example_right(alloc: Global) -> Result<bool, AllocError> {
+    let mut frame = Array::<u8, U6>::default(alloc)?;
+    write_head_and_body(&mut frame);
+    let is_cut = is_three_pairs(&frame);
     let rows: Array<Array<u8, U2>, U3> = frame.unflatten(alloc)?;
-    let is_first = rows[0].as_slice() == [1, 2].as_slice();
-    let is_last = rows[2].as_slice() == [0, 9].as_slice();
-    Ok(is_cut && is_first && is_last)
+    Ok(is_cut && has_head_and_body(&rows))
 }
 
 #[test]
@@ -53,46 +63,42 @@ fn squares_by_from_fn(rt: HostRuntime) {
     assert!(rt; holds(squares.ok(), &[0, 1, 4, 9]));
 }
 
-#[test]
-fn from_fn_of_no_item_calls_nothing(rt: HostRuntime) {
+// Whether the items are these, one a call.
+fn is_call_an_item<U: ArraySize>(alloc: Global, items: &[usize]) -> bool {
     let mut calls = 0usize;
-    let none = Array::<usize, U0>::from_fn(rt.alloc(), |i| {
+    let made = Array::<usize, U>::from_fn(alloc, |i| {
         calls = calls.wrapping_add(1);
         i
     });
-    assert!(rt; holds(none.ok(), &[]));
-    assert!(rt; calls == 0);
+    holds(made.ok(), items) && calls == items.len()
+}
+
+#[test]
+fn from_fn_of_no_item_calls_nothing(rt: HostRuntime) {
+    assert!(rt; is_call_an_item::<U0>(rt.alloc(), &[]));
 }
 
 #[test]
 fn from_fn_calls_once_for_each_item(rt: HostRuntime) {
-    let mut calls = 0usize;
-    let made = Array::<usize, U3>::from_fn(rt.alloc(), |i| {
-        calls = calls.wrapping_add(1);
-        i
-    });
-    assert!(rt; holds(made.ok(), &[0, 1, 2]));
-    assert!(rt; calls == 3);
+    assert!(rt; is_call_an_item::<U3>(rt.alloc(), &[0, 1, 2]));
 }
 
-// The error of a closure that refuses its second call, and how often it was called.
-fn refused_second_call(alloc: Global) -> (Option<u8>, usize) {
+// Whether a closure that refuses its second call by 7 is called twice.
+fn is_refused_by_second_call(alloc: Global) -> bool {
     let mut calls = 0usize;
     let made = Array::<usize, U3>::try_from_fn(alloc, |i| {
         calls = calls.wrapping_add(1);
         if i == 1 { Err(7u8) } else { Ok(i) }
     });
     match made {
-        Err(MakeError::Caller(error)) => (Some(error), calls),
-        _ => (None, calls),
+        Err(MakeError::Caller(error)) => error == 7 && calls == 2,
+        _ => false,
     }
 }
 
 #[test]
 fn try_from_fn_stops_at_the_first_error(rt: HostRuntime) {
-    let (error, calls) = refused_second_call(rt.alloc());
-    assert!(rt; error == Some(7));
-    assert!(rt; calls == 2);
+    assert!(rt; is_refused_by_second_call(rt.alloc()));
 }
 
 #[test]
@@ -153,12 +159,16 @@ fn calls_of_next(alloc: Global, left: u8) -> usize {
     calls
 }
 
+fn is_asked_up_to_a_missing_item(alloc: Global) -> bool {
+    calls_of_next(alloc, 0) == 1
+        && calls_of_next(alloc, 2) == 3
+        && calls_of_next(alloc, 3) == 4
+        && calls_of_next(alloc, 9) == 4
+}
+
 #[test]
 fn an_iterator_is_asked_up_to_the_first_item_that_is_missing(rt: HostRuntime) {
-    assert!(rt; calls_of_next(rt.alloc(), 0) == 1);
-    assert!(rt; calls_of_next(rt.alloc(), 2) == 3);
-    assert!(rt; calls_of_next(rt.alloc(), 3) == 4);
-    assert!(rt; calls_of_next(rt.alloc(), 9) == 4);
+    assert!(rt; is_asked_up_to_a_missing_item(rt.alloc()));
 }
 
 fn is_made_of(alloc: Global, count: u8) -> bool {
@@ -167,18 +177,20 @@ fn is_made_of(alloc: Global, count: u8) -> bool {
 
 #[test]
 fn no_item_of_an_empty_iterator(rt: HostRuntime) {
-    assert!(rt; is_made_of(rt.alloc(), 0));
-    assert!(rt; !is_made_of(rt.alloc(), 1));
+    assert!(rt; is_made_of(rt.alloc(), 0) && !is_made_of(rt.alloc(), 1));
 }
 
-fn prints(alloc: Global, expected: &str) -> Result<bool, AllocError> {
-    Ok(format!(in alloc; "{}", TryFromIteratorError)?.as_str() == expected)
+fn prints(alloc: Global, expected: &str) -> bool {
+    match format!(in alloc; "{}", TryFromIteratorError) {
+        Ok(text) => text.as_str() == expected,
+        Err(_) => false,
+    }
 }
 
 #[test]
 fn a_refused_count_prints_its_text(rt: HostRuntime) {
     let expected = "iterator did not contain the correct number of items for the array size";
-    assert!(rt; prints(rt.alloc(), expected) == Ok(true));
+    assert!(rt; prints(rt.alloc(), expected));
 }
 
 fn cloned(alloc: Global) -> Option<Array<u8, U3>> {
@@ -246,9 +258,15 @@ fn a_slice_of_the_length_is_cloned(rt: HostRuntime) {
     assert!(rt; holds(made.ok(), &[1, 2, 3]));
 }
 
+fn is_vector(made: Result<Vec<u8>, AllocError>, expected: &[u8]) -> bool {
+    match made {
+        Ok(items) => items.as_slice() == expected,
+        Err(_) => false,
+    }
+}
+
 fn is_vector_of(alloc: Global, expected: &[u8]) -> Option<bool> {
-    let items = array::<U2>(alloc, &[5, 6])?.to_vec(alloc).ok()?;
-    Some(items.as_slice() == expected)
+    Some(is_vector(array::<U2>(alloc, &[5, 6])?.to_vec(alloc), expected))
 }
 
 #[test]
@@ -272,10 +290,14 @@ fn is_owned_slice(alloc: Global, expected: &[u8]) -> Option<bool> {
     Some(boxes(array::<U2>(alloc, &[5, 6])?.into_boxed(alloc), expected))
 }
 
+fn are_owned_slices(alloc: Global, expected: &[u8]) -> bool {
+    is_cloned_owned_slice(alloc, expected) == Some(true)
+        && is_owned_slice(alloc, expected) == Some(true)
+}
+
 #[test]
 fn an_array_as_an_owned_slice(rt: HostRuntime) {
-    assert!(rt; is_cloned_owned_slice(rt.alloc(), &[5, 6]) == Some(true));
-    assert!(rt; is_owned_slice(rt.alloc(), &[5, 6]) == Some(true));
+    assert!(rt; are_owned_slices(rt.alloc(), &[5, 6]));
 }
 
 fn array_of_boxed(alloc: Global, items: &[u8]) -> Result<Array<u8, U2>, SliceError> {
@@ -297,25 +319,28 @@ fn an_owned_slice_into_an_array_and_a_vector(rt: HostRuntime) {
     assert!(rt; is_vector_of_boxed(rt.alloc(), &[5, 6]));
 }
 
-fn is_vector_refused(alloc: Global, items: &[u8]) -> Result<bool, AllocError> {
-    Ok(Array::<u8, U2>::from_vec(items.to_vec(alloc)?).is_err())
+fn is_vector_refused(alloc: Global, items: &[u8]) -> bool {
+    match items.to_vec(alloc) {
+        Ok(items) => Array::<u8, U2>::from_vec(items).is_err(),
+        Err(_) => false,
+    }
 }
 
 fn is_owned_slice_refused(alloc: Global, items: &[u8]) -> bool {
     matches!(array_of_boxed(alloc, items), Err(SliceError::Length(_)))
 }
 
+fn are_refused(alloc: Global, items: &[u8]) -> bool {
+    is_vector_refused(alloc, items) && is_owned_slice_refused(alloc, items)
+}
+
+fn are_other_lengths_refused(alloc: Global) -> bool {
+    are_refused(alloc, &[]) && are_refused(alloc, &[5]) && are_refused(alloc, &[5, 6, 7])
+}
+
 #[test]
 fn vectors_and_owned_slices_of_another_length_are_refused(rt: HostRuntime) {
-    let items = [5, 6, 7];
-    for count in [0, 1, 3] {
-        let items = &items[..count];
-        assert!(rt;
-            is_vector_refused(rt.alloc(), items) == Ok(true),
-            "{count} items"
-        );
-        assert!(rt; is_owned_slice_refused(rt.alloc(), items), "{count} items");
-    }
+    assert!(rt; are_other_lengths_refused(rt.alloc()));
 }
 
 // The items 1, 2, 3 of two arrays.
@@ -332,32 +357,45 @@ fn two_arrays_are_joined(rt: HostRuntime) {
 // Whether the two parts of an array are these.
 fn is_cut_as<U: ArraySize, N: ArraySize, R: ArraySize>(
     alloc: Global,
-    array: Option<Array<u8, U>>,
+    array: Array<u8, U>,
     first: &[u8],
     rest: &[u8],
-) -> Option<bool>
+) -> bool
     requires { N.USIZE + R.USIZE ≡ U.USIZE }
 {
-    let parts = array?.split::<N, R>(alloc).ok()?;
-    Some(parts.0.as_slice() == first && parts.1.as_slice() == rest)
+    match array.split::<N, R>(alloc) {
+        Ok(parts) => parts.0.as_slice() == first && parts.1.as_slice() == rest,
+        Err(_) => false,
+    }
+}
+
+fn is_joined_cut(alloc: Global) -> Option<bool> {
+    Some(is_cut_as::<U3, U2, U1>(alloc, joined(alloc)?, &[1, 2], &[3]))
 }
 
 #[test]
 fn a_joined_array_is_cut_again(rt: HostRuntime) {
-    let both = joined(rt.alloc());
-    assert!(rt; is_cut_as::<U3, U2, U1>(rt.alloc(), both, &[1, 2], &[3]) == Some(true));
+    assert!(rt; is_joined_cut(rt.alloc()) == Some(true));
+}
+
+// Whether two items are cut into these parts.
+fn is_pair_cut_as<N: ArraySize, R: ArraySize>(alloc: Global, first: &[u8], rest: &[u8]) -> bool
+    requires { N.USIZE + R.USIZE ≡ 2 }
+{
+    match array::<U2>(alloc, &[1, 2]) {
+        Some(array) => is_cut_as::<U2, N, R>(alloc, array, first, rest),
+        None => false,
+    }
 }
 
 #[test]
 fn cut_before_the_first_item(rt: HostRuntime) {
-    let all = array::<U2>(rt.alloc(), &[1, 2]);
-    assert!(rt; is_cut_as::<U2, U0, U2>(rt.alloc(), all, &[], &[1, 2]) == Some(true));
+    assert!(rt; is_pair_cut_as::<U0, U2>(rt.alloc(), &[], &[1, 2]));
 }
 
 #[test]
 fn cut_after_the_last_item(rt: HostRuntime) {
-    let all = array::<U2>(rt.alloc(), &[1, 2]);
-    assert!(rt; is_cut_as::<U2, U2, U0>(rt.alloc(), all, &[1, 2], &[]) == Some(true));
+    assert!(rt; is_pair_cut_as::<U2, U0>(rt.alloc(), &[1, 2], &[]));
 }
 
 fn joined_with_none(alloc: Global) -> Option<Array<u8, U2>> {
@@ -372,10 +410,13 @@ fn joined_with_no_item(rt: HostRuntime) {
 
 const SIX: [u8; 6] = [1, 2, 3, 4, 5, 6];
 
-fn is_seen_in_runs(alloc: Global) -> Option<bool> {
-    let array = array::<U6>(alloc, &SIX)?;
+fn has_three_runs(array: &Array<u8, U6>) -> bool {
     let chunks = array.unflatten_ref::<U3, U2>();
-    Some(chunks.len() == 3 && chunks.as_flattened() == SIX.as_slice())
+    chunks.len() == 3 && chunks.as_flattened() == SIX.as_slice()
+}
+
+fn is_seen_in_runs(alloc: Global) -> Option<bool> {
+    Some(has_three_runs(&array::<U6>(alloc, &SIX)?))
 }
 
 #[test]

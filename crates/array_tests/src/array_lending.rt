@@ -180,28 +180,40 @@ fn set_by_index(array: &mut Array<u8, U4>)
     array.as_mut_slice()[2] = 8;
 }
 
+fn is_copied_by_an_option() -> bool {
+    let mut items = [1u8, 2, 3, 4];
+    copy_if::<u8, U4>(&mut items, &[5, 6, 7, 8])
+        && items == [5, 6, 7, 8]
+        && !copy_if::<u8, U2>(&mut items, &[5, 6])
+}
+
 #[test]
 fn copies_by_an_option(rt: HostRuntime) {
-    let mut items = [1u8, 2, 3, 4];
-    assert!(rt; copy_if::<u8, U4>(&mut items, &[5, 6, 7, 8]));
-    assert!(rt; items == [5, 6, 7, 8]);
-    assert!(rt; !copy_if::<u8, U2>(&mut items, &[5, 6]));
+    assert!(rt; is_copied_by_an_option());
+}
+
+fn is_copied_by_a_result() -> bool {
+    let mut items = [5u8, 6, 7, 8];
+    try_copy::<u8, U4>(&mut items, &[4, 3, 2, 1]).is_ok()
+        && try_copy::<u8, U2>(&mut items, &[4, 3]).is_err()
+        && items == [4, 3, 2, 1]
 }
 
 #[test]
 fn copies_by_a_result(rt: HostRuntime) {
-    let mut items = [5u8, 6, 7, 8];
-    assert!(rt; try_copy::<u8, U4>(&mut items, &[4, 3, 2, 1]).is_ok());
-    assert!(rt; try_copy::<u8, U2>(&mut items, &[4, 3]).is_err());
-    assert!(rt; items == [4, 3, 2, 1]);
+    assert!(rt; is_copied_by_a_result());
+}
+
+fn is_set_within() -> bool {
+    let mut items = [4u8, 3, 2, 1];
+    try_set_within(&mut items).is_ok()
+        && try_set_within(&mut items[..3]).is_err()
+        && items == [4, 7, 2, 1]
 }
 
 #[test]
 fn an_item_by_a_closure_of_a_whole_slice(rt: HostRuntime) {
-    let mut items = [4u8, 3, 2, 1];
-    assert!(rt; try_set_within(&mut items).is_ok());
-    assert!(rt; try_set_within(&mut items[..3]).is_err());
-    assert!(rt; items == [4, 7, 2, 1]);
+    assert!(rt; is_set_within());
 }
 
 #[test]
@@ -234,12 +246,14 @@ fn a_chunk_and_the_rest(rt: HostRuntime) {
     assert!(rt; items == [1, 2, 1, 2, 9]);
 }
 
+fn is_first_set() -> bool {
+    let mut items = [1u8, 2, 1, 2, 9];
+    set_first(&mut items) && !set_first(&mut items[..3]) && items == [1, 7, 1, 2, 9]
+}
+
 #[test]
 fn an_item_of_the_first_items(rt: HostRuntime) {
-    let mut items = [1u8, 2, 1, 2, 9];
-    assert!(rt; set_first(&mut items));
-    assert!(rt; !set_first(&mut items[..3]));
-    assert!(rt; items == [1, 7, 1, 2, 9]);
+    assert!(rt; is_first_set());
 }
 
 #[test]

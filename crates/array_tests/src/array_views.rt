@@ -13,21 +13,29 @@ fn shows<U: ArraySize>(view: Option<ArrayRef<'_, u8, U>>, items: &[u8]) -> bool 
     }
 }
 
+// Whether a slice is cut into chunks of these items, and this rest.
+fn is_cut_as(slice: &[u8], items: &[u8], rest: &[u8]) -> bool {
+    let cut = Array::<u8, U3>::slice_as_chunks(slice);
+    cut.0.len() == 2 && cut.0.as_flattened() == items && cut.1 == rest
+}
+
 #[test]
 fn seven_items_in_chunks_of_three(rt: HostRuntime) {
-    let (chunks, rest) = Array::<u8, U3>::slice_as_chunks(&[1, 2, 3, 4, 5, 6, 7]);
-    assert!(rt; chunks.len() == 2);
-    assert!(rt; chunks.as_flattened() == [1, 2, 3, 4, 5, 6].as_slice());
-    assert!(rt; rest == [7].as_slice());
+    assert!(rt; is_cut_as(&[1, 2, 3, 4, 5, 6, 7], &[1, 2, 3, 4, 5, 6], &[7]));
+}
+
+// Whether a slice has two chunks of three items, these.
+fn has_two_chunks(slice: &[u8], first: &[u8], second: &[u8]) -> bool {
+    let (chunks, _) = Array::<u8, U3>::slice_as_chunks(slice);
+    shows(chunks.get(0), first)
+        && shows(chunks.get(1), second)
+        && chunks.get(2).is_none()
+        && chunks.get(usize::MAX).is_none()
 }
 
 #[test]
 fn chunks_of_seven_items_by_index(rt: HostRuntime) {
-    let (chunks, _) = Array::<u8, U3>::slice_as_chunks(&[1, 2, 3, 4, 5, 6, 7]);
-    assert!(rt; shows(chunks.get(0), &[1, 2, 3]));
-    assert!(rt; shows(chunks.get(1), &[4, 5, 6]));
-    assert!(rt; chunks.get(2).is_none());
-    assert!(rt; chunks.get(usize::MAX).is_none());
+    assert!(rt; has_two_chunks(&[1, 2, 3, 4, 5, 6, 7], &[1, 2, 3], &[4, 5, 6]));
 }
 
 // The sums of the chunks, as digits to the base 100.
@@ -45,8 +53,7 @@ fn sums_of_chunks(slice: &[u8]) -> u32 {
 
 #[test]
 fn chunks_in_order(rt: HostRuntime) {
-    assert!(rt; sums_of_chunks(&[1, 2, 3, 4, 5, 6, 7]) == 615);
-    assert!(rt; sums_of_chunks(&[1, 2]) == 0);
+    assert!(rt; sums_of_chunks(&[1, 2, 3, 4, 5, 6, 7]) == 615 && sums_of_chunks(&[1, 2]) == 0);
 }
 
 // Whether the slice has no chunk of three items, and all of it is the rest.
@@ -63,21 +70,27 @@ fn is_hybrid_rest(slice: &[u8]) -> bool {
 
 #[test]
 fn too_few_items_are_all_the_rest(rt: HostRuntime) {
-    assert!(rt; is_rest(&[1, 2]));
-    assert!(rt; is_hybrid_rest(&[]));
+    assert!(rt; is_rest(&[1, 2]) && is_hybrid_rest(&[]));
 }
 
 fn is_view<U: ArraySize>(slice: &[u8]) -> bool {
     ArrayRef::<u8, U>::try_from(slice).is_ok()
 }
 
+fn is_view_of_the_length_alone() -> bool {
+    is_view::<U0>(&[])
+        && !is_view::<U0>(&[1])
+        && !is_view::<U3>(&[1, 2])
+        && !is_view::<U3>(&[1, 2, 3, 4])
+}
+
+fn is_viewed_as(slice: &[u8], items: &[u8]) -> bool {
+    shows(ArrayRef::<u8, U3>::try_from(slice).ok(), items)
+}
+
 #[test]
 fn views_of_slices_of_the_length_alone(rt: HostRuntime) {
-    assert!(rt; is_view::<U0>(&[]));
-    assert!(rt; !is_view::<U0>(&[1]));
-    assert!(rt; !is_view::<U3>(&[1, 2]));
-    assert!(rt; !is_view::<U3>(&[1, 2, 3, 4]));
-    assert!(rt; shows(ArrayRef::<u8, U3>::try_from(&[1, 2, 3]).ok(), &[1, 2, 3]));
+    assert!(rt; is_view_of_the_length_alone() && is_viewed_as(&[1, 2, 3], &[1, 2, 3]));
 }
 
 fn has_third_item_alone(view: &ArrayRef<'_, u8, U3>) -> bool {
@@ -97,16 +110,18 @@ fn is_split(view: &ArrayRef<'_, u8, U3>) -> bool {
     first.as_slice() == [1].as_slice() && rest.as_slice() == [2, 3].as_slice()
 }
 
+fn has_items_and_parts(slice: &[u8]) -> bool {
+    match ArrayRef::<u8, U3>::try_from(slice) {
+        Ok(view) => {
+            has_third_item_alone(&view) && number_by_index(&view) == 123 && is_split(&view)
+        }
+        Err(_) => false,
+    }
+}
+
 #[test]
 fn items_and_parts_of_a_view(rt: HostRuntime) {
-    match ArrayRef::<u8, U3>::try_from(&[1, 2, 3]) {
-        Ok(view) => {
-            assert!(rt; has_third_item_alone(&view));
-            assert!(rt; number_by_index(&view) == 123);
-            assert!(rt; is_split(&view));
-        }
-        Err(_) => assert!(rt; false, "no view of three items"),
-    }
+    assert!(rt; has_items_and_parts(&[1, 2, 3]));
 }
 
 fn is_array<U: ArraySize>(slice: &[u8]) -> bool {
@@ -117,11 +132,17 @@ fn is_hybrid_array<U: ArraySize>(slice: &[u8]) -> bool {
     SliceExt::as_hybrid_array::<u8, U>(slice).is_some()
 }
 
+fn is_no_item_a_view() -> bool {
+    is_array::<U0>(&[])
+        && !is_array::<U0>(&[1])
+        && is_hybrid_array::<U0>(&[])
+        && !is_hybrid_array::<U0>(&[1])
+        && !is_hybrid_array::<U2>(&[1])
+}
+
 #[test]
 fn views_of_no_item(rt: HostRuntime) {
-    assert!(rt; is_array::<U0>(&[]) && !is_array::<U0>(&[1]));
-    assert!(rt; is_hybrid_array::<U0>(&[]) && !is_hybrid_array::<U0>(&[1]));
-    assert!(rt; !is_hybrid_array::<U2>(&[1]));
+    assert!(rt; is_no_item_a_view());
 }
 
 fn is_mut_array<U: ArraySize>(slice: &mut [u8]) -> bool {
@@ -132,26 +153,36 @@ fn is_mut_hybrid_array<U: ArraySize>(slice: &mut [u8]) -> bool {
     SliceExt::as_mut_hybrid_array::<u8, U>(slice).is_some()
 }
 
+fn is_no_item_a_view_for_writing() -> bool {
+    is_mut_array::<U0>(&mut [])
+        && !is_mut_array::<U0>(&mut [1])
+        && !is_mut_hybrid_array::<U2>(&mut [1])
+        && is_mut_hybrid_array::<U2>(&mut [1, 2])
+}
+
 #[test]
 fn views_of_no_item_for_writing(rt: HostRuntime) {
-    assert!(rt; is_mut_array::<U0>(&mut []));
-    assert!(rt; !is_mut_array::<U0>(&mut [1]));
-    assert!(rt; !is_mut_hybrid_array::<U2>(&mut [1]));
-    assert!(rt; is_mut_hybrid_array::<U2>(&mut [1, 2]));
+    assert!(rt; is_no_item_a_view_for_writing());
 }
 
 // Whether each call that asks for three items refuses the slice, and leaves it as it was.
 fn is_left_when_refused(slice: &mut [u8], same: &[u8]) -> bool {
-    let is_array = is_mut_array::<U3>(slice) || &*slice != same;
-    let is_hybrid_array = is_mut_hybrid_array::<U3>(slice) || &*slice != same;
-    let is_view = is_mut_view::<U3>(slice) || &*slice != same;
-    !is_array && !is_hybrid_array && !is_view
+    !is_mut_array::<U3>(slice)
+        && &*slice == same
+        && !is_mut_hybrid_array::<U3>(slice)
+        && &*slice == same
+        && !is_mut_view::<U3>(slice)
+        && &*slice == same
+}
+
+fn are_left_when_refused() -> bool {
+    is_left_when_refused(&mut [1, 2, 3, 4], &[1, 2, 3, 4])
+        && is_left_when_refused(&mut [1, 2], &[1, 2])
 }
 
 #[test]
 fn a_refused_slice_is_left_as_it_was(rt: HostRuntime) {
-    assert!(rt; is_left_when_refused(&mut [1, 2, 3, 4], &[1, 2, 3, 4]));
-    assert!(rt; is_left_when_refused(&mut [1, 2], &[1, 2]));
+    assert!(rt; are_left_when_refused());
 }
 
 fn of_a_view(alloc: Global) -> Option<Array<u8, U2>> {
@@ -181,10 +212,17 @@ fn views_of_an_array_and_of_its_parts(rt: HostRuntime) {
     assert!(rt; is_array_viewed(rt.alloc()) == Some(true));
 }
 
+fn is_item_viewed(item: &u8, items: &[u8]) -> bool {
+    Array::<u8, U1>::from_ref(item).as_slice() == items
+}
+
+fn is_core_array_viewed(array: &[u8; 2], items: &[u8]) -> bool {
+    Array::<u8, U2>::cast_from_core(array).as_slice() == items
+}
+
 #[test]
 fn views_of_one_item_and_of_a_core_array(rt: HostRuntime) {
-    assert!(rt; Array::<u8, U1>::from_ref(&7).as_slice() == [7].as_slice());
-    assert!(rt; Array::<u8, U2>::cast_from_core(&[7, 8]).as_slice() == [7, 8].as_slice());
+    assert!(rt; is_item_viewed(&7, &[7]) && is_core_array_viewed(&[7, 8], &[7, 8]));
 }
 
 fn raise_by_five(items: &mut [u8]) {
@@ -193,15 +231,23 @@ fn raise_by_five(items: &mut [u8]) {
     }
 }
 
+// Whether the slice is three chunks, which show these items once they are raised.
+fn is_raised_to(slice: &mut [u8], expected: &[u8]) -> bool {
+    let (mut chunks, rest) = Array::<u8, U3>::slice_as_chunks_mut(slice);
+    let is_cut = rest.is_empty() && chunks.len() == 3;
+    raise_by_five(chunks.as_flattened_mut());
+    is_cut && chunks.as_flattened() == expected
+}
+
+fn are_nine_items_raised() -> bool {
+    let mut items = [1u8, 2, 3, 4, 5, 6, 7, 8, 9];
+    let expected = [6, 7, 8, 9, 10, 11, 12, 13, 14];
+    is_raised_to(&mut items, &expected) && items == expected
+}
+
 #[test]
 fn nine_items_raised_by_five_in_chunks(rt: HostRuntime) {
-    let mut items = [1u8, 2, 3, 4, 5, 6, 7, 8, 9];
-    let (mut chunks, rest) = Array::<u8, U3>::slice_as_chunks_mut(&mut items);
-    assert!(rt; rest.is_empty() && chunks.len() == 3);
-    raise_by_five(chunks.as_flattened_mut());
-    let expected = [6, 7, 8, 9, 10, 11, 12, 13, 14];
-    assert!(rt; chunks.as_flattened() == expected.as_slice());
-    assert!(rt; items == expected);
+    assert!(rt; are_nine_items_raised());
 }
 
 // Writes the second chunk, and the rest.
@@ -219,25 +265,27 @@ fn write_chunk_and_rest(slice: &mut [u8]) -> bool {
 #[test]
 fn a_chunk_is_written_in_its_place(rt: HostRuntime) {
     let mut items = [1u8, 2, 3, 4, 5];
-    assert!(rt; write_chunk_and_rest(&mut items));
-    assert!(rt; items == [1, 2, 7, 8, 9]);
+    assert!(rt; write_chunk_and_rest(&mut items) && items == [1, 2, 7, 8, 9]);
+}
+
+fn has_no_third_chunk(slice: &mut [u8]) -> bool {
+    let (mut chunks, _) = SliceExt::as_hybrid_chunks_mut::<u8, U2>(slice);
+    chunks.get_mut(2).is_none() && chunks.get(2).is_none()
 }
 
 #[test]
 fn no_chunk_beyond_the_last_for_writing(rt: HostRuntime) {
     let mut items = [1u8, 2, 3, 4, 5];
-    let (mut chunks, _) = SliceExt::as_hybrid_chunks_mut::<u8, U2>(&mut items);
-    assert!(rt; chunks.get_mut(2).is_none());
-    assert!(rt; chunks.get(2).is_none());
-    assert!(rt; items == [1, 2, 3, 4, 5]);
+    assert!(rt; has_no_third_chunk(&mut items) && items == [1, 2, 3, 4, 5]);
+}
+
+fn has_no_chunk(chunks: &mut ChunksMut<'_, u8, U2>) -> bool {
+    chunks.len() == 0 && chunks.get_mut(0).is_none() && chunks.as_flattened_mut().is_empty()
 }
 
 #[test]
 fn no_chunk_of_an_empty_slice(rt: HostRuntime) {
-    let mut chunks = ChunksMut::<u8, U2>::of(&mut []);
-    assert!(rt; chunks.len() == 0);
-    assert!(rt; chunks.get_mut(0).is_none());
-    assert!(rt; chunks.as_flattened_mut().is_empty());
+    assert!(rt; has_no_chunk(&mut ChunksMut::<u8, U2>::of(&mut [])));
 }
 
 fn is_mut_view<U: ArraySize>(slice: &mut [u8]) -> bool {
@@ -246,8 +294,7 @@ fn is_mut_view<U: ArraySize>(slice: &mut [u8]) -> bool {
 
 #[test]
 fn views_for_writing_of_the_length_alone(rt: HostRuntime) {
-    assert!(rt; !is_mut_view::<U3>(&mut [1, 2]));
-    assert!(rt; !is_mut_view::<U2>(&mut [1, 2, 3]));
+    assert!(rt; !is_mut_view::<U3>(&mut [1, 2]) && !is_mut_view::<U2>(&mut [1, 2, 3]));
 }
 
 // Whether the view shows the two items that are written.
@@ -267,18 +314,20 @@ fn writes_by_slice(view: &mut ArrayMut<'_, u8, U3>) -> bool {
     view.as_slice() == [4, 8, 3].as_slice()
 }
 
+// Whether the view of the slice shows what is written, of which the last item is by its slice.
+fn writes_by_view(slice: &mut [u8]) -> bool {
+    let Ok(mut view) = ArrayMut::<u8, U3>::try_from(slice) else {
+        return false;
+    };
+    let is_shown = writes_two_items(&mut view) && writes_by_slice(&mut view);
+    view.into_mut_slice()[2] = 6;
+    is_shown
+}
+
 #[test]
 fn views_for_writing(rt: HostRuntime) {
     let mut items = [1u8, 2, 3];
-    match ArrayMut::<u8, U3>::try_from(&mut items) {
-        Ok(mut view) => {
-            assert!(rt; writes_two_items(&mut view));
-            assert!(rt; writes_by_slice(&mut view));
-            view.into_mut_slice()[2] = 6;
-        }
-        Err(_) => assert!(rt; false, "no view of three items"),
-    }
-    assert!(rt; items == [4, 8, 6]);
+    assert!(rt; writes_by_view(&mut items) && items == [4, 8, 6]);
 }
 
 fn write_parts(array: &mut Array<u8, U3>) {
@@ -299,12 +348,19 @@ fn parts_of_an_array_for_writing(rt: HostRuntime) {
     assert!(rt; holds(with_written_parts(rt.alloc()), &[4, 5, 6]));
 }
 
-#[test]
-fn one_item_and_a_core_array_for_writing(rt: HostRuntime) {
+fn is_item_written() -> bool {
     let mut item = 7u8;
     Array::<u8, U1>::from_mut(&mut item).set(0, 8);
-    assert!(rt; item == 8);
+    item == 8
+}
+
+fn is_core_array_written() -> bool {
     let mut items = [1u8, 2];
     Array::<u8, U2>::cast_from_core_mut(&mut items).set(1, 3);
-    assert!(rt; items == [1, 3]);
+    items == [1, 3]
+}
+
+#[test]
+fn one_item_and_a_core_array_for_writing(rt: HostRuntime) {
+    assert!(rt; is_item_written() && is_core_array_written());
 }

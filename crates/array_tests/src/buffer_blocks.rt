@@ -9,7 +9,7 @@ use block_buffer::{
 };
 use hybrid_array::sizes::{U4, U8, U16};
 use hybrid_array::{ArraySize, Chunks};
-use std::alloc::{AllocError, Global};
+use std::alloc::Global;
 
 // Records the first 64 bytes that it takes, and refuses from a given call on.
 #[derive(Drop)]
@@ -71,13 +71,11 @@ fn is_cut<K: BufferKind>(
 }
 
 // Whether a buffer is padded to this block, and is then empty.
-fn pads_to<K: BufferKind>(
-    alloc: Global,
-    buffer: &mut BlockBuffer<U4, K>,
-    expected: &[u8],
-) -> Result<bool, AllocError> {
-    let block = buffer.pad_with_zeros(alloc)?;
-    Ok(block.as_slice() == expected && buffer.get_pos() == 0)
+fn pads_to<K: BufferKind>(alloc: Global, buffer: &mut BlockBuffer<U4, K>, expected: &[u8]) -> bool {
+    match buffer.pad_with_zeros(alloc) {
+        Ok(block) => block.as_slice() == expected && buffer.get_pos() == 0,
+        Err(_) => false,
+    }
 }
 
 fn cut(sink: &mut Recorder) -> Result<EagerBuffer<U4>, Refused> {
@@ -87,88 +85,129 @@ fn cut(sink: &mut Recorder) -> Result<EagerBuffer<U4>, Refused> {
     Ok(buffer)
 }
 
+// Whether the example's sink took these bytes, and its buffer holds these.
+fn is_example_cut(taken: &[u8], held: &[u8]) -> bool {
+    let mut sink = refusing_from(9);
+    match cut(&mut sink) {
+        Ok(buffer) => sink.taken() == taken && buffer.get_data() == held,
+        Err(_) => false,
+    }
+}
+
 #[test]
 fn example_of_the_page(rt: HostRuntime) {
+    assert!(rt; is_example_cut(&[0, 1, 2, 3, 4, 5, 6, 7, 8, 9, 10, 11], &[12]));
+}
+
+fn are_three_blocks(bytes: &[u8; 13]) -> bool {
+    let mut buffer = EagerBuffer::<U4>::default();
     let mut sink = refusing_from(9);
-    let held = cut(&mut sink);
-    assert!(rt; sink.taken() == [0, 1, 2, 3, 4, 5, 6, 7, 8, 9, 10, 11].as_slice());
-    assert!(rt; matches!(&held, Ok(buffer) if buffer.get_data() == [12].as_slice()));
+    is_cut(&mut buffer, &bytes[..10], &mut sink, &bytes[..8], &[8, 9])
+        && is_cut(&mut buffer, &bytes[10..], &mut sink, &bytes[..12], &[12])
+        && sink.calls == 2
 }
 
 // The blocks of the Rust crate's own example.
 #[test]
 fn two_pieces_make_three_blocks(rt: HostRuntime) {
-    let mut buffer = EagerBuffer::<U4>::default();
-    let mut sink = refusing_from(9);
-    let bytes = [0, 1, 2, 3, 4, 5, 6, 7, 8, 9, 10, 11, 12];
-    assert!(rt; is_cut(&mut buffer, &bytes[..10], &mut sink, &bytes[..8], &[8, 9]));
-    assert!(rt; is_cut(&mut buffer, &bytes[10..], &mut sink, &bytes[..12], &[12]));
-    assert!(rt; sink.calls == 2);
+    assert!(rt; are_three_blocks(&[0, 1, 2, 3, 4, 5, 6, 7, 8, 9, 10, 11, 12]));
+}
+
+fn holds_one_of_four(buffer: &EagerBuffer<U4>, held: &[u8]) -> bool {
+    buffer.get_data() == held
+        && buffer.get_pos() == 1
+        && buffer.size() == 4
+        && buffer.remaining() == 3
+}
+
+fn keeps_a_copy(alloc: Global, held: &[u8], block: &[u8]) -> bool
+    requires { length held.now < 4 }
+{
+    let mut buffer = EagerBuffer::<U4>::new(held);
+    let copy = buffer.clone();
+    pads_to(alloc, &mut buffer, block) && holds_one_of_four(&copy, held)
 }
 
 #[test]
 fn a_rest_is_padded_with_zeros_and_a_copy_keeps_it(rt: HostRuntime) {
-    let mut buffer = EagerBuffer::<U4>::new(&[12]);
-    let copy = buffer.clone();
-    assert!(rt; pads_to(rt.alloc(), &mut buffer, &[12, 0, 0, 0]) == Ok(true));
-    assert!(rt; copy.get_data() == [12].as_slice());
-    assert!(rt; copy.get_pos() == 1 && copy.size() == 4 && copy.remaining() == 3);
+    assert!(rt; keeps_a_copy(rt.alloc(), &[12], &[12, 0, 0, 0]));
+}
+
+fn is_full_block_kept(block: &[u8]) -> bool {
+    let mut buffer = LazyBuffer::<U4>::default();
+    let mut sink = refusing_from(9);
+    is_cut(&mut buffer, block, &mut sink, &[], block)
+        && sink.calls == 0
+        && buffer.remaining() == 0
+        && is_cut(&mut buffer, &[], &mut sink, &[], block)
+        && sink.calls == 0
 }
 
 #[test]
 fn a_lazy_buffer_keeps_a_full_block(rt: HostRuntime) {
-    let mut buffer = LazyBuffer::<U4>::default();
-    let mut sink = refusing_from(9);
-    let block = [0, 1, 2, 3];
-    assert!(rt; is_cut(&mut buffer, &block, &mut sink, &[], &block));
-    assert!(rt; sink.calls == 0 && buffer.remaining() == 0);
-    assert!(rt; is_cut(&mut buffer, &[], &mut sink, &[], &block));
-    assert!(rt; sink.calls == 0);
+    assert!(rt; is_full_block_kept(&[0, 1, 2, 3]));
 }
 
-#[test]
-fn a_lazy_buffer_hands_a_full_block_out_once_more_bytes_come(rt: HostRuntime) {
-    let mut buffer = LazyBuffer::<U4>::new(&[0, 1, 2, 3]);
+fn is_full_block_handed_out(alloc: Global, bytes: &[u8; 12]) -> bool {
+    let mut buffer = LazyBuffer::<U4>::new(&bytes[..4]);
     let mut sink = refusing_from(9);
-    let bytes = [0, 1, 2, 3, 4, 5, 6, 7, 8, 9, 10, 11];
-    assert!(rt; is_cut(&mut buffer, &bytes[4..5], &mut sink, &bytes[..4], &[4]));
-    assert!(rt;
-        is_cut(
+    is_cut(&mut buffer, &bytes[4..5], &mut sink, &bytes[..4], &[4])
+        && is_cut(
             &mut buffer,
             &bytes[5..],
             &mut sink,
             &bytes[..8],
-            &bytes[8..]
+            &bytes[8..],
         )
-    );
-    assert!(rt; pads_to(rt.alloc(), &mut buffer, &[8, 9, 10, 11]) == Ok(true));
+        && pads_to(alloc, &mut buffer, &[8, 9, 10, 11])
+}
+
+#[test]
+fn a_lazy_buffer_hands_a_full_block_out_once_more_bytes_come(rt: HostRuntime) {
+    let bytes = [0, 1, 2, 3, 4, 5, 6, 7, 8, 9, 10, 11];
+    assert!(rt; is_full_block_handed_out(rt.alloc(), &bytes));
+}
+
+// Whether a buffer of two bytes and a sink have these once the input is taken in.
+fn is_stream_of(input: &[u8], taken: &[u8], held: &[u8]) -> bool {
+    let mut buffer = LazyBuffer::<U4>::new(&[0, 1]);
+    let mut sink = refusing_from(9);
+    unrefused_stream(&mut buffer, input, &mut sink);
+    sink.taken() == taken && buffer.get_data() == held
 }
 
 #[test]
 fn what_is_taken_and_what_is_held_are_the_stream(rt: HostRuntime) {
-    let mut buffer = LazyBuffer::<U4>::new(&[0, 1]);
-    let mut sink = refusing_from(9);
-    unrefused_stream(&mut buffer, &[2, 3, 4, 5, 6, 7, 8, 9], &mut sink);
-    assert!(rt; sink.taken() == [0, 1, 2, 3, 4, 5, 6, 7].as_slice());
-    assert!(rt; buffer.get_data() == [8, 9].as_slice());
+    let input = [2, 3, 4, 5, 6, 7, 8, 9];
+    assert!(rt; is_stream_of(&input, &[0, 1, 2, 3, 4, 5, 6, 7], &[8, 9]));
 }
 
-// What a new buffer says of these bytes: that it holds them, or its error.
-fn new_buffer<K: BufferKind>(bytes: &[u8]) -> Result<bool, Error> {
-    Ok(BlockBuffer::<U4, K>::try_new(bytes)?.get_data() == bytes)
+// Whether a new buffer holds these bytes.
+fn is_new<K: BufferKind>(bytes: &[u8]) -> bool {
+    match BlockBuffer::<U4, K>::try_new(bytes) {
+        Ok(buffer) => buffer.get_data() == bytes,
+        Err(_) => false,
+    }
+}
+
+// Whether a new buffer refuses these bytes by its error.
+fn is_refused<K: BufferKind>(bytes: &[u8]) -> bool {
+    matches!(BlockBuffer::<U4, K>::try_new(bytes), Err(Error))
 }
 
 #[test]
 fn a_lazy_buffer_holds_at_most_a_block(rt: HostRuntime) {
-    assert!(rt; new_buffer::<Lazy>(&[1, 2, 3, 4, 5]) == Err(Error));
-    assert!(rt; new_buffer::<Lazy>(&[1, 2, 3, 4]) == Ok(true));
+    assert!(rt; is_new::<Lazy>(&[1, 2, 3, 4]) && is_refused::<Lazy>(&[1, 2, 3, 4, 5]));
+}
+
+fn is_new_empty() -> bool {
+    EagerBuffer::<U4>::new(&[]).get_pos() == 0
 }
 
 #[test]
 fn an_eager_buffer_holds_fewer_bytes_than_a_block(rt: HostRuntime) {
-    assert!(rt; new_buffer::<Eager>(&[1, 2, 3, 4]) == Err(Error));
-    assert!(rt; new_buffer::<Eager>(&[1, 2, 255]) == Ok(true));
-    assert!(rt; EagerBuffer::<U4>::new(&[]).get_pos() == 0);
+    assert!(rt; is_new::<Eager>(&[1, 2, 255]) && is_refused::<Eager>(&[1, 2, 3, 4]));
+    assert!(rt; is_new_empty());
 }
 
 // Whether a sink took these bytes in a padding of blocks of 8 bytes.
@@ -182,46 +221,60 @@ fn is_padded_as(held: &[u8], delim: u8, suffix: &[u8], refuses_from: u64, expect
     sink.taken() == expected
 }
 
+fn is_padding_of_one_block() -> bool {
+    is_padded_as(&[1, 2], 0x80, &[0, 5], 9, &[1, 2, 128, 0, 0, 0, 0, 5])
+        && is_padded_as(&[1, 2, 3, 4, 5], 6, &[7, 8], 9, &[1, 2, 3, 4, 5, 6, 7, 8])
+}
+
 #[test]
 fn paddings_of_one_block(rt: HostRuntime) {
-    let expected = [1, 2, 128, 0, 0, 0, 0, 5];
-    assert!(rt; is_padded_as(&[1, 2], 0x80, &[0, 5], 9, &expected));
-    let expected = [1, 2, 3, 4, 5, 6, 7, 8];
-    assert!(rt; is_padded_as(&[1, 2, 3, 4, 5], 6, &[7, 8], 9, &expected));
+    assert!(rt; is_padding_of_one_block());
+}
+
+fn is_padding_of_two_blocks(held: &[u8; 6], expected: &[u8; 16]) -> bool {
+    is_padded_as(held, 7, &[8, 9], 9, expected) && is_padded_as(held, 7, &[8, 9], 1, &expected[..8])
 }
 
 #[test]
 fn paddings_of_two_blocks(rt: HostRuntime) {
-    let held = [1, 2, 3, 4, 5, 6];
     let expected = [1, 2, 3, 4, 5, 6, 7, 0, 0, 0, 0, 0, 0, 0, 8, 9];
-    assert!(rt; is_padded_as(&held, 7, &[8, 9], 9, &expected));
-    assert!(rt; is_padded_as(&held, 7, &[8, 9], 1, &expected[..8]));
+    assert!(rt; is_padding_of_two_blocks(&[1, 2, 3, 4, 5, 6], &expected));
+}
+
+fn is_padded_big_endian(expected: &[u8]) -> bool {
+    let mut sink = refusing_from(9);
+    let _ = EagerBuffer::<U16>::new(&[9]).len64_padding_be(0x0102, &mut sink);
+    sink.taken() == expected
 }
 
 #[test]
 fn a_padding_by_a_length_big_endian(rt: HostRuntime) {
+    assert!(rt; is_padded_big_endian(&[9, 128, 0, 0, 0, 0, 0, 0, 0, 0, 0, 0, 0, 0, 1, 2]));
+}
+
+fn is_padded_little_endian(expected: &[u8]) -> bool {
     let mut sink = refusing_from(9);
-    let _ = EagerBuffer::<U16>::new(&[9]).len64_padding_be(0x0102, &mut sink);
-    let expected = [9, 128, 0, 0, 0, 0, 0, 0, 0, 0, 0, 0, 0, 0, 1, 2];
-    assert!(rt; sink.taken() == expected.as_slice());
+    let _ = EagerBuffer::<U16>::new(&[9]).len64_padding_le(0x0102, &mut sink);
+    sink.taken() == expected
 }
 
 #[test]
 fn a_padding_by_a_length_little_endian(rt: HostRuntime) {
+    assert!(rt; is_padded_little_endian(&[9, 128, 0, 0, 0, 0, 0, 0, 2, 1, 0, 0, 0, 0, 0, 0]));
+}
+
+fn is_padded_by_long_length(expected: &[u8]) -> bool {
     let mut sink = refusing_from(9);
-    let _ = EagerBuffer::<U16>::new(&[9]).len64_padding_le(0x0102, &mut sink);
-    let expected = [9, 128, 0, 0, 0, 0, 0, 0, 2, 1, 0, 0, 0, 0, 0, 0];
-    assert!(rt; sink.taken() == expected.as_slice());
+    let _ = EagerBuffer::<U16>::new(&[9]).len128_padding_be(0x0102, &mut sink);
+    sink.taken() == expected
 }
 
 #[test]
 fn a_padding_by_a_long_length(rt: HostRuntime) {
-    let mut sink = refusing_from(9);
-    let _ = EagerBuffer::<U16>::new(&[9]).len128_padding_be(0x0102, &mut sink);
     let mut expected = [0u8; 32];
     expected[..2].copy_from_slice(&[9, 128]);
     expected[30..].copy_from_slice(&[1, 2]);
-    assert!(rt; sink.taken() == expected.as_slice());
+    assert!(rt; is_padded_by_long_length(&expected));
 }
 
 // Whether a sink that refuses from a call on took these bytes of a stream of 9, and how the buffer
@@ -236,12 +289,15 @@ fn is_stream_cut(call: u64, taken: &[u8], is_ok: bool, pos: usize, refusals: u64
         && sink.refusals == refusals
 }
 
+fn is_stream_cut_by_each_call(blocks: &[u8; 8]) -> bool {
+    is_stream_cut(0, &[], false, 0, 1)
+        && is_stream_cut(1, &blocks[..4], false, 0, 1)
+        && is_stream_cut(2, blocks, true, 1, 0)
+}
+
 #[test]
 fn what_a_refusing_sink_took_of_a_stream_is_whole_blocks(rt: HostRuntime) {
-    let blocks = [1, 2, 3, 4, 5, 6, 7, 8];
-    assert!(rt; is_stream_cut(0, &[], false, 0, 1));
-    assert!(rt; is_stream_cut(1, &blocks[..4], false, 0, 1));
-    assert!(rt; is_stream_cut(2, &blocks, true, 1, 0));
+    assert!(rt; is_stream_cut_by_each_call(&[1, 2, 3, 4, 5, 6, 7, 8]));
 }
 
 // Whether a sink that refuses from a call on took these bytes of a padding.
@@ -256,29 +312,38 @@ fn is_padding_cut<BS: ArraySize>(suffix: &[u8], call: u64, taken: &[u8], is_ok: 
     sink.taken() == taken && result.is_ok() == is_ok && buffer.get_pos() == 0
 }
 
+fn is_one_block_cut(block: &[u8; 8]) -> bool {
+    is_padding_cut::<U8>(&[9], 0, &[], false)
+        && is_padding_cut::<U8>(&[9], 1, block, true)
+        && is_padding_cut::<U8>(&[9], 2, block, true)
+}
+
 #[test]
 fn what_a_refusing_sink_took_of_a_padding_in_one_block(rt: HostRuntime) {
-    let block = [1, 2, 6, 0, 0, 0, 0, 9];
-    assert!(rt; is_padding_cut::<U8>(&[9], 0, &[], false));
-    assert!(rt; is_padding_cut::<U8>(&[9], 1, &block, true));
-    assert!(rt; is_padding_cut::<U8>(&[9], 2, &block, true));
+    assert!(rt; is_one_block_cut(&[1, 2, 6, 0, 0, 0, 0, 9]));
+}
+
+fn are_two_blocks_cut(blocks: &[u8; 8]) -> bool {
+    is_padding_cut::<U4>(&[8, 9], 0, &[], false)
+        && is_padding_cut::<U4>(&[8, 9], 1, &blocks[..4], false)
+        && is_padding_cut::<U4>(&[8, 9], 2, blocks, true)
 }
 
 #[test]
 fn what_a_refusing_sink_took_of_a_padding_in_two_blocks_is_whole_blocks(rt: HostRuntime) {
-    let blocks = [1, 2, 6, 0, 0, 0, 8, 9];
-    assert!(rt; is_padding_cut::<U4>(&[8, 9], 0, &[], false));
-    assert!(rt; is_padding_cut::<U4>(&[8, 9], 1, &blocks[..4], false));
-    assert!(rt; is_padding_cut::<U4>(&[8, 9], 2, &blocks, true));
+    assert!(rt; are_two_blocks_cut(&[1, 2, 6, 0, 0, 0, 8, 9]));
 }
 
-fn prints(alloc: Global, expected: &str) -> Result<bool, AllocError> {
-    Ok(format!(in alloc; "{Error}")?.as_str() == expected)
+fn prints(alloc: Global, expected: &str) -> bool {
+    match format!(in alloc; "{Error}") {
+        Ok(text) => text.as_str() == expected,
+        Err(_) => false,
+    }
 }
 
 #[test]
 fn the_error_has_a_text(rt: HostRuntime) {
-    assert!(rt; prints(rt.alloc(), "Block buffer error") == Ok(true));
+    assert!(rt; prints(rt.alloc(), "Block buffer error"));
 }
 
 // Whether a sink in memory took the first bytes of two pieces, and refused the others.
@@ -295,14 +360,12 @@ fn a_sink_in_memory_keeps_what_it_takes(rt: HostRuntime) {
     assert!(rt; keeps(&mut sink, &[0, 1, 2, 3, 4, 5, 6, 7], 0));
 }
 
+// The same of a sink that refuses after so many calls.
+fn keeps_after(alloc: Global, calls: u64, taken: &[u8], refusals: u64) -> bool {
+    keeps(&mut VecSink::refusing_after(alloc, calls), taken, refusals)
+}
+
 #[test]
 fn a_sink_in_memory_refuses_after_its_calls(rt: HostRuntime) {
-    assert!(rt;
-        keeps(
-            &mut VecSink::refusing_after(rt.alloc(), 1),
-            &[0, 1, 2, 3],
-            1
-        )
-    );
-    assert!(rt; keeps(&mut VecSink::refusing_after(rt.alloc(), 0), &[], 2));
+    assert!(rt; keeps_after(rt.alloc(), 1, &[0, 1, 2, 3], 1) && keeps_after(rt.alloc(), 0, &[], 2));
 }

@@ -38,52 +38,83 @@ fn with_two_unread() -> ReadBuffer<U4> {
     buffer
 }
 
-#[test]
-fn pieces_follow_one_another(rt: HostRuntime) {
-    let mut generator = from_zero();
-    let mut buffer = ReadBuffer::<U4>::default();
+// Whether the next three bytes are these.
+fn reads(buffer: &mut ReadBuffer<U4>, generator: &mut Counting, expected: &[u8; 3]) -> bool {
     let mut out = [0; 3];
-    buffer.read(&mut out, &mut generator);
-    assert!(rt; out == [0, 1, 2]);
-    buffer.read(&mut out, &mut generator);
-    assert!(rt; out == [3, 4, 5]);
-    assert!(rt; buffer.get_pos() == 2 && buffer.remaining() == 2 && buffer.size() == 4);
+    buffer.read(&mut out, generator);
+    out == *expected
 }
 
-fn is_serialized_as(alloc: Global, expected: &[u8]) -> Result<bool, AllocError> {
-    Ok(with_two_unread().serialize(alloc)?.as_slice() == expected)
+fn reads_two_pieces() -> bool {
+    let mut generator = from_zero();
+    let mut buffer = ReadBuffer::<U4>::default();
+    reads(&mut buffer, &mut generator, &[0, 1, 2])
+        && reads(&mut buffer, &mut generator, &[3, 4, 5])
+        && buffer.get_pos() == 2
+        && buffer.remaining() == 2
+        && buffer.size() == 4
+}
+
+#[test]
+fn pieces_follow_one_another(rt: HostRuntime) {
+    assert!(rt; reads_two_pieces());
+}
+
+fn is_serialized_as(alloc: Global, expected: &[u8]) -> bool {
+    match with_two_unread().serialize(alloc) {
+        Ok(bytes) => bytes.as_slice() == expected,
+        Err(_) => false,
+    }
 }
 
 #[test]
 fn a_read_buffer_is_its_position_zeros_and_unread_bytes(rt: HostRuntime) {
-    assert!(rt; is_serialized_as(rt.alloc(), &[2, 0, 6, 7]) == Ok(true));
+    assert!(rt; is_serialized_as(rt.alloc(), &[2, 0, 6, 7]));
+}
+
+fn reads_cached(buffer: &mut ReadBuffer<U4>, n: usize, expected: &[u8]) -> bool {
+    buffer.read_cached(n) == expected
+}
+
+fn reads_cached_bytes_once() -> bool {
+    let mut buffer = with_two_unread();
+    reads_cached(&mut buffer, 1, &[6])
+        && reads_cached(&mut buffer, 9, &[7])
+        && reads_cached(&mut buffer, 1, &[])
 }
 
 #[test]
 fn cached_bytes_are_read_once(rt: HostRuntime) {
+    assert!(rt; reads_cached_bytes_once());
+}
+
+fn reads_cached_of_copy(expected: &[u8]) -> bool {
     let mut buffer = with_two_unread();
-    assert!(rt; buffer.read_cached(1) == [6].as_slice());
-    assert!(rt; buffer.read_cached(9) == [7].as_slice());
-    assert!(rt; buffer.read_cached(1).is_empty());
+    let mut copy = buffer.clone();
+    buffer.read_cached(2);
+    copy.read_cached(2) == expected
 }
 
 #[test]
 fn a_copy_has_unread_bytes_of_its_own(rt: HostRuntime) {
-    let mut buffer = with_two_unread();
-    let mut copy = buffer.clone();
-    buffer.read_cached(2);
-    assert!(rt; copy.read_cached(2) == [6, 7].as_slice());
+    assert!(rt; reads_cached_of_copy(&[6, 7]));
 }
 
-#[test]
-fn two_pieces_are_as_one(rt: HostRuntime) {
+fn reads_in_two() -> bool {
     let mut generator = from_zero();
     let mut buffer = ReadBuffer::<U4>::default();
     let mut first = [0; 3];
     let mut second = [0; 6];
     read_in_two(&mut buffer, &mut first, &mut second, &mut generator);
-    assert!(rt; first == [0, 1, 2] && second == [3, 4, 5, 6, 7, 8]);
-    assert!(rt; generator.blocks == 3 && buffer.remaining() == 3);
+    first == [0, 1, 2]
+        && second == [3, 4, 5, 6, 7, 8]
+        && generator.blocks == 3
+        && buffer.remaining() == 3
+}
+
+#[test]
+fn two_pieces_are_as_one(rt: HostRuntime) {
+    assert!(rt; reads_in_two());
 }
 
 // Whether the bytes count up from the first.
@@ -122,42 +153,56 @@ fn no_block_is_made_that_is_not_needed(rt: HostRuntime) {
     }
 }
 
-#[test]
-fn no_byte_written_makes_no_block(rt: HostRuntime) {
+fn writes_nothing() -> bool {
     let mut generator = from_zero();
     let mut buffer = ReadBuffer::<U4>::default();
     buffer.write_block(&mut generator, &mut []);
-    assert!(rt; generator.blocks == 0 && buffer.remaining() == 0);
+    generator.blocks == 0 && buffer.remaining() == 0
 }
 
 #[test]
-fn a_written_block_replaces_what_was_unread(rt: HostRuntime) {
+fn no_byte_written_makes_no_block(rt: HostRuntime) {
+    assert!(rt; writes_nothing());
+}
+
+fn replaces_unread() -> bool {
     let mut generator = from_zero();
     let mut buffer = ReadBuffer::<U4>::default();
     let mut out = [9; 4];
     buffer.write_block(&mut generator, &mut out[..1]);
-    assert!(rt; out == [0, 9, 9, 9]);
+    let is_first = out == [0, 9, 9, 9];
     buffer.write_block(&mut generator, &mut out[..3]);
-    assert!(rt; out == [4, 5, 6, 9]);
-    assert!(rt; buffer.read_cached(4) == [7].as_slice());
+    is_first && out == [4, 5, 6, 9] && reads_cached(&mut buffer, 4, &[7])
 }
 
 #[test]
-fn a_whole_written_block_leaves_nothing_unread(rt: HostRuntime) {
+fn a_written_block_replaces_what_was_unread(rt: HostRuntime) {
+    assert!(rt; replaces_unread());
+}
+
+fn writes_whole_block(expected: &[u8; 4]) -> bool {
     let mut generator = Counting { next: 8, blocks: 2 };
     let mut buffer = ReadBuffer::<U4>::default();
     let mut out = [9; 4];
     buffer.write_block(&mut generator, &mut out);
-    assert!(rt; out == [8, 9, 10, 11]);
-    assert!(rt; buffer.remaining() == 0);
+    out == *expected && buffer.remaining() == 0
+}
+
+#[test]
+fn a_whole_written_block_leaves_nothing_unread(rt: HostRuntime) {
+    assert!(rt; writes_whole_block(&[8, 9, 10, 11]));
+}
+
+fn forgets_unread() -> bool {
+    let mut buffer = ReadBuffer::<U4>::default();
+    buffer.write_block(&mut from_zero(), &mut [9]);
+    buffer.reset();
+    buffer.remaining() == 0 && buffer.get_pos() == 4
 }
 
 #[test]
 fn a_reset_forgets_what_was_unread(rt: HostRuntime) {
-    let mut buffer = ReadBuffer::<U4>::default();
-    buffer.write_block(&mut from_zero(), &mut [9]);
-    buffer.reset();
-    assert!(rt; buffer.remaining() == 0 && buffer.get_pos() == 4);
+    assert!(rt; forgets_unread());
 }
 
 // How many bytes are unread in the read buffer that gave these, if one did.

@@ -122,59 +122,86 @@ fn new_sum() -> CoreWrapper<Summing>
     CoreWrapper::from_core(Summing { total: 0, count: 0 })
 }
 
-#[test]
-fn sums_of_pieces(rt: HostRuntime) {
+fn is_sum_of_two(first: &[u8], second: &[u8], expected: u8) -> bool
+    requires { length first.now + length second.now ≤ 1000 }
+{
     let mut out = [0u8];
-    digest_of_two(new_sum(), b"abcde", b"fg", &mut out);
-    assert!(rt; out[0] == 188);
-    digest_of_two(new_sum(), b"", b"", &mut out);
-    assert!(rt; out[0] == 0);
+    digest_of_two(new_sum(), first, second, &mut out);
+    out[0] == expected
 }
 
-// The example of the crate's first page.
 #[test]
-fn digests_on_the_way_and_after_a_reset(rt: HostRuntime) {
+fn sums_of_pieces(rt: HostRuntime) {
+    assert!(rt; is_sum_of_two(b"abcde", b"fg", 188) && is_sum_of_two(b"", b"", 0));
+}
+
+fn are_digests_on_the_way() -> bool {
     let mut hash = new_sum();
     hash.update(&[1, 2, 3, 4, 5]);
     hash.update(&[6]);
     let mut digest = [0];
     hash.finalize_with(&[9], &mut digest);
-    assert!(rt; digest == [30]);
+    let is_with_tail = digest == [30];
     hash.finalize_into_reset(&mut digest);
-    assert!(rt; digest == [21]);
+    is_with_tail && digest == [21] && is_digest_after_reset(hash)
+}
+
+fn is_digest_after_reset(mut hash: CoreWrapper<Summing>) -> bool
+    requires { hash.core.count + length hash.held ≡ 0 }
+{
+    let mut digest = [0];
     hash.update(&[7]);
     hash.finalize_into(&mut digest);
-    assert!(rt; digest == [7]);
+    digest == [7]
+}
+
+// The example of the crate's first page.
+#[test]
+fn digests_on_the_way_and_after_a_reset(rt: HostRuntime) {
+    assert!(rt; are_digests_on_the_way());
+}
+
+fn is_copy_alone() -> bool {
+    let mut out = [0u8];
+    let mut hash = new_sum();
+    hash.update(b"abcde");
+    let is_counted = hash.absorbed() == 5;
+    let mut copy = hash.clone();
+    copy.update(b"fg");
+    copy.finalize_into(&mut out);
+    let is_of_copy = out[0] == 188;
+    hash.finalize_with(b"fg", &mut out);
+    is_counted && is_of_copy && out[0] == 188
 }
 
 #[test]
 fn a_clone_goes_on_alone(rt: HostRuntime) {
+    assert!(rt; is_copy_alone());
+}
+
+fn is_reset() -> bool {
     let mut out = [0u8];
     let mut hash = new_sum();
     hash.update(b"abcde");
-    assert!(rt; hash.absorbed() == 5);
-    let mut copy = hash.clone();
-    copy.update(b"fg");
-    copy.finalize_into(&mut out);
-    assert!(rt; out[0] == 188);
     hash.finalize_with(b"fg", &mut out);
-    assert!(rt; out[0] == 188);
+    let is_with_tail = out[0] == 188;
+    hash.finalize_into_reset(&mut out);
+    is_with_tail && out[0] == 239 && hash.absorbed() == 0 && is_reset_again(hash)
+}
+
+fn is_reset_again(mut hash: CoreWrapper<Summing>) -> bool
+    requires { hash.core.count + length hash.held ≡ 0 }
+{
+    let mut out = [1u8];
+    hash.update(b"a");
+    hash.reset();
+    hash.finalize_into(&mut out);
+    out[0] == 0
 }
 
 #[test]
 fn a_hash_begins_anew_after_a_reset(rt: HostRuntime) {
-    let mut out = [0u8];
-    let mut hash = new_sum();
-    hash.update(b"abcde");
-    hash.finalize_with(b"fg", &mut out);
-    assert!(rt; out[0] == 188);
-    hash.finalize_into_reset(&mut out);
-    assert!(rt; out[0] == 239);
-    assert!(rt; hash.absorbed() == 0);
-    hash.update(b"a");
-    hash.reset();
-    hash.finalize_into(&mut out);
-    assert!(rt; out[0] == 0);
+    assert!(rt; is_reset());
 }
 
 // Whether `der` writes these bytes for the arcs.
@@ -206,29 +233,50 @@ fn refusal_of(arcs: &[u32]) -> Option<OidError> {
     ObjectIdentifier::from_arcs(arcs).err()
 }
 
+fn is_der(id: &ObjectIdentifier, expected: &[u8]) -> bool {
+    let mut out = [0; 41];
+    let count = id.der(&mut out);
+    &out[..count] == expected
+}
+
 #[test]
 fn object_identifier_of_sha512(rt: HostRuntime) {
-    let mut out = [0; 41];
-    let count = ObjectIdentifier::sha512().der(&mut out);
     let expected = [6, 9, 0x60, 0x86, 0x48, 1, 0x65, 3, 4, 2, 3];
-    assert!(rt; out[..count] == expected[..]);
+    assert!(rt; is_der(&ObjectIdentifier::sha512(), &expected));
 }
 
 #[test]
 fn object_identifier_of_sha256(rt: HostRuntime) {
     let arcs = [2, 16, 840, 1, 101, 3, 4, 2, 1];
-    assert!(rt; has_der(&arcs, &[6, 9, 0x60, 0x86, 0x48, 1, 0x65, 3, 4, 2, 1]));
-    assert!(rt; has_arcs(&arcs));
+    let octets = [6, 9, 0x60, 0x86, 0x48, 1, 0x65, 3, 4, 2, 1];
+    assert!(rt; has_der(&arcs, &octets) && has_arcs(&arcs));
+}
+
+fn is_too_few(arcs: &[u32]) -> bool {
+    refusal_of(arcs) == Some(OidError::TooFew)
+}
+
+fn is_out_of_range(arcs: &[u32]) -> bool {
+    refusal_of(arcs) == Some(OidError::Range)
+}
+
+fn are_refused() -> bool {
+    is_too_few(&[])
+        && is_too_few(&[2])
+        && is_too_few(&[3])
+        && is_out_of_range(&[1, 40])
+        && is_out_of_range(&[0, 40])
+        && is_out_of_range(&[3, 1])
 }
 
 #[test]
 fn arcs_that_are_refused(rt: HostRuntime) {
-    assert!(rt; refusal_of(&[]) == Some(OidError::TooFew));
-    assert!(rt; refusal_of(&[2]) == Some(OidError::TooFew));
-    assert!(rt; refusal_of(&[3]) == Some(OidError::TooFew));
-    assert!(rt; refusal_of(&[1, 40]) == Some(OidError::Range));
-    assert!(rt; refusal_of(&[0, 40]) == Some(OidError::Range));
-    assert!(rt; refusal_of(&[3, 1]) == Some(OidError::Range));
+    assert!(rt; are_refused());
+}
+
+// Whether 40 arcs are taken, and 41 refused as too long.
+fn is_too_long_by_one(arcs: &[u32; 41]) -> bool {
+    refusal_of(&arcs[..40]) == None && refusal_of(arcs) == Some(OidError::TooLong)
 }
 
 #[test]
@@ -236,40 +284,54 @@ fn more_than_39_octets_are_refused(rt: HostRuntime) {
     let mut ones = [1u32; 41];
     ones[0] = 2;
     ones[1] = 0;
-    assert!(rt; refusal_of(&ones[..40]) == None);
-    assert!(rt; refusal_of(&ones) == Some(OidError::TooLong));
+    assert!(rt; is_too_long_by_one(&ones));
     ones[0] = 3;
-    assert!(rt; refusal_of(&ones) == Some(OidError::Range));
+    assert!(rt; is_out_of_range(&ones));
+}
+
+fn are_octets_of_two_arcs() -> bool {
+    has_der(&[0, 0], &[6, 1, 0])
+        && has_der(&[0, 39], &[6, 1, 39])
+        && has_der(&[1, 0], &[6, 1, 40])
+        && has_der(&[1, 39], &[6, 1, 79])
+        && has_der(&[2, 0], &[6, 1, 80])
+}
+
+fn are_octets_under_joint() -> bool {
+    has_der(&[2, 40], &[6, 1, 120])
+        && has_der(&[2, 47], &[6, 1, 127])
+        && has_der(&[2, 48], &[6, 2, 0x81, 0])
+        && has_der(&[2, u32::MAX], &[6, 5, 0x90, 0x80, 0x80, 0x80, 0x4f])
 }
 
 #[test]
 fn octets_of_two_arcs_at_the_bounds(rt: HostRuntime) {
-    assert!(rt; has_der(&[0, 0], &[6, 1, 0]));
-    assert!(rt; has_der(&[0, 39], &[6, 1, 39]));
-    assert!(rt; has_der(&[1, 0], &[6, 1, 40]));
-    assert!(rt; has_der(&[1, 39], &[6, 1, 79]));
-    assert!(rt; has_der(&[2, 0], &[6, 1, 80]));
-    assert!(rt; has_der(&[2, 40], &[6, 1, 120]));
-    assert!(rt; has_der(&[2, 47], &[6, 1, 127]));
-    assert!(rt; has_der(&[2, 48], &[6, 2, 0x81, 0]));
-    assert!(rt; has_der(&[2, u32::MAX], &[6, 5, 0x90, 0x80, 0x80, 0x80, 0x4f]));
+    assert!(rt; are_octets_of_two_arcs() && are_octets_under_joint());
+}
+
+fn are_octets_of_third_arcs() -> bool {
+    has_der(&[1, 2, 127], &[6, 2, 42, 127])
+        && has_der(&[1, 2, 128], &[6, 3, 42, 0x81, 0])
+        && has_der(&[1, 2, 16383], &[6, 3, 42, 0xff, 0x7f])
+        && has_der(&[1, 2, 16384], &[6, 4, 42, 0x81, 0x80, 0])
+        && has_der(&[1, 2, u32::MAX], &[6, 6, 42, 0x8f, 0xff, 0xff, 0xff, 0x7f])
 }
 
 #[test]
 fn octets_of_third_arcs_at_the_bounds(rt: HostRuntime) {
-    assert!(rt; has_der(&[1, 2, 127], &[6, 2, 42, 127]));
-    assert!(rt; has_der(&[1, 2, 128], &[6, 3, 42, 0x81, 0]));
-    assert!(rt; has_der(&[1, 2, 16383], &[6, 3, 42, 0xff, 0x7f]));
-    assert!(rt; has_der(&[1, 2, 16384], &[6, 4, 42, 0x81, 0x80, 0]));
-    assert!(rt; has_der(&[1, 2, u32::MAX], &[6, 6, 42, 0x8f, 0xff, 0xff, 0xff, 0x7f]));
+    assert!(rt; are_octets_of_third_arcs());
+}
+
+fn have_arcs_at_the_bounds() -> bool {
+    has_arcs(&[0, 0])
+        && has_arcs(&[0, 39])
+        && has_arcs(&[1, 0])
+        && has_arcs(&[1, 39, 0, 127, 128, 16383, 16384])
+        && has_arcs(&[2, 0, 2097151, 2097152, 268435455, 268435456])
+        && has_arcs(&[2, u32::MAX, u32::MAX, u32::MAX - 1])
 }
 
 #[test]
 fn arcs_at_the_bounds_come_back(rt: HostRuntime) {
-    assert!(rt; has_arcs(&[0, 0]));
-    assert!(rt; has_arcs(&[0, 39]));
-    assert!(rt; has_arcs(&[1, 0]));
-    assert!(rt; has_arcs(&[1, 39, 0, 127, 128, 16383, 16384]));
-    assert!(rt; has_arcs(&[2, 0, 2097151, 2097152, 268435455, 268435456]));
-    assert!(rt; has_arcs(&[2, u32::MAX, u32::MAX, u32::MAX - 1]));
+    assert!(rt; have_arcs_at_the_bounds());
 }

@@ -2,6 +2,7 @@
 //! `hashlib`.
 
 ghost use Rattle.std.specs.Prelude.{◌≡◌, ◌+◌, ◌-◌, ◌^◌, ◌≤◌, ℕ, List, [], length};
+ghost use Rattle.hmac_sha256.specs.Hash.{absorbed_bytes};
 
 use digest_core::{AlgorithmName, AssociatedOid, FixedOutput, FixedOutputReset, Reset, Update};
 use hmac_sha256::{Hash, WrappedHash};
@@ -49,10 +50,10 @@ fn is_wrapped_digest(first: &[u8], second: &[u8], expected: &[u8; 32]) -> bool
 
 #[test]
 fn core_and_hash_give_published_digests(rt: HostRuntime) {
-    assert!(rt; is_digest(b"a", b"bc", &OF_ABC));
-    assert!(rt; is_digest(b"", b"", &OF_NOTHING));
-    assert!(rt; is_wrapped_digest(b"a", b"bc", &OF_ABC));
-    assert!(rt; is_wrapped_digest(b"", b"", &OF_NOTHING));
+    assert!(rt; is_digest(b"a", b"bc", &OF_ABC) && is_digest(b"", b"", &OF_NOTHING));
+    assert!(rt;
+        is_wrapped_digest(b"a", b"bc", &OF_ABC) && is_wrapped_digest(b"", b"", &OF_NOTHING)
+    );
 }
 
 #[test]
@@ -67,52 +68,79 @@ fn a_digest_is_the_same_wherever_pieces_are_cut(rt: HostRuntime) {
     }
 }
 
+// Whether the digest is this one where the tail is taken in at the end, and by a clone.
+fn is_digest_with_tail(first: &[u8], tail: &[u8], expected: &[u8; 32]) -> bool
+    requires { length first.now + length tail.now ≤ 200 }
+{
+    let mut hash = WrappedHash::from_core(Hash::new());
+    hash.update(first);
+    let mut digest = [0; 32];
+    hash.finalize_with(tail, &mut digest);
+    digest == *expected && is_digest_of_clone(&hash, tail, expected)
+}
+
+fn is_digest_of_clone(hash: &WrappedHash, tail: &[u8], expected: &[u8; 32]) -> bool
+    requires { absorbed_bytes hash.now.core + length hash.now.held + length tail.now ≤ 200 }
+{
+    let mut digest = [0; 32];
+    let mut copy = hash.clone();
+    copy.update(tail);
+    copy.finalize_into(&mut digest);
+    digest == *expected
+}
+
 #[test]
 fn tails_of_a_wrapped_hash(rt: HostRuntime) {
     let bytes = [0x2a; 200];
     for cut in [0usize, 30, 64, 145, 199] {
         let (first, tail) = bytes.split_at(cut);
-        let mut hash = WrappedHash::from_core(Hash::new());
-        hash.update(first);
-        let mut digest = [0; 32];
-        hash.finalize_with(tail, &mut digest);
-        assert!(rt; digest == OF_200_BYTES, "tail from {cut}");
-        let mut copy = hash.clone();
-        copy.update(tail);
-        copy.finalize_into(&mut digest);
-        assert!(rt; digest == OF_200_BYTES, "clone at {cut}");
+        assert!(rt;
+            is_digest_with_tail(first, tail, &OF_200_BYTES),
+            "cut at {cut}"
+        );
     }
 }
 
-#[test]
-fn a_reset_begins_anew(rt: HostRuntime) {
+fn is_reset() -> bool {
     let mut digest = [0; 32];
     let mut hash = WrappedHash::from_core(Hash::new());
     hash.update(b"abc");
     hash.finalize_into_reset(&mut digest);
-    assert!(rt; digest == OF_ABC);
+    let is_of_abc = digest == OF_ABC;
     hash.finalize_into_reset(&mut digest);
-    assert!(rt; digest == OF_NOTHING);
+    is_of_abc && digest == OF_NOTHING
 }
 
 #[test]
-fn a_reset_of_a_core_begins_anew(rt: HostRuntime) {
+fn a_reset_begins_anew(rt: HostRuntime) {
+    assert!(rt; is_reset());
+}
+
+fn is_core_reset() -> bool {
     let mut digest = [0; 32];
     let mut core = Hash::new();
     Update::update(&mut core, b"abc");
     core.finalize_into_reset(&mut digest);
-    assert!(rt; digest == OF_ABC);
+    let is_of_abc = digest == OF_ABC;
     Update::update(&mut core, b"x");
     core.reset();
     core.finalize_into(&mut digest);
-    assert!(rt; digest == OF_NOTHING);
+    is_of_abc && digest == OF_NOTHING
+}
+
+#[test]
+fn a_reset_of_a_core_begins_anew(rt: HostRuntime) {
+    assert!(rt; is_core_reset());
+}
+
+fn has_octets() -> bool {
+    let mut out = [0; 41];
+    let count = Hash::oid().der(&mut out);
+    let expected = [6, 9, 0x60, 0x86, 0x48, 1, 0x65, 3, 4, 2, 1];
+    out[..count] == expected[..]
 }
 
 #[test]
 fn name_and_object_identifier(rt: HostRuntime) {
-    assert!(rt; Hash::alg_name() == "Sha256");
-    let mut out = [0; 41];
-    let count = Hash::oid().der(&mut out);
-    let expected = [6, 9, 0x60, 0x86, 0x48, 1, 0x65, 3, 4, 2, 1];
-    assert!(rt; out[..count] == expected[..]);
+    assert!(rt; Hash::alg_name() == "Sha256" && has_octets());
 }

@@ -1,5 +1,5 @@
 //! What no clause says: that answers come where there is memory, and what single texts give.
-ghost use Rattle.std.specs.Prelude.{◌++◌, ◌∷◌, [], Some, unwrap_or, slice_get, replicate};
+ghost use Rattle.std.specs.Prelude.{◌<◌, ◌++◌, ◌∷◌, [], Some, unwrap_or, slice_get, replicate};
 ghost use Rattle.std.specs.Option.{option_map};
 ghost use Rattle.line_serve.specs.Fields.{fields};
 
@@ -9,7 +9,6 @@ use line_serve::{
     push_hex_line, push_number_line, read_some, serve_lines, serve_words, write_all,
 };
 use std::alloc::{AllocError, Global};
-use std::test::Fail;
 
 // The longest line that is answered, in bytes.
 const LIMIT: usize = 4_194_304;
@@ -66,122 +65,226 @@ impl Source for Slow {
     }
 }
 
-// The status of a run over this input by `First`, and what was written.
-fn first_fields(
+// Whether a run by `First` ends with this status, and has written this.
+fn runs_to<S: Source>(
     alloc: Global,
-    input: &[u8],
-    source_fails: &[u64],
-    sink_fails: &[u64],
-) -> Result<(u8, Vec<u8>), AllocError> {
-    let mut source = MemSource::new(input.to_vec(alloc)?, source_fails.to_vec(alloc)?);
-    let mut sink = MemSink::new(alloc, sink_fails.to_vec(alloc)?);
-    let status = serve_lines(alloc, &First, &mut source, &mut sink);
-    Ok((status, sink.bytes().to_vec(alloc)?))
+    source: &mut S,
+    sink: &mut MemSink,
+    status: u8,
+    written: &[u8],
+) -> bool {
+    serve_lines(alloc, &First, source, sink) == status && sink.bytes() == written
+}
+
+// Whether `First` answers this input by this output.
+fn answers_all(alloc: Global, input: Vec<u8>, output: &[u8]) -> bool {
+    let mut source = MemSource::new(input, Vec::new(alloc));
+    let mut sink = MemSink::new(alloc, Vec::new(alloc));
+    runs_to(alloc, &mut source, &mut sink, 0, output)
+}
+
+fn answers(alloc: Global, input: &[u8], output: &[u8]) -> bool {
+    match input.to_vec(alloc) {
+        Ok(input) => answers_all(alloc, input, output),
+        Err(_) => false,
+    }
+}
+
+fn answers_in_turn(alloc: Global) -> bool {
+    answers(alloc, b"", b"")
+        && answers(alloc, b"\n\r\n \n", b"")
+        && answers(alloc, b"a b\nc", b"a\nc\n")
+        && answers(alloc, b" a \r\n\rb\r\r\n", b"a\n\rb\r\n")
+        && answers(alloc, b"a\n\nb\n", b"a\nb\n")
+}
+
+fn answers_into_nothing(alloc: Global) -> bool {
+    match b"a\n".to_vec(alloc) {
+        Ok(input) => serve_lines(alloc, &First, &mut QuietSource::new(input), &mut NullSink) == 0,
+        Err(_) => false,
+    }
 }
 
 #[test]
-fn lines_are_answered_in_turn(rt: HostRuntime) -> Result<(), Fail> {
-    for (input, output) in [
-        (b"".as_slice(), b"".as_slice()),
-        (b"\n\r\n \n".as_slice(), b"".as_slice()),
-        (b"a b\nc".as_slice(), b"a\nc\n".as_slice()),
-        (b" a \r\n\rb\r\r\n".as_slice(), b"a\n\rb\r\n".as_slice()),
-        (b"a\n\nb\n".as_slice(), b"a\nb\n".as_slice()),
-    ] {
-        let (status, written) = first_fields(rt.alloc(), input, &[], &[])?;
-        assert_eq!(rt; status, 0);
-        assert_eq!(rt; written.as_slice(), output);
+fn lines_are_answered_in_turn(rt: HostRuntime) {
+    assert!(rt; answers_in_turn(rt.alloc()));
+    assert!(rt; answers_into_nothing(rt.alloc()));
+}
+
+// So many bytes `a`, and then these.
+fn long_line(alloc: Global, length: usize, end: &[u8]) -> Result<Vec<u8>, AllocError> {
+    let mut line = vec![in alloc; b'a'; length]?;
+    line.extend_from_slice(end)?;
+    Ok(line)
+}
+
+// Whether `First` answers a long line by this output.
+fn answers_long(alloc: Global, length: usize, end: &[u8], output: &[u8]) -> bool {
+    match long_line(alloc, length, end) {
+        Ok(input) => answers_all(alloc, input, output),
+        Err(_) => false,
     }
-    let mut source = QuietSource::new(b"a\n".to_vec(rt.alloc())?);
-    assert_eq!(rt;
-        serve_lines(rt.alloc(), &First, &mut source, &mut NullSink),
-        0
-    );
-    Ok(())
+}
+
+// Whether `First` answers this input by so many bytes.
+fn answers_by(alloc: Global, input: Vec<u8>, count: usize) -> bool {
+    let mut source = MemSource::new(input, Vec::new(alloc));
+    let mut sink = MemSink::new(alloc, Vec::new(alloc));
+    serve_lines(alloc, &First, &mut source, &mut sink) == 0 && sink.bytes().len() == count
+}
+
+fn answers_long_by(alloc: Global, length: usize, end: &[u8], count: usize) -> bool {
+    match long_line(alloc, length, end) {
+        Ok(input) => answers_by(alloc, input, count),
+        Err(_) => false,
+    }
+}
+
+fn are_too_long(alloc: Global) -> bool {
+    answers_long(alloc, LIMIT + 1, b"\nb\n", b"error line\nb\n")
+        && answers_long(alloc, LIMIT, b"\r\nb\n", b"error line\nb\n")
+        && answers_long(alloc, LIMIT + 1, b"", b"error line\n")
+}
+
+fn are_not_too_long(alloc: Global) -> bool {
+    answers_long_by(alloc, LIMIT, b"\n", LIMIT + 1)
+        && answers_long_by(alloc, LIMIT - 1, b"\r\n", LIMIT)
 }
 
 #[test]
-fn a_line_is_too_long_past_the_limit(rt: HostRuntime) -> Result<(), Fail> {
-    let alloc = rt.alloc();
-    for (length, end, reply) in [
-        (
-            LIMIT + 1,
-            b"\nb\n".as_slice(),
-            b"error line\nb\n".as_slice(),
-        ),
-        (LIMIT, b"\r\nb\n".as_slice(), b"error line\nb\n".as_slice()),
-        (LIMIT + 1, b"".as_slice(), b"error line\n".as_slice()),
-    ] {
-        let mut input = vec![in alloc; b'a'; length]?;
-        input.extend_from_slice(end)?;
-        let (status, written) = first_fields(alloc, &input, &[], &[])?;
-        assert_eq!(rt; status, 0);
-        assert_eq!(rt; written.as_slice(), reply);
-    }
-    for (length, end) in [(LIMIT, b"\n".as_slice()), (LIMIT - 1, b"\r\n".as_slice())] {
-        let mut input = vec![in alloc; b'a'; length]?;
-        input.extend_from_slice(end)?;
-        let (status, written) = first_fields(alloc, &input, &[], &[])?;
-        assert_eq!(rt; status, 0);
-        assert_eq!(rt; written.len(), length + 1);
-    }
-    Ok(())
+fn a_line_is_too_long_past_the_limit(rt: HostRuntime) {
+    assert!(rt; are_too_long(rt.alloc()));
+    assert!(rt; are_not_too_long(rt.alloc()));
 }
 
 // A thousand lines of seven bytes are two pieces of at most 4096 bytes, and a third read finds the
 // end.
-#[test]
-fn each_fault_in_turn(rt: HostRuntime) -> Result<(), Fail> {
-    let alloc = rt.alloc();
+fn thousand_lines(alloc: Global) -> Result<Vec<u8>, AllocError> {
     let mut input = Vec::new(alloc);
     for _ in 0..1000 {
         input.extend_from_slice(b"ab cd\r\n")?;
     }
-    let (status, whole) = first_fields(alloc, &input, &[], &[])?;
-    assert_eq!(rt; status, 0);
-    assert_eq!(rt; whole.len(), 3000);
-    for (call, status, length) in [(0, 3, 0), (1, 3, 1755), (2, 3, 3000), (3, 0, 3000)] {
-        let (ended, written) = first_fields(alloc, &input, &[call], &[])?;
-        assert_eq!(rt; ended, status);
-        assert_eq!(rt; written.len(), length);
-        assert!(rt; whole.starts_with(&written));
+    Ok(input)
+}
+
+// A source of a thousand lines of which these reads fail.
+fn source_failing(alloc: Global, fails: &[u64]) -> Result<MemSource, AllocError> {
+    let input = thousand_lines(alloc)?;
+    Ok(MemSource::new(input, fails.to_vec(alloc)?))
+}
+
+// Whether a run ends with this status, and has written so much of the whole.
+fn ends_at(
+    alloc: Global,
+    source: MemSource,
+    sink: MemSink,
+    whole: &[u8],
+    status: u8,
+    length: usize,
+) -> bool {
+    let mut source = source;
+    let mut sink = sink;
+    serve_lines(alloc, &First, &mut source, &mut sink) == status
+        && sink.bytes().len() == length
+        && whole.starts_with(sink.bytes())
+}
+
+fn ends_by_read(alloc: Global, whole: &[u8], call: u64, status: u8, length: usize) -> bool {
+    let sink = MemSink::new(alloc, Vec::new(alloc));
+    match source_failing(alloc, &[call]) {
+        Ok(source) => ends_at(alloc, source, sink, whole, status, length),
+        Err(_) => false,
     }
-    for (call, status, length) in [(0, 4, 0), (1, 4, 1755), (2, 0, 3000)] {
-        let (ended, written) = first_fields(alloc, &input, &[], &[call])?;
-        assert_eq!(rt; ended, status);
-        assert_eq!(rt; written.len(), length);
-        assert!(rt; whole.starts_with(&written));
+}
+
+fn ends_by_each_read(alloc: Global, whole: &[u8]) -> bool {
+    ends_by_read(alloc, whole, 0, 3, 0)
+        && ends_by_read(alloc, whole, 1, 3, 1755)
+        && ends_by_read(alloc, whole, 2, 3, 3000)
+        && ends_by_read(alloc, whole, 3, 0, 3000)
+}
+
+// A source of a thousand lines, and a sink of which one write fails.
+fn ends_failing(alloc: Global, call: u64) -> Result<(MemSource, MemSink), AllocError> {
+    let source = source_failing(alloc, &[])?;
+    Ok((source, MemSink::new(alloc, [call].to_vec(alloc)?)))
+}
+
+fn ends_by_write(alloc: Global, whole: &[u8], call: u64, status: u8, length: usize) -> bool {
+    match ends_failing(alloc, call) {
+        Ok((source, sink)) => ends_at(alloc, source, sink, whole, status, length),
+        Err(_) => false,
     }
-    Ok(())
+}
+
+fn ends_by_each_write(alloc: Global, whole: &[u8]) -> bool {
+    ends_by_write(alloc, whole, 0, 4, 0)
+        && ends_by_write(alloc, whole, 1, 4, 1755)
+        && ends_by_write(alloc, whole, 2, 0, 3000)
+}
+
+// Whether a run is whole where no call fails, and cut by each that does.
+fn is_cut_by_each_fault(alloc: Global, mut source: MemSource) -> bool {
+    let mut whole = MemSink::new(alloc, Vec::new(alloc));
+    serve_lines(alloc, &First, &mut source, &mut whole) == 0
+        && whole.bytes().len() == 3000
+        && ends_by_each_read(alloc, whole.bytes())
+        && ends_by_each_write(alloc, whole.bytes())
+}
+
+fn is_cut_in_turn(alloc: Global) -> bool {
+    match source_failing(alloc, &[]) {
+        Ok(source) => is_cut_by_each_fault(alloc, source),
+        Err(_) => false,
+    }
 }
 
 #[test]
-fn one_byte_a_read(rt: HostRuntime) -> Result<(), Fail> {
-    let alloc = rt.alloc();
-    let input = b"ab c\r\n\nd\n  e f";
-    let mut source = Slow {
-        quiet: QuietSource::new(input.to_vec(alloc)?),
+fn each_fault_in_turn(rt: HostRuntime) {
+    assert!(rt; is_cut_in_turn(rt.alloc()));
+}
+
+fn slow_source(alloc: Global, bytes: &[u8]) -> Result<Slow, AllocError> {
+    Ok(Slow {
+        quiet: QuietSource::new(bytes.to_vec(alloc)?),
         most: 0,
-    };
+    })
+}
+
+fn runs_slowly(alloc: Global) -> Result<bool, AllocError> {
+    let mut source = slow_source(alloc, b"ab c\r\n\nd\n  e f")?;
     let mut sink = MemSink::new(alloc, Vec::new(alloc));
-    assert_eq!(rt; serve_lines(alloc, &First, &mut source, &mut sink), 0);
-    assert_eq!(rt; sink.bytes(), b"ab\nd\ne\n".as_slice());
-    assert_eq!(rt; source.most, 4096);
-    Ok(())
+    Ok(runs_to(alloc, &mut source, &mut sink, 0, b"ab\nd\ne\n") && source.most == 4096)
+}
+
+#[test]
+fn one_byte_a_read(rt: HostRuntime) {
+    assert!(rt; runs_slowly(rt.alloc()) == Ok(true));
+}
+
+// Whether a read of at most `most` bytes asks for so many.
+fn asks_for(alloc: Global, most: u64, asked: usize) -> bool
+    requires { 0 < most }
+{
+    match slow_source(alloc, b"a") {
+        Ok(mut source) => {
+            read_some(&mut source, &mut [0; 4096], most) == Ok(1) && source.most == asked
+        }
+        Err(_) => false,
+    }
 }
 
 // The last read before the limit asks for what is left up to it.
+fn asks_for_what_is_left(alloc: Global) -> bool {
+    asks_for(alloc, 5, 5)
+        && asks_for(alloc, 4095, 4095)
+        && asks_for(alloc, 4096, 4096)
+        && asks_for(alloc, 1 << 40, 4096)
+}
+
 #[test]
-fn no_read_asks_for_more_than_is_left(rt: HostRuntime) -> Result<(), Fail> {
-    for (most, asked) in [(5, 5), (4095, 4095), (4096, 4096), (1 << 40, 4096)] {
-        let mut source = Slow {
-            quiet: QuietSource::new(b"a".to_vec(rt.alloc())?),
-            most: 0,
-        };
-        assert!(rt; read_some(&mut source, &mut [0; 4096], most) == Ok(1));
-        assert_eq!(rt; source.most, asked);
-    }
-    Ok(())
+fn no_read_asks_for_more_than_is_left(rt: HostRuntime) {
+    assert!(rt; asks_for_what_is_left(rt.alloc()));
 }
 
 // Whether a run over a sink in memory ends with 4 where the sink found no memory, with 6 where
@@ -205,109 +308,138 @@ fn memory_that_a_sink_was_refused_is_its_fault(rt: HostRuntime) {
     assert!(rt; ends_by_its_cause(rt.alloc()).unwrap_or(true));
 }
 
-// What a whole program of lines does, with and without a word.
-fn served(alloc: Global, word: Option<&[u8]>) -> Result<(u8, Vec<u8>), AllocError> {
-    let mut words = Words::new(alloc);
-    if let Some(word) = word {
-        words.push(word)?;
-    }
-    let mut source = QuietSource::new(b"a b\nc".to_vec(alloc)?);
+// Whether a whole program of lines ends with this status and text.
+fn serves(alloc: Global, words: &Words, input: Vec<u8>, status: u8, text: &[u8]) -> bool {
+    let mut source = QuietSource::new(input);
     let mut sink = MemSink::new(alloc, Vec::new(alloc));
-    let status = serve_words(alloc, &First, b"usage: x\n", &words, &mut source, &mut sink);
-    Ok((status, sink.bytes().to_vec(alloc)?))
+    serve_words(alloc, &First, b"usage: x\n", words, &mut source, &mut sink) == status
+        && sink.bytes() == text
 }
 
-fn serves(alloc: Global, word: Option<&[u8]>, status: u8, text: &[u8]) -> Result<bool, AllocError> {
-    let (ended, written) = served(alloc, word)?;
-    Ok(ended == status && written.as_slice() == text)
+fn serves_lines(alloc: Global) -> bool {
+    match b"a b\nc".to_vec(alloc) {
+        Ok(input) => serves(alloc, &Words::new(alloc), input, 0, b"a\nc\n"),
+        Err(_) => false,
+    }
+}
+
+fn refuses(alloc: Global, word: &[u8]) -> Result<bool, AllocError> {
+    let mut words = Words::new(alloc);
+    words.push(word)?;
+    let input = b"a b\nc".to_vec(alloc)?;
+    Ok(serves(alloc, &words, input, 2, b"usage: x\n"))
 }
 
 #[test]
-fn a_program_of_lines_takes_no_words(rt: HostRuntime) -> Result<(), Fail> {
-    let alloc = rt.alloc();
-    assert!(rt; serves(alloc, None, 0, b"a\nc\n")?);
-    assert!(rt; serves(alloc, Some(b"help"), 2, b"usage: x\n")?);
-    assert!(rt; serves(alloc, Some(b""), 2, b"usage: x\n")?);
-    Ok(())
+fn a_program_of_lines_takes_no_words(rt: HostRuntime) {
+    assert!(rt; serves_lines(rt.alloc()));
+    assert!(rt; refuses(rt.alloc(), b"help") == Ok(true));
+    assert!(rt; refuses(rt.alloc(), b"") == Ok(true));
 }
 
 // Long replies to the lines of one piece don't all wait for its end: the second write fails here.
+fn is_written_early(alloc: Global, mut source: QuietSource, fails: Vec<u64>) -> bool {
+    let mut sink = MemSink::new(alloc, fails);
+    serve_lines(alloc, &Zeros { count: 1000 }, &mut source, &mut sink) == 4
+        && sink.bytes().len() == 66_000
+        && sink.refused() == 0
+}
+
+fn writes_early(alloc: Global) -> Result<bool, AllocError> {
+    let source = QuietSource::new(vec![in alloc; b'\n'; 200]?);
+    let fails = vec![in alloc; 1]?;
+    Ok(is_written_early(alloc, source, fails))
+}
+
 #[test]
-fn long_replies_are_written_early(rt: HostRuntime) -> Result<(), Fail> {
-    let alloc = rt.alloc();
-    let mut source = QuietSource::new(vec![in alloc; b'\n'; 200]?);
-    let mut sink = MemSink::new(alloc, vec![in alloc; 1]?);
-    assert_eq!(rt;
-        serve_lines(alloc, &Zeros { count: 1000 }, &mut source, &mut sink),
-        4
-    );
-    assert_eq!(rt; sink.bytes().len(), 66_000);
-    assert_eq!(rt; sink.refused(), 0);
-    Ok(())
+fn long_replies_are_written_early(rt: HostRuntime) {
+    assert!(rt; writes_early(rt.alloc()) == Ok(true));
+}
+
+// Whether the line has so many fields, and this second one.
+fn has_fields(line: &[u8], count: usize, second: Option<&[u8]>) -> bool {
+    count_fields(line) == count && field(line, 1) == second
+}
+
+fn has_at_most_one_field() -> bool {
+    has_fields(b"", 0, None)
+        && has_fields(b"\r", 0, None)
+        && has_fields(b"\ra", 1, None)
+        && has_fields(b"a\tb", 1, None)
+}
+
+fn has_two_fields() -> bool {
+    has_fields(b"  a  b\r", 2, Some(b"b")) && has_fields(b"a b\r \r", 2, Some(b"b\r"))
+}
+
+fn cuts_in_place() -> bool {
+    let mut cut = [b"".as_slice(); 2];
+    cut_fields(b" a  b c\r", &mut cut) == 2
+        && cut == [b"a".as_slice(), b"b"]
+        && cut_fields(b"d\r", &mut cut) == 1
+        && cut[0] == b"d".as_slice()
 }
 
 #[test]
 fn fields_of_lines(rt: HostRuntime) {
-    for (line, count, second) in [
-        (b"".as_slice(), 0, None),
-        (b"\r".as_slice(), 0, None),
-        (b"  a  b\r".as_slice(), 2, Some(b"b".as_slice())),
-        (b"a b\r \r".as_slice(), 2, Some(b"b\r".as_slice())),
-        (b"\ra".as_slice(), 1, None),
-        (b"a\tb".as_slice(), 1, None),
-    ] {
-        assert_eq!(rt; count_fields(line), count);
-        assert!(rt; field(line, 1) == second);
-    }
-    let mut cut = [b"".as_slice(); 2];
-    assert_eq!(rt; cut_fields(b" a  b c\r", &mut cut), 2);
-    assert!(rt; cut == [b"a".as_slice(), b"b"]);
-    assert_eq!(rt; cut_fields(b"d\r", &mut cut), 1);
-    assert!(rt; cut[0] == b"d".as_slice());
+    assert!(rt; has_at_most_one_field());
+    assert!(rt; has_two_fields());
+    assert!(rt; cuts_in_place());
+}
+
+fn is_cut(all: &[&[u8]], count: usize, second: &[u8]) -> bool {
+    all.len() == count && field_at(all, 1) == second
 }
 
 // Whether all fields of a line are cut as this one is.
-fn cuts(alloc: Global, line: &[u8], count: usize, second: &[u8]) -> Result<bool, AllocError> {
-    let all = all_fields(alloc, line)?;
-    Ok(all.len() == count && field_at(&all, 1) == second)
+fn cuts(alloc: Global, line: &[u8], count: usize, second: &[u8]) -> bool {
+    match all_fields(alloc, line) {
+        Ok(all) => is_cut(&all, count, second),
+        Err(_) => false,
+    }
+}
+
+fn cuts_all(alloc: Global) -> bool {
+    cuts(alloc, b"", 0, b"") && cuts(alloc, b" a  b c\r", 3, b"b") && cuts(alloc, b"a", 1, b"")
 }
 
 #[test]
-fn all_fields_of_lines(rt: HostRuntime) -> Result<(), Fail> {
-    for (line, count, second) in [
-        (b"".as_slice(), 0, b"".as_slice()),
-        (b" a  b c\r", 3, b"b"),
-        (b"a", 1, b""),
-    ] {
-        assert!(rt; cuts(rt.alloc(), line, count, second)?);
-    }
-    Ok(())
+fn all_fields_of_lines(rt: HostRuntime) {
+    assert!(rt; cuts_all(rt.alloc()));
+}
+
+// Whether the text is this number, and no other follows.
+fn is_number(text: &[u8], number: Option<u32>) -> bool {
+    number_at(&[text], 0) == number && number_at(&[text], 1) == None
+}
+
+fn are_numbers() -> bool {
+    is_number(b"0", Some(0))
+        && is_number(b"0000000007", Some(7))
+        && is_number(b"4294967295", Some(4_294_967_295))
+}
+
+fn are_no_numbers() -> bool {
+    is_number(b"4294967296", None)
+        && is_number(b"00000000007", None)
+        && is_number(b"", None)
+        && is_number(b"-", None)
+        && is_number(b"+1", None)
+        && is_number(b"1 ", None)
+        && is_number(b"a", None)
+}
+
+fn are_values_up_to_a_last() -> bool {
+    decimal_value(b"18446744073709551615", 20, u64::MAX) == Some(u64::MAX)
+        && decimal_value(b"18446744073709551616", 20, u64::MAX) == None
+        && decimal_value(b"16", 2, 15) == None
 }
 
 #[test]
 fn decimal_numbers(rt: HostRuntime) {
-    let rows: [(&[u8], Option<u32>); 10] = [
-        (b"0", Some(0)),
-        (b"0000000007", Some(7)),
-        (b"4294967295", Some(4_294_967_295)),
-        (b"4294967296", None),
-        (b"00000000007", None),
-        (b"", None),
-        (b"-", None),
-        (b"+1", None),
-        (b"1 ", None),
-        (b"a", None),
-    ];
-    for (text, number) in rows {
-        assert_eq!(rt; number_at(&[text], 0), number);
-        assert_eq!(rt; number_at(&[text], 1), None);
-    }
-    assert_eq!(rt;
-        decimal_value(b"18446744073709551615", 20, u64::MAX),
-        Some(u64::MAX)
-    );
-    assert_eq!(rt; decimal_value(b"18446744073709551616", 20, u64::MAX), None);
-    assert_eq!(rt; decimal_value(b"16", 2, 15), None);
+    assert!(rt; are_numbers());
+    assert!(rt; are_no_numbers());
+    assert!(rt; are_values_up_to_a_last());
 }
 
 fn reply_lines(alloc: Global) -> Result<ByteString, AllocError> {
@@ -318,30 +450,53 @@ fn reply_lines(alloc: Global) -> Result<ByteString, AllocError> {
     Ok(text)
 }
 
-#[test]
-fn numbers_and_bytes_as_text(rt: HostRuntime) -> Result<(), Fail> {
-    let wanted = b"differs 0\n18446744073709551615\nrecord 00ffab\n".as_slice();
-    assert_eq!(rt; reply_lines(rt.alloc())?.as_slice(), wanted);
-    Ok(())
+fn is_text(text: &Result<ByteString, AllocError>, wanted: &[u8]) -> bool {
+    match text {
+        Ok(text) => text.as_slice() == wanted,
+        Err(_) => false,
+    }
 }
 
 #[test]
-fn hexadecimal_fields(rt: HostRuntime) -> Result<(), Fail> {
-    let alloc = rt.alloc();
-    for (bytes, found, value) in [
-        (b"-".as_slice(), true, b"".as_slice()),
-        (b"00fFAb9".as_slice(), false, b"".as_slice()),
-        (b"00fFAb".as_slice(), true, b"\x00\xff\xab".as_slice()),
-        (b"0g".as_slice(), false, b"".as_slice()),
-        (b"00g0".as_slice(), false, b"".as_slice()),
-        (b"--".as_slice(), false, b"".as_slice()),
-        (b"7".as_slice(), false, b"".as_slice()),
-    ] {
-        let mut out = ByteString::from_slice(alloc, b"=")?;
-        assert_eq!(rt; hex_field(alloc, bytes, &mut out)?, found);
-        assert_eq!(rt; out.as_slice()[1..], *value);
+fn numbers_and_bytes_as_text(rt: HostRuntime) {
+    let wanted = b"differs 0\n18446744073709551615\nrecord 00ffab\n";
+    assert!(rt; is_text(&reply_lines(rt.alloc()), wanted));
+}
+
+// Whether a field in hexadecimal is found, and this value put behind what a string has.
+fn puts_hex(alloc: Global, bytes: &[u8], found: bool, value: &[u8]) -> Result<bool, AllocError> {
+    let mut out = ByteString::from_slice(alloc, b"=")?;
+    let is_found = hex_field(alloc, bytes, &mut out)?;
+    match out.as_slice() {
+        [_, put @ ..] => Ok(is_found == found && put == value),
+        [] => Ok(false),
     }
-    Ok(())
+}
+
+fn puts_value(alloc: Global, bytes: &[u8], value: &[u8]) -> bool {
+    puts_hex(alloc, bytes, true, value).unwrap_or(false)
+}
+
+fn puts_nothing(alloc: Global, bytes: &[u8]) -> bool {
+    puts_hex(alloc, bytes, false, b"").unwrap_or(false)
+}
+
+fn puts_values(alloc: Global) -> bool {
+    puts_value(alloc, b"-", b"") && puts_value(alloc, b"00fFAb", b"\x00\xff\xab")
+}
+
+fn puts_nothing_else(alloc: Global) -> bool {
+    puts_nothing(alloc, b"00fFAb9")
+        && puts_nothing(alloc, b"0g")
+        && puts_nothing(alloc, b"00g0")
+        && puts_nothing(alloc, b"--")
+        && puts_nothing(alloc, b"7")
+}
+
+#[test]
+fn hexadecimal_fields(rt: HostRuntime) {
+    assert!(rt; puts_values(rt.alloc()));
+    assert!(rt; puts_nothing_else(rt.alloc()));
 }
 
 // Two strings, the second put behind the first.
@@ -351,42 +506,74 @@ fn appended(alloc: Global, first: &[u8], second: &[u8]) -> Result<ByteString, Al
     Ok(text)
 }
 
-#[test]
-fn strings_are_put_behind_others(rt: HostRuntime) -> Result<(), Fail> {
-    let rows: [(&[u8], &[u8], &[u8]); 3] = [
-        (b"", b"b", b"b"),
-        (b"a", b"", b"a"),
-        (b"a", b"b", b"ab"),
-    ];
-    for (first, second, whole) in rows {
-        assert_eq!(rt; appended(rt.alloc(), first, second)?.as_slice(), whole);
-    }
-    Ok(())
+fn appends(alloc: Global, first: &[u8], second: &[u8], whole: &[u8]) -> bool {
+    is_text(&appended(alloc, first, second), whole)
+}
+
+fn appends_all(alloc: Global) -> bool {
+    appends(alloc, b"", b"b", b"b")
+        && appends(alloc, b"a", b"", b"a")
+        && appends(alloc, b"a", b"b", b"ab")
 }
 
 #[test]
-fn byte_strings_and_words(rt: HostRuntime) -> Result<(), Fail> {
-    let alloc = rt.alloc();
+fn strings_are_put_behind_others(rt: HostRuntime) {
+    assert!(rt; appends_all(rt.alloc()));
+}
+
+fn key_text(alloc: Global) -> Result<ByteString, AllocError> {
     let mut text = ByteString::new(alloc);
     text.push_slice(b"key ")?;
     text.push_slice(b"00ab")?;
-    assert_eq!(rt; text.as_slice(), b"key 00ab".as_slice());
+    Ok(text)
+}
+
+// Whether the text is cut and written.
+fn becomes_key(text: &mut ByteString) -> bool {
     text.truncate(3);
-    text.as_mut_slice()[0] = b'K';
-    assert_eq!(rt; text.as_slice(), b"Key".as_slice());
-    assert_eq!(rt; text.len(), 3);
+    if let Some(first) = text.as_mut_slice().first_mut() {
+        *first = b'K';
+    }
+    text.as_slice() == b"Key".as_slice() && text.len() == 3
+}
+
+fn is_cut_to_key(text: &mut ByteString) -> bool {
+    text.as_slice() == b"key 00ab".as_slice() && becomes_key(text)
+}
+
+// The text's bytes, and no bytes.
+fn two_words(alloc: Global, text: &ByteString) -> Result<Words, AllocError> {
     let mut words = Words::new(alloc);
     words.push(text.as_slice())?;
     words.push(b"")?;
+    Ok(words)
+}
+
+fn has_key(words: &Words) -> bool {
+    words.len() == 2 && words.get(0) == Some(b"Key".as_slice()) && words.get(2) == None
+}
+
+// Whether words stay as the text was that is cleared.
+fn keeps_words(alloc: Global, text: &mut ByteString) -> Result<bool, AllocError> {
+    let words = two_words(alloc, text)?;
     text.clear();
-    assert!(rt; text.is_empty());
-    assert_eq!(rt; words.len(), 2);
-    assert!(rt; words.get(0) == Some(b"Key".as_slice()));
-    assert!(rt; words.get(2) == None);
-    let mut sink = MemSink::new(alloc, Vec::new(alloc));
-    assert!(rt; write_all(&mut sink, b"Key").is_ok());
-    assert_eq!(rt; sink.bytes(), b"Key".as_slice());
-    Ok(())
+    Ok(text.is_empty() && has_key(&words))
+}
+
+fn are_strings_and_words_right(alloc: Global) -> Result<bool, AllocError> {
+    let mut text = key_text(alloc)?;
+    Ok(is_cut_to_key(&mut text) && keeps_words(alloc, &mut text)?)
+}
+
+fn takes_key(mut sink: MemSink) -> bool {
+    write_all(&mut sink, b"Key").is_ok() && sink.bytes() == b"Key".as_slice()
+}
+
+#[test]
+fn byte_strings_and_words(rt: HostRuntime) {
+    let alloc = rt.alloc();
+    assert!(rt; are_strings_and_words_right(alloc) == Ok(true));
+    assert!(rt; takes_key(MemSink::new(alloc, Vec::new(alloc))));
 }
 
 struct Pairs;
@@ -413,13 +600,13 @@ fn replies(alloc: Global, input: &[u8]) -> Result<(u8, Vec<u8>), AllocError> {
     Ok((status, sink.bytes().to_vec(alloc)?))
 }
 
+fn is_reply_of_pairs(alloc: Global, input: &[u8], text: &[u8]) -> Result<bool, AllocError> {
+    let (status, written) = replies(alloc, input)?;
+    Ok(status == 0 && written.as_slice() == text)
+}
+
 #[test]
-fn example_of_the_page(rt: HostRuntime) -> Result<(), Fail> {
-    let (status, written) = replies(rt.alloc(), b"a b\n\nc d e\r\n f  g\r")?;
-    assert_eq!(rt; status, 0);
-    assert_eq!(rt;
-        written.as_slice(),
-        b"pair\nother\nother\npair\n".as_slice()
-    );
-    Ok(())
+fn example_of_the_page(rt: HostRuntime) {
+    let text = b"pair\nother\nother\npair\n";
+    assert!(rt; is_reply_of_pairs(rt.alloc(), b"a b\n\nc d e\r\n f  g\r", text) == Ok(true));
 }

@@ -1,10 +1,9 @@
 //! Ends whose calls fail or that a signal interrupts, and words that are too long.
-use line_serve::{Sink, Source};
+use line_serve::{Sink, Source, Words};
 use line_stdio::{StdSink, StdSource, words_of};
 use std::alloc::{AllocError, Global};
 use std::env::{Env, FillError};
 use std::io::{self, Error, ErrorKind, Read, Write};
-use std::test::Fail;
 
 // Fails so many times before it takes or gives one byte at a time.
 #[derive(Drop)]
@@ -55,22 +54,39 @@ fn failing(failures: u32, kind: ErrorKind) -> Interrupted {
     }
 }
 
+// Whether one byte is read after so many interruptions.
+fn reads_after(failures: u32) -> bool {
+    let mut source = StdSource::new(failing(failures, ErrorKind::Interrupted));
+    let mut bytes = [0; 2];
+    source.read(&mut bytes).ok() == Some(1) && bytes == [7, 0]
+}
+
 #[test]
 fn an_interrupted_read_is_made_again(rt: HostRuntime) {
     for failures in 0..4 {
-        let mut source = StdSource::new(failing(failures, ErrorKind::Interrupted));
-        let mut bytes = [0; 2];
-        assert_eq!(rt; source.read(&mut bytes).ok(), Some(1));
-        assert_eq!(rt; bytes, [7, 0]);
+        assert!(rt; reads_after(failures));
     }
+}
+
+// Whether one byte is written after so many interruptions.
+fn writes_after(failures: u32) -> bool {
+    let mut sink = StdSink::new(failing(failures, ErrorKind::Interrupted));
+    sink.write(&[1, 2]).ok() == Some(1)
 }
 
 #[test]
 fn an_interrupted_write_or_flush_is_made_again(rt: HostRuntime) {
     for failures in 0..4 {
-        let mut sink = StdSink::new(failing(failures, ErrorKind::Interrupted));
-        assert_eq!(rt; sink.write(&[1, 2]).ok(), Some(1));
+        assert!(rt; writes_after(failures));
     }
+}
+
+fn is_fault_of_read(kind: ErrorKind) -> bool {
+    StdSource::new(failing(1, kind)).read(&mut [0; 2]).is_err()
+}
+
+fn is_fault_of_write(kind: ErrorKind) -> bool {
+    StdSink::new(failing(1, kind)).write(&[1, 2]).is_err()
 }
 
 #[test]
@@ -80,10 +96,8 @@ fn another_error_is_a_fault(rt: HostRuntime) {
         ErrorKind::BrokenPipe,
         ErrorKind::Other,
     ] {
-        let mut source = StdSource::new(failing(1, kind));
-        assert!(rt; source.read(&mut [0; 2]).is_err());
-        let mut sink = StdSink::new(failing(1, kind));
-        assert!(rt; sink.write(&[1, 2]).is_err());
+        assert!(rt; is_fault_of_read(kind));
+        assert!(rt; is_fault_of_write(kind));
     }
 }
 
@@ -101,11 +115,13 @@ impl Write for Full {
     }
 }
 
+fn takes_nothing(mut sink: StdSink<Full>) -> bool {
+    sink.write(b"a").is_err() && sink.write(b"").ok() == Some(0)
+}
+
 #[test]
 fn a_write_that_takes_nothing_is_a_fault(rt: HostRuntime) {
-    let mut sink = StdSink::new(Full);
-    assert!(rt; sink.write(b"a").is_err());
-    assert_eq!(rt; sink.write(b"").ok(), Some(0));
+    assert!(rt; takes_nothing(StdSink::new(Full)));
 }
 
 // The program's name, the word `a`, and one that is too long.
@@ -133,17 +149,17 @@ impl Env for TwoWords {
     }
 }
 
+fn are_a_word_and_none(words: &Words) -> bool {
+    words.len() == 2
+        && words.get(0) == Some(b"a".as_slice())
+        && words.get(1) == Some(b"".as_slice())
+}
+
 fn reads_two_words(alloc: Global) -> Result<bool, AllocError> {
-    let words = words_of(&(TwoWords, alloc))?;
-    Ok(
-        words.len() == 2
-            && words.get(0) == Some(b"a".as_slice())
-            && words.get(1) == Some(b"".as_slice()),
-    )
+    Ok(are_a_word_and_none(&words_of(&(TwoWords, alloc))?))
 }
 
 #[test]
-fn a_word_that_is_too_long_has_no_bytes(rt: HostRuntime) -> Result<(), Fail> {
-    assert!(rt; reads_two_words(rt.alloc())?);
-    Ok(())
+fn a_word_that_is_too_long_has_no_bytes(rt: HostRuntime) {
+    assert!(rt; reads_two_words(rt.alloc()) == Ok(true));
 }
