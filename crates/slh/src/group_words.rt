@@ -1,215 +1,270 @@
 //! The words of the commands for batches, manifests, chains and rings.
 use crate::words::{
-    deterministic, file, operand, option, set, signature, signing_key, verifying_key, with_message,
+    CONTEXT, CONTEXT_HEX, DETERMINISTIC, FILE, Group, Kind, NAME, OUTPUT, PREHASH, SET, SIGNATURE,
+    SIGNING_KEY, Subcommand, VERIFYING_KEY, Word,
 };
-use clap::{Arg, Command, value_parser};
-use std::alloc::{AllocError, Global};
 
-/// `slh batch`.
-pub fn batch<'a>(alloc: Global) -> Result<Command<'a>, AllocError> {
-    let receipt = option(alloc, "receipt", "FILE.receipt", "The receipt of the file");
-    let sign = Command::new(alloc, "sign")
-        .about("Signs many files at once: FILE.receipt for each")
-        .after_help("Example:\n    slh batch sign --key release.key *.txt")
-        .arg(signing_key(alloc))?
-        .arg(deterministic(alloc))?
-        .arg(many(alloc, "files", "FILE", "The files, up to 2^20"))?;
-    let verify = Command::new(alloc, "verify")
-        .about("Verifies the receipt of a file: accepted (0) or invalid (1)")
-        .after_help(
-            "Example:\n    slh batch verify --key release.pub --receipt a.txt.receipt a.txt",
-        )
-        .arg(verifying_key(alloc))?
-        .arg(receipt.required(true))?
-        .arg(file(alloc))?;
-    Command::new(alloc, "batch")
-        .about("One signature for many files, and a receipt for each")
-        .subcommand_required(true)
-        .arg_required_else_help(true)
-        .subcommand(sign)?
-        .subcommand(verify)
+/// The commands that have commands below them.
+pub fn groups() -> [Group; 4] {
+    [batch(), manifest(), chain(), ring()]
 }
 
-/// `slh manifest`.
-pub fn manifest<'a>(alloc: Global) -> Result<Command<'a>, AllocError> {
-    let output = option(alloc, "output", "MANIFEST", "Where the manifest goes");
-    let read = option(alloc, "manifest", "MANIFEST", "The manifest");
-    let seal = Command::new(alloc, "seal")
-        .about("Signs the regular files below a folder, up to 4096")
-        .after_help(
-            "Example:\n    slh manifest seal --key release.key --output folder.manifest folder",
-        )
-        .arg(signing_key(alloc))?
-        .arg(deterministic(alloc))?
-        .arg(output.required(true))?
-        .arg(operand(alloc, "folder", "FOLDER", "The folder"))?;
-    let check = Command::new(alloc, "check")
-        .about(
-            "Tells whether a folder has the files of a manifest: accepted (0), or which is \
-             missing or differs (1)",
-        )
-        .after_help(
-            "Example:\n    slh manifest check --key release.pub --manifest folder.manifest folder",
-        )
-        .arg(verifying_key(alloc))?
-        .arg(read.required(true))?
-        .arg(operand(alloc, "folder", "FOLDER", "The folder"))?;
-    Command::new(alloc, "manifest")
-        .about("One signature for the files of a folder")
-        .subcommand_required(true)
-        .arg_required_else_help(true)
-        .subcommand(seal)?
-        .subcommand(check)
+// `slh batch`.
+fn batch() -> Group {
+    Group {
+        name: "batch",
+        about: "One signature for many files, and a receipt for each",
+        subcommands: &[
+            Subcommand {
+                name: "sign",
+                about: "Signs many files at once: FILE.receipt for each",
+                example: "Example:\n    slh batch sign --key release.key *.txt",
+                words: &[SIGNING_KEY, DETERMINISTIC, FILES],
+            },
+            Subcommand {
+                name: "verify",
+                about: "Verifies the receipt of a file: accepted (0) or invalid (1)",
+                example: "Example:\n    \
+                          slh batch verify --key release.pub --receipt a.txt.receipt a.txt",
+                words: &[VERIFYING_KEY, RECEIPT, FILE],
+            },
+        ],
+    }
 }
 
-/// `slh chain`.
-pub fn chain<'a>(alloc: Global) -> Result<Command<'a>, AllocError> {
-    let walk = Command::new(alloc, "walk")
-        .about("Writes the key at the end of a chain")
-        .after_help("Example:\n    slh chain walk --key root.pub --chain release.chain")
-        .arg(root(alloc))?
-        .arg(links(alloc).required(true))?
-        .arg(option(
-            alloc,
-            "output",
-            "FILE",
-            "Where it goes, in place of standard output",
-        ))?;
-    let verify = Command::new(alloc, "verify")
-        .about("Verifies a file under the key at the end of a chain: accepted (0) or invalid (1)")
-        .after_help(
-            "Example:\n    slh chain verify --key root.pub --chain release.chain \
-             --signature notes.txt.sig notes.txt",
-        )
-        .arg(root(alloc))?
-        .arg(links(alloc).required(true))?
-        .arg(signature(alloc))?;
-    Command::new(alloc, "chain")
-        .about("Keys that sign keys")
-        .subcommand_required(true)
-        .arg_required_else_help(true)
-        .subcommand(delegate(alloc)?)?
-        .subcommand(walk)?
-        .subcommand(with_message(alloc, verify)?)
+// `slh manifest`.
+fn manifest() -> Group {
+    Group {
+        name: "manifest",
+        about: "One signature for the files of a folder",
+        subcommands: &[
+            Subcommand {
+                name: "seal",
+                about: "Signs the regular files below a folder, up to 4096",
+                example: "Example:\n    \
+                          slh manifest seal --key release.key --output folder.manifest folder",
+                words: &[SIGNING_KEY, DETERMINISTIC, MANIFEST_OUTPUT, FOLDER],
+            },
+            Subcommand {
+                name: "check",
+                about: "Tells whether a folder has the files of a manifest: accepted (0), or \
+                        which is missing or differs (1)",
+                example: "Example:\n    \
+                          slh manifest check --key release.pub --manifest folder.manifest folder",
+                words: &[VERIFYING_KEY, MANIFEST_FILE, FOLDER],
+            },
+        ],
+    }
 }
 
-fn delegate<'a>(alloc: Global) -> Result<Command<'a>, AllocError> {
-    let subject = option(alloc, "subject", "OTHER.pub", "The key that may act");
-    let name = option(
-        alloc,
-        "name",
-        "TEXT",
-        "The name it acts under, 1 to 64 bytes",
-    );
-    let depth = option(
-        alloc,
-        "depth",
-        "NUMBER",
-        "How deep it may delegate, 0 to 15",
-    )
-    .value_parser(value_parser!(u8))
-    .default_value("0");
-    let output = option(
-        alloc,
-        "output",
-        "CHAIN",
-        "Where the chain with the new link goes",
-    );
-    Command::new(alloc, "delegate")
-        .about("Lets another key act: a chain with a link more")
-        .after_help(
-            "Example:\n    slh chain delegate --key root.key --subject release.pub --name \
-             release --output release.chain",
-        )
-        .arg(signing_key(alloc))?
-        .arg(subject.required(true))?
-        .arg(name.required(true))?
-        .arg(depth)?
-        .arg(links(alloc))?
-        .arg(deterministic(alloc))?
-        .arg(output.required(true))
+// `slh chain`.
+fn chain() -> Group {
+    Group {
+        name: "chain",
+        about: "Keys that sign keys",
+        subcommands: &[
+            Subcommand {
+                name: "delegate",
+                about: "Lets another key act: a chain with a link more",
+                example: "Example:\n    \
+                          slh chain delegate --key root.key --subject release.pub --name \
+                          release --output release.chain",
+                words: &[
+                    SIGNING_KEY,
+                    SUBJECT,
+                    LINK_NAME,
+                    DEPTH,
+                    OLD_CHAIN,
+                    DETERMINISTIC,
+                    CHAIN_OUTPUT,
+                ],
+            },
+            Subcommand {
+                name: "walk",
+                about: "Writes the key at the end of a chain",
+                example: "Example:\n    slh chain walk --key root.pub --chain release.chain",
+                words: &[ROOT, CHAIN_FILE, OUTPUT],
+            },
+            Subcommand {
+                name: "verify",
+                about: "Verifies a file under the key at the end of a chain: accepted (0) or \
+                        invalid (1)",
+                example: "Example:\n    slh chain verify --key root.pub --chain release.chain \
+                          --signature notes.txt.sig notes.txt",
+                words: &[
+                    ROOT,
+                    CHAIN_FILE,
+                    SIGNATURE,
+                    CONTEXT,
+                    CONTEXT_HEX,
+                    PREHASH,
+                    FILE,
+                ],
+            },
+        ],
+    }
 }
 
-fn root<'a>(alloc: Global) -> Arg<'a> {
-    option(alloc, "key", "ROOT.pub", "The root's verifying key").required(true)
+// `slh ring`.
+fn ring() -> Group {
+    Group {
+        name: "ring",
+        about: "The keys that one master secret gives",
+        subcommands: &[
+            Subcommand {
+                name: "master",
+                about: "Makes a master secret of random bytes",
+                example: "Example:\n    slh ring master products.master",
+                words: &[MASTER_FILE],
+            },
+            Subcommand {
+                name: "key",
+                about: "Makes the key at a path again: NAME.key and NAME.pub",
+                example: "Example:\n    \
+                          slh ring key --set SLH-DSA-SHA2-128f --master products.master --path \
+                          2/2026 product2",
+                words: &[SET, MASTER, PATH, NAME],
+            },
+            Subcommand {
+                name: "record",
+                about: "Writes the record of a ring, which is no secret",
+                example: "Example:\n    \
+                          slh ring record --set SLH-DSA-SHA2-128f --master products.master \
+                          --output products.ring 1/2026 2/2026",
+                words: &[SET, MASTER, RECORD_OUTPUT, PATHS],
+            },
+            Subcommand {
+                name: "restore",
+                about: "Writes the paths of a record, where its keys are those of the master",
+                example: "Example:\n    slh ring restore --master products.master products.ring",
+                words: &[MASTER, RECORD],
+            },
+        ],
+    }
 }
 
-fn links<'a>(alloc: Global) -> Arg<'a> {
-    option(alloc, "chain", "CHAIN", "The chain from the root key")
-}
+const FILES: Word = Word {
+    kind: Kind::Operands,
+    name: "files",
+    value: "FILE",
+    help: "The files, up to 2^20",
+};
 
-/// `slh ring`.
-pub fn ring<'a>(alloc: Global) -> Result<Command<'a>, AllocError> {
-    let make = Command::new(alloc, "master")
-        .about("Makes a master secret of random bytes")
-        .after_help("Example:\n    slh ring master products.master")
-        .arg(operand(alloc, "file", "FILE", "The file, which is secret"))?;
-    let restore = Command::new(alloc, "restore")
-        .about("Writes the paths of a record, where its keys are those of the master")
-        .after_help("Example:\n    slh ring restore --master products.master products.ring")
-        .arg(master(alloc))?
-        .arg(operand(alloc, "file", "RECORD", "The record"))?;
-    Command::new(alloc, "ring")
-        .about("The keys that one master secret gives")
-        .subcommand_required(true)
-        .arg_required_else_help(true)
-        .subcommand(make)?
-        .subcommand(key(alloc)?)?
-        .subcommand(record(alloc)?)?
-        .subcommand(restore)
-}
+const RECEIPT: Word = Word {
+    kind: Kind::Required,
+    name: "receipt",
+    value: "FILE.receipt",
+    help: "The receipt of the file",
+};
 
-fn key<'a>(alloc: Global) -> Result<Command<'a>, AllocError> {
-    let path = option(
-        alloc,
-        "path",
-        "PATH",
-        "Up to 8 numbers with slashes, or a dot",
-    );
-    Command::new(alloc, "key")
-        .about("Makes the key at a path again: NAME.key and NAME.pub")
-        .after_help(
-            "Example:\n    slh ring key --set SLH-DSA-SHA2-128f --master products.master \
-             --path 2/2026 product2",
-        )
-        .arg(set(alloc))?
-        .arg(master(alloc))?
-        .arg(path.required(true))?
-        .arg(operand(
-            alloc,
-            "name",
-            "NAME",
-            "The files' name, without .key and .pub",
-        ))
-}
+const FOLDER: Word = Word {
+    kind: Kind::Operand,
+    name: "folder",
+    value: "FOLDER",
+    help: "The folder",
+};
 
-fn record<'a>(alloc: Global) -> Result<Command<'a>, AllocError> {
-    Command::new(alloc, "record")
-        .about("Writes the record of a ring, which is no secret")
-        .after_help(
-            "Example:\n    slh ring record --set SLH-DSA-SHA2-128f --master products.master \
-             --output products.ring 1/2026 2/2026",
-        )
-        .arg(set(alloc))?
-        .arg(master(alloc))?
-        .arg(option(
-            alloc,
-            "output",
-            "RECORD",
-            "Where it goes, in place of standard output",
-        ))?
-        .arg(many(
-            alloc,
-            "paths",
-            "PATH",
-            "Up to 64 paths: numbers with slashes, or a dot",
-        ))
-}
+const MANIFEST_FILE: Word = Word {
+    kind: Kind::Required,
+    name: "manifest",
+    value: "MANIFEST",
+    help: "The manifest",
+};
 
-fn master<'a>(alloc: Global) -> Arg<'a> {
-    option(alloc, "master", "FILE", "The master secret").required(true)
-}
+const MANIFEST_OUTPUT: Word = Word {
+    kind: Kind::Required,
+    name: "output",
+    value: "MANIFEST",
+    help: "Where the manifest goes",
+};
 
-fn many<'a>(alloc: Global, name: &'a str, value: &'a str, help: &'a str) -> Arg<'a> {
-    operand(alloc, name, value, help).num_args(1usize..)
-}
+const SUBJECT: Word = Word {
+    kind: Kind::Required,
+    name: "subject",
+    value: "OTHER.pub",
+    help: "The key that may act",
+};
+
+const LINK_NAME: Word = Word {
+    kind: Kind::Required,
+    name: "name",
+    value: "TEXT",
+    help: "The name it acts under, 1 to 64 bytes",
+};
+
+const DEPTH: Word = Word {
+    kind: Kind::Number,
+    name: "depth",
+    value: "NUMBER",
+    help: "How deep it may delegate, 0 to 15",
+};
+
+const OLD_CHAIN: Word = Word {
+    kind: Kind::Optional,
+    name: "chain",
+    value: "CHAIN",
+    help: "The chain from the root key",
+};
+
+const CHAIN_FILE: Word = Word {
+    kind: Kind::Required,
+    name: "chain",
+    value: "CHAIN",
+    help: "The chain from the root key",
+};
+
+const CHAIN_OUTPUT: Word = Word {
+    kind: Kind::Required,
+    name: "output",
+    value: "CHAIN",
+    help: "Where the chain with the new link goes",
+};
+
+const ROOT: Word = Word {
+    kind: Kind::Required,
+    name: "key",
+    value: "ROOT.pub",
+    help: "The root's verifying key",
+};
+
+const MASTER: Word = Word {
+    kind: Kind::Required,
+    name: "master",
+    value: "FILE",
+    help: "The master secret",
+};
+
+const MASTER_FILE: Word = Word {
+    kind: Kind::Operand,
+    name: "file",
+    value: "FILE",
+    help: "The file, which is secret",
+};
+
+const PATH: Word = Word {
+    kind: Kind::Required,
+    name: "path",
+    value: "PATH",
+    help: "Up to 8 numbers with slashes, or a dot",
+};
+
+const PATHS: Word = Word {
+    kind: Kind::Operands,
+    name: "paths",
+    value: "PATH",
+    help: "Up to 64 paths: numbers with slashes, or a dot",
+};
+
+const RECORD: Word = Word {
+    kind: Kind::Operand,
+    name: "file",
+    value: "RECORD",
+    help: "The record",
+};
+
+const RECORD_OUTPUT: Word = Word {
+    kind: Kind::Optional,
+    name: "output",
+    value: "RECORD",
+    help: "Where it goes, in place of standard output",
+};

@@ -9,7 +9,7 @@ use clap::ArgMatches;
 use slh_dsa::ParameterSet;
 use slh_files::Outcome;
 use slh_line::{OnSet, signing_key as signing_key_of, verifying_key as verifying_key_of};
-use slh_manifest::{BuildError, Builder, CheckError, check as check_over};
+use slh_manifest::{BuildError, Builder, CheckError, check as check_over, entry_name};
 use std::alloc::{AllocError, Global};
 use std::{fs, io, str};
 
@@ -162,17 +162,6 @@ impl<'s> OnSet for Checking<'s> {
     }
 }
 
-// The name of an entry, counted from 0, of a manifest that has the form.
-fn name_of(manifest: &[u8], entry: u32) -> Option<&[u8]> {
-    let mut rest = manifest.get(4..)?;
-    for _ in 0..entry {
-        let size = usize::from(*rest.first()?);
-        rest = rest.get(size + 41..)?;
-    }
-    let size = usize::from(*rest.first()?);
-    rest.get(1..size + 1)
-}
-
 /// Tells whether a folder has the files of a manifest.
 pub fn check<'a>(rt: &HostRuntime, words: &ArgMatches<'a>) -> Result<Outcome, Failure<'a>> {
     check_inputs(words)?;
@@ -189,10 +178,10 @@ pub fn check<'a>(rt: &HostRuntime, words: &ArgMatches<'a>) -> Result<Outcome, Fa
         Ok(()) => tell(rt, Outcome::Accepted),
         Err(CheckError::Invalid) => tell(rt, Outcome::Invalid),
         Err(CheckError::Missing(i)) => {
-            tell_name(rt, Outcome::Missing, name_of(manifest.as_slice(), i))
+            tell_name(rt, Outcome::Missing, entry_name(manifest.as_slice(), i))
         }
         Err(CheckError::Differs(i)) => {
-            tell_name(rt, Outcome::Differs, name_of(manifest.as_slice(), i))
+            tell_name(rt, Outcome::Differs, entry_name(manifest.as_slice(), i))
         }
         Err(CheckError::Form) => Err(Failure::Told(path, "not a manifest of the key's set")),
         Err(CheckError::Fault) => Err(fault_failure(rt.alloc(), below, folder)?),

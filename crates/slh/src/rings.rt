@@ -4,7 +4,7 @@ use crate::failure::Failure;
 use crate::files;
 use crate::keys::{SECRET, write_pair};
 use clap::ArgMatches;
-use line_serve::{decimal_value, push_hex_line, push_number};
+use line_serve::push_hex_line;
 use slh_dsa::ParameterSet;
 use slh_files::{Key, Outcome, digits_of};
 use slh_line::OnSet;
@@ -12,42 +12,8 @@ use slh_ring::{Path, RestoreError, Ring, RingError, derive};
 use slh_run::{ByteString, Set};
 use std::alloc::{AllocError, Global};
 
-/// The most numbers of a path.
-const MAX_NUMBERS: usize = 8;
-
 /// The most bytes of a master.
 const MAX_MASTER: usize = 1 << 60;
-
-// The path of a text such as `2/2026`; `.` is the path of no numbers.
-fn path_of(text: &str) -> Option<Path> {
-    if text == "." {
-        return Path::from_slice(&[]);
-    }
-    let mut numbers = [0u32; MAX_NUMBERS];
-    let mut count = 0;
-    for part in text.as_bytes().split(|b| *b == b'/') {
-        if count >= MAX_NUMBERS {
-            return None;
-        }
-        numbers[count] = decimal_value(part, 10, u64::from(u32::MAX))? as u32;
-        count += 1;
-    }
-    Path::from_slice(numbers.get(..count)?)
-}
-
-fn push_path(text: &mut ByteString, path: &Path) -> Result<(), AllocError> {
-    match path.as_slice() {
-        [] => text.push_slice(b".")?,
-        [first, later @ ..] => {
-            push_number(text, u64::from(*first))?;
-            for number in later {
-                text.push_slice(b"/")?;
-                push_number(text, u64::from(*number))?;
-            }
-        }
-    }
-    text.push_slice(b"\n")
-}
 
 // The master of a file, which has it in hexadecimal.
 fn master<'a>(rt: &HostRuntime, words: &ArgMatches<'a>) -> Result<ByteString, Failure<'a>> {
@@ -100,7 +66,7 @@ impl<'s> OnSet for Derivation<'s> {
 /// Makes the key at a path again, and writes it as `keygen` does.
 pub fn key<'a>(rt: &HostRuntime, words: &ArgMatches<'a>) -> Result<Outcome, Failure<'a>> {
     let text = required(words, "path")?;
-    let Some(path) = path_of(text) else {
+    let Some(path) = Path::from_text(text.as_bytes()) else {
         return Err(Failure::Path(text));
     };
     let set = set_of(words)?;
@@ -140,7 +106,7 @@ impl<'m, 's, 'a> OnSet for Recording<'m, 's, 'a> {
 fn ring_of<'a, P: ParameterSet>(alloc: Global, paths: &[&'a str]) -> Result<Ring<P>, Failure<'a>> {
     let mut ring = Ring::new(alloc);
     for text in paths {
-        let Some(path) = path_of(*text) else {
+        let Some(path) = Path::from_text(text.as_bytes()) else {
             return Err(Failure::Path(*text));
         };
         match ring.add(path) {
@@ -205,7 +171,8 @@ fn paths_text<P: ParameterSet>(alloc: Global, ring: &Ring<P>) -> Result<ByteStri
     let mut text = ByteString::new(alloc);
     for i in 0..ring.len() {
         if let Some(path) = ring.get(i) {
-            push_path(&mut text, path)?;
+            path.push_to(&mut text)?;
+            text.push_slice(b"\n")?;
         }
     }
     Ok(text)

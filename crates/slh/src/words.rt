@@ -1,11 +1,11 @@
-//! The words that the command knows.
-use crate::group_words::{batch, chain, manifest, ring};
+//! The words that the command knows, in tables, and the parser that they make.
+use crate::group_words::groups;
 use clap::builder::ValueParser;
-use clap::{Arg, ArgAction, Command};
+use clap::{Arg, ArgAction, Command, value_parser};
 use std::alloc::{AllocError, Global};
 
 /// What `--version` prints: the version, and the toolchain that proved the program.
-const VERSION: &str = "0.1.0 (rattle-kit-13b logic dac8208d650f15bf)";
+const VERSION: &str = "0.8.0 (rattle-kit-13b logic dac8208d650f15bf)";
 
 const SETS: [&str; 6] = [
     "SLH-DSA-SHA2-128s",
@@ -18,181 +18,317 @@ const SETS: [&str; 6] = [
 
 const HASHES: [&str; 2] = ["sha256", "sha512"];
 
+/// A command that has commands below it.
+#[derive(Clone, Copy)]
+pub struct Group {
+    pub name: &'static str,
+    pub about: &'static str,
+    pub subcommands: &'static [Subcommand],
+}
+
+/// A command with no commands below it.
+pub struct Subcommand {
+    pub name: &'static str,
+    pub about: &'static str,
+    pub example: &'static str,
+    pub words: &'static [Word],
+}
+
+/// An option, a flag or an operand.
+pub struct Word {
+    pub kind: Kind,
+    pub name: &'static str,
+    pub value: &'static str,
+    pub help: &'static str,
+}
+
+/// What a word is.
+#[derive(Clone, Copy)]
+pub enum Kind {
+    /// `--name` alone.
+    Flag,
+    /// An option that may be left out.
+    Optional,
+    /// An option that may be left out, and does not stand with `--context-hex`.
+    Context,
+    /// An option that may be left out, one of `HASHES`.
+    Hash,
+    /// An option that may be left out: a number, or else 0.
+    Number,
+    /// An option.
+    Required,
+    /// An option, one of `SETS`.
+    Set,
+    /// One word, which is not empty.
+    Operand,
+    /// One word or more.
+    Operands,
+}
+
+pub const SET: Word = Word {
+    kind: Kind::Set,
+    name: "set",
+    value: "SET",
+    help: "The parameter set",
+};
+
+pub const SIGNING_KEY: Word = Word {
+    kind: Kind::Required,
+    name: "key",
+    value: "NAME.key",
+    help: "The signing key",
+};
+
+pub const VERIFYING_KEY: Word = Word {
+    kind: Kind::Required,
+    name: "key",
+    value: "NAME.pub",
+    help: "The verifying key",
+};
+
+pub const SIGNATURE: Word = Word {
+    kind: Kind::Required,
+    name: "signature",
+    value: "FILE.sig",
+    help: "The signature",
+};
+
+pub const CONTEXT: Word = Word {
+    kind: Kind::Context,
+    name: "context",
+    value: "TEXT",
+    help: "The context, at most 255 bytes",
+};
+
+pub const CONTEXT_HEX: Word = Word {
+    kind: Kind::Optional,
+    name: "context-hex",
+    value: "HEX",
+    help: "The context in hexadecimal",
+};
+
+pub const PREHASH: Word = Word {
+    kind: Kind::Hash,
+    name: "prehash",
+    value: "HASH",
+    help: "Signs this digest of the file",
+};
+
+pub const DETERMINISTIC: Word = Word {
+    kind: Kind::Flag,
+    name: "deterministic",
+    value: "",
+    help: "Signs without random bytes",
+};
+
+pub const FILE: Word = Word {
+    kind: Kind::Operand,
+    name: "file",
+    value: "FILE",
+    help: "The file; - is standard input",
+};
+
+pub const NAME: Word = Word {
+    kind: Kind::Operand,
+    name: "name",
+    value: "NAME",
+    help: "The files' name, without .key and .pub",
+};
+
+pub const OUTPUT: Word = Word {
+    kind: Kind::Optional,
+    name: "output",
+    value: "FILE",
+    help: "Where it goes, in place of standard output",
+};
+
+const AUDIT: Word = Word {
+    kind: Kind::Flag,
+    name: "audit",
+    value: "",
+    help: "Makes the signature twice, and compares, before it is written",
+};
+
+const SIGNATURE_OUTPUT: Word = Word {
+    kind: Kind::Optional,
+    name: "output",
+    value: "FILE.sig",
+    help: "Where the signature goes; - is standard output",
+};
+
+const EVIDENCE: Word = Word {
+    kind: Kind::Required,
+    name: "evidence",
+    value: "WORDS",
+    help: "What an audit printed after foreign",
+};
+
+// (in a function of its own, a table stands in no other function's proof)
+fn subcommands() -> &'static [Subcommand] {
+    &[
+        Subcommand {
+            name: "keygen",
+            about: "Makes a key of random bytes: NAME.key, which is secret, and NAME.pub",
+            example: "Example:\n    slh keygen --set SLH-DSA-SHA2-128f release",
+            words: &[SET, NAME],
+        },
+        Subcommand {
+            name: "public",
+            about: "Writes the verifying key of a signing key",
+            example: "Example:\n    slh public --key release.key --output release.pub",
+            words: &[SIGNING_KEY, OUTPUT],
+        },
+        Subcommand {
+            name: "sign",
+            about: "Signs a file; the signature goes to FILE.sig",
+            example: "Example:\n    slh sign --key release.key --audit notes.txt",
+            words: &[
+                SIGNING_KEY,
+                CONTEXT,
+                CONTEXT_HEX,
+                PREHASH,
+                FILE,
+                DETERMINISTIC,
+                AUDIT,
+                SIGNATURE_OUTPUT,
+            ],
+        },
+        Subcommand {
+            name: "verify",
+            about: "Verifies a signature of a file: accepted (0) or invalid (1)",
+            example: "Example:\n    \
+                      slh verify --key release.pub --signature notes.txt.sig notes.txt",
+            words: &[
+                VERIFYING_KEY,
+                SIGNATURE,
+                CONTEXT,
+                CONTEXT_HEX,
+                PREHASH,
+                FILE,
+            ],
+        },
+        Subcommand {
+            name: "audit",
+            about: "Tells whether a key made a signature: genuine (0), foreign or invalid (1)",
+            example: "Example:\n    \
+                      slh audit --key release.key --signature notes.txt.sig notes.txt",
+            words: &[SIGNING_KEY, SIGNATURE, CONTEXT, CONTEXT_HEX, PREHASH, FILE],
+        },
+        Subcommand {
+            name: "check",
+            about: "Tells whether evidence shows against a signature: shown (0) or not shown (1)",
+            example: "Example:\n    slh check --key release.key --signature notes.txt.sig \
+                      --evidence 'early 0 1' notes.txt",
+            words: &[
+                SIGNING_KEY,
+                SIGNATURE,
+                EVIDENCE,
+                CONTEXT,
+                CONTEXT_HEX,
+                PREHASH,
+                FILE,
+            ],
+        },
+        Subcommand {
+            name: "inspect",
+            about: "Tells what a key or a signature is, and nothing that is secret",
+            example: "Example:\n    slh inspect release.key",
+            words: &[FILE],
+        },
+    ]
+}
+
 /// The command and its subcommands.
 pub fn command<'a>(alloc: Global) -> Result<Command<'a>, AllocError> {
-    Command::new(alloc, "slh")
-        .version(VERSION)
-        .about("Signs and verifies files by SLH-DSA over SHA-2 (FIPS 205)")
-        .after_help(
-            "The status is 0, or 1 where a verdict says no, or 2 for all else.\n\n\
-             Example:\n    slh keygen --set SLH-DSA-SHA2-128f release\n    \
-             slh sign --key release.key notes.txt\n    \
-             slh verify --key release.pub --signature notes.txt.sig notes.txt",
-        )
+    let mut command = with_subcommands(alloc, root(alloc), subcommands())?;
+    for group in groups() {
+        command = command.subcommand(group_command(alloc, group)?)?;
+    }
+    Ok(command)
+}
+
+fn root<'a>(alloc: Global) -> Command<'a> {
+    let about = "Signs and verifies files by SLH-DSA over SHA-2 (FIPS 205)";
+    parent(alloc, "slh", about).version(VERSION).after_help(
+        "The status is 0, or 1 where a verdict says no, or 2 for all else.\n\n\
+         Example:\n    slh keygen --set SLH-DSA-SHA2-128f release\n    \
+         slh sign --key release.key notes.txt\n    \
+         slh verify --key release.pub --signature notes.txt.sig notes.txt",
+    )
+}
+
+// A command that one below it has to follow.
+fn parent<'a>(alloc: Global, name: &'a str, about: &'a str) -> Command<'a> {
+    Command::new(alloc, name)
+        .about(about)
         .subcommand_required(true)
         .arg_required_else_help(true)
-        .subcommand(keygen(alloc)?)?
-        .subcommand(public(alloc)?)?
-        .subcommand(sign(alloc)?)?
-        .subcommand(verify(alloc)?)?
-        .subcommand(audit(alloc)?)?
-        .subcommand(check(alloc)?)?
-        .subcommand(inspect(alloc)?)?
-        .subcommand(batch(alloc)?)?
-        .subcommand(manifest(alloc)?)?
-        .subcommand(chain(alloc)?)?
-        .subcommand(ring(alloc)?)
 }
 
-fn keygen<'a>(alloc: Global) -> Result<Command<'a>, AllocError> {
-    Command::new(alloc, "keygen")
-        .about("Makes a key of random bytes: NAME.key, which is secret, and NAME.pub")
-        .after_help("Example:\n    slh keygen --set SLH-DSA-SHA2-128f release")
-        .arg(set(alloc))?
-        .arg(operand(
-            alloc,
-            "name",
-            "NAME",
-            "The files' name, without .key and .pub",
-        ))
+fn group_command<'a>(alloc: Global, group: Group) -> Result<Command<'a>, AllocError> {
+    let command = parent(alloc, group.name, group.about);
+    with_subcommands(alloc, command, group.subcommands)
 }
 
-fn public<'a>(alloc: Global) -> Result<Command<'a>, AllocError> {
-    Command::new(alloc, "public")
-        .about("Writes the verifying key of a signing key")
-        .after_help("Example:\n    slh public --key release.key --output release.pub")
-        .arg(signing_key(alloc))?
-        .arg(option(
-            alloc,
-            "output",
-            "FILE",
-            "Where it goes, in place of standard output",
-        ))
+fn with_subcommands<'a>(
+    alloc: Global,
+    mut command: Command<'a>,
+    rows: &'static [Subcommand],
+) -> Result<Command<'a>, AllocError> {
+    for row in rows {
+        command = command.subcommand(command_of(alloc, row)?)?;
+    }
+    Ok(command)
 }
 
-fn sign<'a>(alloc: Global) -> Result<Command<'a>, AllocError> {
-    let command = Command::new(alloc, "sign")
-        .about("Signs a file; the signature goes to FILE.sig")
-        .after_help("Example:\n    slh sign --key release.key --audit notes.txt")
-        .arg(signing_key(alloc))?;
-    with_message(alloc, command)?
-        .arg(deterministic(alloc))?
-        .arg(flag(
-            alloc,
-            "audit",
-            "Makes the signature twice, and compares, before it is written",
-        ))?
-        .arg(option(
-            alloc,
-            "output",
-            "FILE.sig",
-            "Where the signature goes; - is standard output",
-        ))
+fn command_of<'a>(alloc: Global, row: &'static Subcommand) -> Result<Command<'a>, AllocError> {
+    let mut command = Command::new(alloc, row.name)
+        .about(row.about)
+        .after_help(row.example);
+    for word in row.words {
+        command = command.arg(arg_of(alloc, word)?)?;
+    }
+    Ok(command)
 }
 
-fn verify<'a>(alloc: Global) -> Result<Command<'a>, AllocError> {
-    let command = Command::new(alloc, "verify")
-        .about("Verifies a signature of a file: accepted (0) or invalid (1)")
-        .after_help(
-            "Example:\n    slh verify --key release.pub --signature notes.txt.sig notes.txt",
-        )
-        .arg(verifying_key(alloc))?
-        .arg(signature(alloc))?;
-    with_message(alloc, command)
+fn arg_of<'a>(alloc: Global, word: &'static Word) -> Result<Arg<'a>, AllocError> {
+    let arg = Arg::new(alloc, word.name).help(word.help);
+    match word.kind {
+        Kind::Flag => Ok(arg.long(word.name).action(ArgAction::SetTrue)),
+        Kind::Operand => Ok(with_value(arg, word)),
+        Kind::Operands => Ok(with_value(arg, word).num_args(1usize..)),
+        Kind::Context => with_value(arg.long(word.name), word).conflicts_with("context-hex"),
+        _ => Ok(with_value(arg.long(word.name), word)),
+    }
 }
 
-fn audit<'a>(alloc: Global) -> Result<Command<'a>, AllocError> {
-    let command = Command::new(alloc, "audit")
-        .about("Tells whether a key made a signature: genuine (0), foreign or invalid (1)")
-        .after_help("Example:\n    slh audit --key release.key --signature notes.txt.sig notes.txt")
-        .arg(signing_key(alloc))?
-        .arg(signature(alloc))?;
-    with_message(alloc, command)
+fn with_value<'a>(arg: Arg<'a>, word: &'static Word) -> Arg<'a> {
+    arg.value_name(word.value)
+        .value_parser(parser_of(word.kind))
+        .default_values(defaults_of(word.kind))
+        .required(is_required(word.kind))
 }
 
-fn check<'a>(alloc: Global) -> Result<Command<'a>, AllocError> {
-    let evidence = option(
-        alloc,
-        "evidence",
-        "WORDS",
-        "What an audit printed after foreign",
-    );
-    let command = Command::new(alloc, "check")
-        .about("Tells whether evidence shows against a signature: shown (0) or not shown (1)")
-        .after_help(
-            "Example:\n    slh check --key release.key --signature notes.txt.sig \
-             --evidence 'early 0 1' notes.txt",
-        )
-        .arg(signing_key(alloc))?
-        .arg(signature(alloc))?
-        .arg(evidence.required(true))?;
-    with_message(alloc, command)
+fn parser_of(kind: Kind) -> ValueParser<'static> {
+    match kind {
+        Kind::Set => ValueParser::Names(&SETS),
+        Kind::Hash => ValueParser::Names(&HASHES),
+        Kind::Number => value_parser!(u8),
+        Kind::Operand | Kind::Operands => ValueParser::NonEmptyString,
+        _ => ValueParser::String,
+    }
 }
 
-fn inspect<'a>(alloc: Global) -> Result<Command<'a>, AllocError> {
-    Command::new(alloc, "inspect")
-        .about("Tells what a key or a signature is, and nothing that is secret")
-        .after_help("Example:\n    slh inspect release.key")
-        .arg(file(alloc))
+fn defaults_of(kind: Kind) -> &'static [&'static str] {
+    match kind {
+        Kind::Number => &["0"],
+        _ => &[],
+    }
 }
 
-// The options that say how a file is signed, and the file.
-pub fn with_message<'a>(alloc: Global, command: Command<'a>) -> Result<Command<'a>, AllocError> {
-    let context = option(alloc, "context", "TEXT", "The context, at most 255 bytes");
-    let digits = option(alloc, "context-hex", "HEX", "The context in hexadecimal");
-    let hash = option(alloc, "prehash", "HASH", "Signs this digest of the file");
-    command
-        .arg(context.conflicts_with("context-hex")?)?
-        .arg(digits)?
-        .arg(hash.value_parser(HASHES.as_slice()))?
-        .arg(file(alloc))
-}
-
-pub fn set<'a>(alloc: Global) -> Arg<'a> {
-    option(alloc, "set", "SET", "The parameter set")
-        .value_parser(SETS.as_slice())
-        .required(true)
-}
-
-pub fn signing_key<'a>(alloc: Global) -> Arg<'a> {
-    option(alloc, "key", "NAME.key", "The signing key").required(true)
-}
-
-pub fn verifying_key<'a>(alloc: Global) -> Arg<'a> {
-    option(alloc, "key", "NAME.pub", "The verifying key").required(true)
-}
-
-pub fn signature<'a>(alloc: Global) -> Arg<'a> {
-    option(alloc, "signature", "FILE.sig", "The signature").required(true)
-}
-
-/// The option for signatures that are the same each time.
-pub fn deterministic<'a>(alloc: Global) -> Arg<'a> {
-    flag(alloc, "deterministic", "Signs without random bytes")
-}
-
-pub fn file<'a>(alloc: Global) -> Arg<'a> {
-    operand(alloc, "file", "FILE", "The file; - is standard input")
-}
-
-pub fn option<'a>(alloc: Global, name: &'a str, value: &'a str, help: &'a str) -> Arg<'a> {
-    Arg::new(alloc, name)
-        .long(name)
-        .value_name(value)
-        .help(help)
-}
-
-pub fn flag<'a>(alloc: Global, name: &'a str, help: &'a str) -> Arg<'a> {
-    Arg::new(alloc, name)
-        .long(name)
-        .action(ArgAction::SetTrue)
-        .help(help)
-}
-
-pub fn operand<'a>(alloc: Global, name: &'a str, value: &'a str, help: &'a str) -> Arg<'a> {
-    Arg::new(alloc, name)
-        .value_name(value)
-        .value_parser(ValueParser::NonEmptyString)
-        .required(true)
-        .help(help)
+fn is_required(kind: Kind) -> bool {
+    matches!(
+        kind,
+        Kind::Required | Kind::Set | Kind::Operand | Kind::Operands
+    )
 }

@@ -1,6 +1,7 @@
 pub mod Stores
 pub mod Measures
 pub mod Fronts
+pub mod EntryNames
 pub mod Lists
 pub mod Errors
 pub mod Whole

@@ -57,7 +57,7 @@ mod store;
 
 pub use builder::Builder;
 pub use checking::check;
-pub use entry::{Entry, MAX_ENTRIES, MAX_LEN, MAX_NAME};
+pub use entry::{Entry, MAX_ENTRIES, MAX_LEN, MAX_NAME, entry_name};
 pub use error::{BuildError, CheckError};
 pub use line_serve::Failed;
 pub use memory::MemStore;

@@ -58,6 +58,7 @@ pub mod laws;
 mod path;
 mod records;
 mod ring;
+mod text;
 
 pub use derived::{derive, derive_counted};
 pub use error::{RestoreError, RingError};

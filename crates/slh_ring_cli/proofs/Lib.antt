@@ -1,4 +1,3 @@
-mod Numbers
 mod Paths
 mod Adds
 mod Texts

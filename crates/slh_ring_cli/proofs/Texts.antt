@@ -5,7 +5,7 @@ use Rattle.std.specs.List.{flat_map}
 use Rattle.std.proofs.lemmas.Grind.{flat_map-append}
 use Rattle.std.proofs.lemmas.List.{take_more}
 use Rattle.std.proofs.lemmas.Option.{get_or_from_slice_get, slice_get_within}
-use Rattle.slh_ring_cli.specs.PathFields.{path_text}
+use Rattle.slh_ring.specs.PathTexts.{path_text}
 
 pub text_more : {X : Type 0} (f : X → List ℕ) (items : List X) (i : ℕ) (item : X) → i < length items
     → flat_map f (take (i + 1) items) ≡ flat_map f (take i items) ++ f (get_or items i item)

@@ -8,6 +8,7 @@ use Rattle.line_serve.specs.Fields.{field_at}
 use Rattle.line_serve.specs.Texts.{hex_line, number_line}
 use Rattle.slh_core.specs.Parameters.{Scheme}
 use Rattle.slh_ring.specs.Keys.{ring_bytes, ring_key}
+use Rattle.slh_ring.specs.PathTexts.{path_text}
 use Rattle.slh_ring.specs.Restores.{restore_answer}
 use Rattle.slh_ring.specs.Rings.{has_path, with_path}
 use Rattle.slh_ring.specs.declared.error.RestoreError.{RestoreError}
@@ -16,7 +17,7 @@ use Rattle.slh_line.specs.Readings.{and_then, bytes_at}
 use Rattle.slh_line.specs.Replies.{Answers}
 use Rattle.slh_line.specs.declared.line_error.LineError.{LineError}
 use Rattle.slh_line.specs.declared.line_error.LineError.TheVariants.{Command, Fields}
-use Rattle.slh_ring_cli.specs.PathFields.{all_paths, path_of, path_text}
+use Rattle.slh_ring_cli.specs.PathFields.{all_paths, path_of}
 
 abbrev pub usage : List ℕ
 usage = codes "usage: slh_ring_cli\n"

@@ -9,7 +9,6 @@ ghost use Rattle.slh_ring_cli.specs.Replies.{restore_text as spec_restore_text};
 ghost use Rattle.slh_ring_cli.specs.Replies.{ring_text as spec_ring_text};
 
 use crate::keys::master_of;
-use crate::path_fields::push_path;
 use line_serve::{ByteString, push_number_line};
 use slh_dsa::ParameterSet;
 use slh_line::{LineError, bytes_at};
@@ -26,7 +25,7 @@ fn ring_text<P: ParameterSet>(alloc: Global, ring: &Ring<P>) -> Result<ByteStrin
             return Err(LineError::Memory);
         };
         text.push_slice(b" ")?;
-        push_path(&mut text, path)?;
+        path.push_to(&mut text)?;
     }
     text.push_slice(b"\n")?;
     Ok(text)

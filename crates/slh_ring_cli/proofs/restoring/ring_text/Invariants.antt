@@ -1,7 +1,7 @@
 use Rattle.std.proofs.Common.{◌≡◌, ◌++◌, take}
 use Rattle.std.specs.Prelude.{codes}
 use Rattle.std.specs.List.{flat_map}
-use Rattle.slh_ring_cli.specs.PathFields.{path_text}
+use Rattle.slh_ring.specs.PathTexts.{path_text}
 use Rattle.slh_ring_cli.proofs.restoring.ring_text.Given as goal
 
 -- the paths so far

@@ -3,7 +3,7 @@ use Rattle.std.proofs.Common.{◌≡◌, ℕ, zero, suc, ◌+◌, ◌<◌, List,
 use Rattle.std.proofs.lemmas.List.{take_more, take_more_set}
 use Rattle.line_serve.specs.Decimals.{number_value}
 use Rattle.line_serve.specs.Fields.{for_some}
-use Rattle.slh_ring_cli.specs.PathFields.{all_numbers}
+use Rattle.slh_ring.specs.PathTexts.{all_numbers}
 
 behind : (xs : List (List ℕ)) (text ns : List ℕ) (x y : ℕ)
     → ((ms : List ℕ) → all_numbers xs ≡ Some ms → all_numbers (xs ++ text ∷ []) ≡ Some (ms ++ x ∷ []))
