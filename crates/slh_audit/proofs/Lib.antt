@@ -13,3 +13,4 @@ pub mod Told
 pub mod Shown
 pub mod Judging
 pub mod Order
+pub mod Answered
