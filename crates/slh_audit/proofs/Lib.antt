@@ -14,3 +14,4 @@ pub mod Shown
 pub mod Judging
 pub mod Order
 pub mod Answered
+pub mod Climbed
