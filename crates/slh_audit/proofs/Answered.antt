@@ -1,6 +1,7 @@
 -- What calls answer, of values that are computed somehow: names stand for them, so that a function's own
 -- proof has nothing large to rewrite.
-use Rattle.std.proofs.Common.{◌≡◌, ◌↔◌, ℕ, ◌+◌, ◌-◌, ◌*◌, ◌<◌, ◌≤◌, Bool, IsTrue, true, false, List, ◌++◌, length, slice_index, take, sym, ◌∙◌, refl}
+use Rattle.std.proofs.Common.{◌≡◌, ◌↔◌, ℕ, ◌+◌, ◌-◌, ◌*◌, ◌<◌, ◌≤◌, Bool, IsTrue, true, false, List, ◌++◌, length, slice_index, take, sym, ◌∙◌, refl, arith}
+use Rattle.std.proofs.lemmas.Bool.{false≢true}
 use Rattle.std.proofs.Common.{Option, Result, Ok, Err}
 use Rattle.std.specs.Str.{bytes_eq}
 use Rattle.std.proofs.lemmas.Slice.Eq.{bytes_eq-Decides}
@@ -151,3 +152,23 @@ early_shown D L sk sig m own j t y c digit own_digit chains value own_value show
     let tells : IsTrue shown ↔ EarlyShows D.K D.sk j t y sig m own c = ((λ yes. (below, equal.0 yes)), (λ holds. equal.1 holds.1)) in
     let placed = rw (is_t, is_y, is_sig, is_m, is_own) at tells in
     told D _ _ ((λ yes. (inside, (layer, placed.0 yes))), (λ holds. placed.1 holds.1.1))
+
+-- a step before the check's first, or after the last, shows nothing
+pub step_before : (D : Dispute) (j c q digit : ℕ) (m : List ℕ) → m ≡ checked_at D j → digit ≡ slice_index (wots_digits D.K.n m) c → q < digit → false ≡ shows D (ChainStep j c q)
+unfolding IsShown ChainStepShows
+step_before D j c q digit m is_m is_digit less =
+    let digit_now = rw is_m at is_digit in
+    told D _ _ ((λ yes. absurd (false≢true yes)), (λ holds. absurd (omega (arith, holds.1.1.0, digit_now, less))))
+
+pub step_after : (D : Dispute) (j c q : ℕ) → 14 < q → false ≡ shows D (ChainStep j c q)
+unfolding IsShown ChainStepShows
+step_after D j c q more = told D _ _ ((λ yes. absurd (false≢true yes)), (λ holds. absurd (omega (arith, holds.1.1.1, more))))
+
+-- nor does a chain that isn't opened earlier
+pub not_early : (D : Dispute) (j c digit own_digit : ℕ) (m own : List ℕ) → m ≡ checked_at D j → own ≡ own_at D j
+    → digit ≡ slice_index (wots_digits D.K.n m) c → own_digit ≡ slice_index (wots_digits D.K.n own) c → own_digit ≤ digit → false ≡ shows D (Early j c)
+unfolding IsShown EarlyShows
+not_early D j c digit own_digit m own is_m is_own is_digit is_own_digit late =
+    let digit_now = rw is_m at is_digit in
+    let own_now = rw is_own at is_own_digit in
+    told D _ _ ((λ yes. absurd (false≢true yes)), (λ holds. absurd (omega (arith, holds.1.1.0, digit_now, own_now, late))))

@@ -15,3 +15,4 @@ pub mod Judging
 pub mod Order
 pub mod Answered
 pub mod Climbed
+pub mod Forested

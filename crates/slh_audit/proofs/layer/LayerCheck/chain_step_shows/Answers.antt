@@ -1,25 +1,17 @@
 use Rattle.std.proofs.Common.{arith, refl}
-use Rattle.std.proofs.lemmas.Bool.{false≢true}
-use Rattle.slh_audit.proofs.Answered.{chain_step_shown}
-use Rattle.slh_audit.proofs.Meaning.{ChainStepShows, IsShown}
-use Rattle.slh_audit.proofs.Shown.{told}
+use Rattle.slh_audit.proofs.Answered.{chain_step_shown, step_after, step_before}
 use Rattle.slh_audit.specs.Evidence.{dispute_on}
 use Rattle.slh_core.specs.Parameters.{scheme_of}
 use Rattle.slh_audit.proofs.layer.LayerCheck.chain_step_shows.Goals as goal
 
 pub returns-then-step-digit : goal.returns-then-step-digit
-unfolding IsShown ChainStepShows
 returns-then-step-digit g c =
     let s = c.args.self.now in
-    told _ _ _ (
-      (λ t. absurd (false≢true t)),
-      (λ shows. absurd (omega (arith, (rw (← s.tree, ← s.leaf, ← s.part, ← s.checked) at shows).1.1.0, c.digit_of-digit.ensures.value, c.if-step-digit.true))),
-    )
+    step_before (dispute_on (scheme_of g.P.HashSuite.suite g.P.N.ArraySize.USIZE g.P.HPrime.ArraySize.USIZE g.P.D.ArraySize.USIZE g.P.A.ArraySize.USIZE g.P.K.ArraySize.USIZE) s.dispute.now) _ _ _ _ _ s.checked c.digit_of-digit.ensures.value (omega (arith, c.if-step-digit.true))
 
 pub returns-then-step-gt14 : goal.returns-then-step-gt14
-unfolding IsShown ChainStepShows
 returns-then-step-gt14 g c =
-    told _ _ _ ((λ t. absurd (false≢true t)), (λ shows. absurd (omega (arith, shows.1.1.1, c.if-step-gt14.true))))
+    step_after (dispute_on (scheme_of g.P.HashSuite.suite g.P.N.ArraySize.USIZE g.P.HPrime.ArraySize.USIZE g.P.D.ArraySize.USIZE g.P.A.ArraySize.USIZE g.P.K.ArraySize.USIZE) c.args.self.now.dispute.now) _ _ _ (omega (arith, c.if-step-gt14.true))
 
 pub returns : goal.returns
 returns g c =

@@ -1,20 +1,13 @@
 use Rattle.std.proofs.Common.{arith, refl}
-use Rattle.std.proofs.lemmas.Bool.{false≢true}
-use Rattle.slh_audit.proofs.Answered.{early_shown}
-use Rattle.slh_audit.proofs.Meaning.{EarlyShows, IsShown}
-use Rattle.slh_audit.proofs.Shown.{told}
+use Rattle.slh_audit.proofs.Answered.{early_shown, not_early}
 use Rattle.slh_audit.specs.Evidence.{dispute_on}
 use Rattle.slh_core.specs.Parameters.{scheme_of}
 use Rattle.slh_audit.proofs.layer.LayerCheck.early_shows.Goals as goal
 
 pub returns-then-digit-digit_of : goal.returns-then-digit-digit_of
-unfolding IsShown EarlyShows
 returns-then-digit-digit_of g c =
     let s = c.args.self.now in
-    told _ _ _ (
-      (λ t. absurd (false≢true t)),
-      (λ shows. absurd (omega (arith, (rw (← s.checked, ← c.requires.own) at shows).1.1.0, c.digit_of-digit.ensures.value, c.digit_of.ensures.value, c.if-digit-digit_of.true))),
-    )
+    not_early (dispute_on (scheme_of g.P.HashSuite.suite g.P.N.ArraySize.USIZE g.P.HPrime.ArraySize.USIZE g.P.D.ArraySize.USIZE g.P.A.ArraySize.USIZE g.P.K.ArraySize.USIZE) s.dispute.now) _ _ _ _ _ _ s.checked c.requires.own c.digit_of-digit.ensures.value c.digit_of.ensures.value (omega (arith, c.if-digit-digit_of.true))
 
 pub returns : goal.returns
 returns g c =
