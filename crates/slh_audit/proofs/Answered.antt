@@ -10,7 +10,7 @@ use Rattle.slh_audit.proofs.Judging.{by_search, own_is_genuine}
 use Rattle.slh_audit.proofs.Meaning.{ChainStepShows, EarlyShows, IsShown, checked_at, collide_means, own_at}
 use Rattle.slh_audit.proofs.OwnLayers.{all_own}
 use Rattle.slh_audit.proofs.Shown.{says, told}
-use Rattle.slh_audit.specs.Evidence.{Dispute, IsOwnFrom, Parts, collide, dispute, dispute_on, fors_secret_shows, shows}
+use Rattle.slh_audit.specs.Evidence.{Dispute, IsOwnFrom, Parts, collide, dispute, dispute_of, dispute_on, fors_secret_shows, shows}
 use Rattle.slh_audit.specs.Places.{first_evidence}
 use Rattle.slh_audit.specs.Verdicts.{digest_verdict, foreign_by, message_audit}
 use Rattle.slh_audit.specs.declared.evidence.AuditError.{AuditError}
@@ -172,3 +172,20 @@ not_early D j c digit own_digit m own is_m is_own is_digit is_own_digit late =
     let digit_now = rw is_m at is_digit in
     let own_now = rw is_own at is_own_digit in
     told D _ _ ((λ yes. absurd (false≢true yes)), (λ holds. absurd (omega (arith, holds.1.1.0, digit_now, own_now, late))))
+
+-- whether evidence shows, by two names of the scheme
+pub shows_by_parts : (Z Y : Scheme) → Z ≡ Y → (s sk digest sig : List ℕ) (x : Parts) (e : Evidence) (shown : Bool) → x ≡ parts_of Z s sk digest sig
+    → shown ≡ shows (dispute_on Y x) e → shown ≡ shows (dispute Z s sk digest sig) e
+shows_by_parts Z Y same s sk digest sig x e shown set is_shown =
+    let set_now = rw same at set in
+    rw same (rw set_now at is_shown)
+
+-- the same, for a message
+pub shows_told : (Z : Scheme) (n : ℕ) (size : Z.n ≡ n) (key message sig sk s root digest : List ℕ) (e : Evidence) (shown : Bool)
+    → sk ≡ part n key 0 → s ≡ part n key 2 → root ≡ part n key 3 → digest ≡ Z.suite.h_msg (take Z.n sig) s root message
+    → shown ≡ shows (dispute Z s sk digest sig) e → shown ≡ shows (dispute_of Z key message sig) e
+shows_told Z n size key message sig sk s root digest e shown is_sk is_s is_root is_digest is_shown =
+    let part_is : (i : ℕ) → part Z.n key i ≡ part n key i = λ i. rw size refl in
+    let at_n : shown ≡ shows (dispute Z (part n key 2) (part n key 0) (Z.suite.h_msg (take Z.n sig) (part n key 2) (part n key 3) message) sig) e
+    = rw (is_digest, is_sk, is_s, is_root) at is_shown in
+    rw (part_is 0, part_is 2, part_is 3) at_n

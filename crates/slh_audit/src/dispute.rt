@@ -7,6 +7,7 @@ ghost use Rattle.slh_trees.specs.Checking.{fors_pk_from_sig};
 ghost use Rattle.slh_trees.specs.Fors.{fors_node as spec_fors_node};
 ghost use Rattle.slh_trees.specs.Hypertree.{layer_size, leaf_at, tree_at};
 
+use crate::sizes::piece;
 use hybrid_array::ArraySize;
 use slh_core::address::{ForsTree, WotsHash};
 use slh_core::nbytes::NBytes;
@@ -77,8 +78,7 @@ impl<'a, P: ForsParams> Dispute<'a, P> {
         ensures len { length result.now ≡ layer_size P.N.USIZE P.HPrime.USIZE }
     {
         layer_sizes::<P>();
-        let size = layer_len::<P>();
-        &self.layers[layer * size..(layer + 1) * size]
+        piece(self.layers, layer_len::<P>(), layer)
     }
 
     /// The forest's public key that the signature leads to.

@@ -10,6 +10,7 @@ ghost use Rattle.slh_trees.specs.Fors.{fors_leaf, fors_node as spec_fors_node, l
 
 use crate::dispute::{Dispute, Sizes};
 use crate::layer::{hashes_collide, nodes_collide, values_collide};
+use crate::sizes::piece;
 use hybrid_array::ArraySize;
 use slh_core::address::{ForsRoots as ForsRootsAddress, ForsTree};
 use slh_core::digits::base_2b;
@@ -46,8 +47,7 @@ fn opened_parts<P: ForsParams>(sig: &[u8], tree: usize) -> (&[u8], &[u8])
     ensures path_len { length result.1.now ≡ P.A.USIZE * P.N.USIZE }
 {
     forest_sizes::<P>();
-    let size = opened_len::<P>();
-    sig[tree * size..(tree + 1) * size].split_at(P::N::USIZE)
+    piece(sig, opened_len::<P>(), tree).split_at(P::N::USIZE)
 }
 
 /// The leaf of the key's own forest with an index.
