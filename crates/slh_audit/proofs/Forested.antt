@@ -1,6 +1,6 @@
 -- What calls answer of the forest, of values that are computed somehow.
 use Rattle.std.proofs.Common.{◌≡◌, ◌↔◌, ℕ, ◌+◌, ◌-◌, ◌*◌, ◌/◌, ◌^◌, ◌<◌, ◌≤◌, Bool, IsTrue, List, length, take, drop, refl}
-use Rattle.slh_audit.proofs.Meaning.{ForsNodeShows, IsShown, fors_roots_mean}
+use Rattle.slh_audit.proofs.Meaning.{IsShown, fors_roots_mean}
 use Rattle.slh_audit.proofs.OwnBytes.{length-fors_leaf}
 use Rattle.slh_audit.proofs.Shown.{fors_node_shown, says, told}
 use Rattle.slh_audit.proofs.Told.{fors_node_meant, node_told_of, rows_fit}
