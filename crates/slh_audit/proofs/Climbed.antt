@@ -3,19 +3,21 @@ use Rattle.std.proofs.Common.{◌≡◌, ◌↔◌, ℕ, ◌+◌, ◌-◌, ◌*�
 use Rattle.std.specs.List.{find}
 use Rattle.std.specs.Prelude.{is_some}
 use Rattle.slh_audit.proofs.Finding.{after_half, after_some, head_found, head_not}
-use Rattle.slh_audit.proofs.Meaning.{IsShown, TreeNodeShows, checked_at, own_at}
+use Rattle.slh_audit.proofs.Meaning.{IsShown, TreeNodeShows, checked_at, leaf_means, own_at}
 use Rattle.slh_audit.proofs.OwnLayers.{upper_silent}
-use Rattle.slh_audit.proofs.Shown.{told}
+use Rattle.slh_audit.proofs.Shown.{says, told}
 use Rattle.slh_audit.proofs.Told.{length-wots_pk_from_sig, node_told_of, rows_fit}
-use Rattle.slh_audit.specs.Evidence.{Dispute, IsOwnFrom, Parts, dispute_on, shows}
+use Rattle.slh_audit.specs.Evidence.{Dispute, IsOwnFrom, Parts, collide, dispute_on, leaf_shows, shows}
 use Rattle.slh_audit.specs.Places.{chain_places, in_turn, layer_places, tree_node_places}
 use Rattle.slh_audit.specs.declared.evidence.Evidence.{Evidence}
 use Rattle.slh_audit.specs.declared.evidence.Evidence.TheVariants.{Leaf, TreeNode}
 use Rattle.slh_core.proofs.Chains.{length-wots_pk}
-use Rattle.slh_core.specs.Bytes.{part}
+use Rattle.slh_core.specs.Address.{address_bytes, wots_pk_type}
+use Rattle.slh_core.specs.Bytes.{joined, part}
+use Rattle.slh_core.specs.Digits.{wots_digits}
 use Rattle.slh_core.specs.Parameters.{Scheme, chain_count}
 use Rattle.slh_core.specs.Suite.{HasLength, Seeded}
-use Rattle.slh_core.specs.Wots.{wots_pk, wots_pk_from_sig}
+use Rattle.slh_core.specs.Wots.{chain_value, checked_ends, wots_pk, wots_pk_from_sig}
 use Rattle.slh_trees.proofs.Layers.{checked_message-more}
 use Rattle.slh_trees.specs.Checking.{checked_node}
 use Rattle.slh_trees.specs.Fors.{fors_pk}
@@ -83,3 +85,16 @@ tree_node_shown D L sk sig m j t y z chains path leaf below own_below beside own
     (rw (is_above, from_is, is_path, same) refl) (rw (is_own_above, same, is_sk) refl) compared in
     let placed = rw (is_t, is_y, is_sig, is_m) at tells in
     told D _ _ ((λ yes. (low, high, (layer, placed.0 yes))), (λ holds. placed.1 holds.2.1))
+
+-- the ends of all chains
+pub leaf_shown : (D : Dispute) (L : Seeded) (sk sig m : List ℕ) (j t y : ℕ) (chains w ends own address : List ℕ) (shown : Bool)
+    → L ≡ D.K → sk ≡ D.sk → j < D.d → t ≡ tree_at D.hp D.t j → y ≡ leaf_at D.hp D.t D.l j → sig ≡ part (layer_size D.K.n D.hp) D.layers j → m ≡ checked_at D j
+    → chains ≡ take (chain_count D.K.n * D.K.n) sig → w ≡ wots_digits D.K.n m → ends ≡ checked_ends L j t y chains w
+    → own ≡ joined (λ c. chain_value L sk j t y c 15) (chain_count D.K.n) → address ≡ address_bytes j t wots_pk_type y 0 0
+    → shown ≡ collide ends own (L.suite.t L.seed address ends) (L.suite.t L.seed address own) → shown ≡ shows D (Leaf j)
+unfolding IsShown leaf_shows wots_pk wots_pk_from_sig
+leaf_shown D L sk sig m j t y chains w ends own address shown same is_sk layer is_t is_y is_sig is_m is_chains is_w is_ends is_own is_address is_shown =
+    let raw : shown ≡ leaf_shows D.K D.sk j t y sig m = rw (is_shown, is_ends, is_own, is_address, is_chains, is_w, same, is_sk) refl in
+    let tells = says _ _ raw (leaf_means _ _ _ _ _ _ _) in
+    let placed = rw (is_t, is_y, is_sig, is_m) at tells in
+    told D _ _ ((λ yes. (layer, placed.0 yes)), (λ holds. placed.1 holds.1))

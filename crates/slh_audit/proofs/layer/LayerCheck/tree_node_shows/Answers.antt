@@ -1,7 +1,7 @@
 use Rattle.std.proofs.Common.{arith, refl, ◌+◌, ◌-◌, length}
 use Rattle.slh_audit.proofs.Climbed.{tree_node_shown}
 use Rattle.slh_audit.proofs.Nearby.{sibling_below}
-use Rattle.slh_audit.proofs.Told.{rows_fit, up_below}
+use Rattle.slh_audit.proofs.Told.{rows_fit, sibling_room, up_below}
 use Rattle.slh_audit.specs.Evidence.{dispute_on}
 use Rattle.slh_core.specs.Parameters.{scheme_of}
 use Rattle.slh_audit.proofs.layer.LayerCheck.tree_node_shows.Goals as goal
@@ -17,6 +17,10 @@ part_of-beside-requires-clause-fits g c =
 pub root_from_auth_path-node-requires-clause-enough : goal.root_from_auth_path-node-requires-clause-enough
 root_from_auth_path-node-requires-clause-enough g c =
     rows_fit c.args.height g.P.HPrime.ArraySize.USIZE g.P.N.ArraySize.USIZE (length c.layer_parts.result.1.now) c.requires.high c.layer_parts.ensures.path_len
+
+pub sibling-requires : goal.sibling-requires
+sibling-requires g c =
+    sibling_room c.args.self.now.adrs.key_pair_adrs (c.args.height - 1) g.P.HPrime.ArraySize.USIZE c.tree_sizes.ensures.height_high (omega (arith, c.requires.high)) c.args.self.now.below
 
 pub xmss_node-own_below-requires-clause-node : goal.xmss_node-own_below-requires-clause-node
 xmss_node-own_below-requires-clause-node g c =
