@@ -4,17 +4,17 @@ ghost use Rattle.slh_audit.specs.Evidence.{checked_at, dispute_on, own_at};
 ghost use Rattle.slh_core.specs.Bytes.{joined, part};
 ghost use Rattle.slh_core.specs.Parameters.{Scheme, scheme_of};
 ghost use Rattle.slh_trees.specs.Checking.{fors_pk_from_sig};
-ghost use Rattle.slh_trees.specs.Fors.{fors_node as spec_fors_node};
+ghost use Rattle.slh_trees.specs.Fors.{fors_pk, fors_node as spec_fors_node};
 ghost use Rattle.slh_trees.specs.Hypertree.{layer_size, leaf_at, tree_at};
 
 use crate::sizes::piece;
 use hybrid_array::ArraySize;
 use slh_core::address::{ForsTree, WotsHash};
 use slh_core::nbytes::NBytes;
-use slh_core::params::{ForsParams, forest_sizes, layer_sizes};
+use slh_core::params::{ForsParams, MAX_ROOTS_LEN, forest_sizes, layer_sizes};
 use slh_core::parts::put_part;
 use slh_core::steps::Steps;
-use slh_trees::fors::{fors_node, fors_pk_from_sig};
+use slh_trees::fors::{fors_node, fors_pk_from_sig, roots_len};
 use slh_trees::hypertree::{layer_len, next_place, tree_adrs_of};
 use slh_trees::xmss::{at_leaf, xmss_node, xmss_pk_from_sig};
 use std::marker::Model;
@@ -159,6 +159,20 @@ impl<'a, P: ForsParams> Dispute<'a, P> {
         }
     }
 
+    /// The public key of the key's own forest.
+    #[tactic(auto, unfolding(slh_trees::specs::Fors::fors_pk))]
+    pub(crate) fn own_key<L: Ledger>(&self, steps: &mut Steps<L>) -> NBytes<P::N>
+        ensures { let Z = ⟦<P as Sizes>⟧.scheme_now in
+            let D = dispute_on Z self.now in
+            result ≡ fors_pk D.K D.sk D.t D.l D.k D.a }
+    {
+        let adrs = ForsTree::new(self.tree, self.leaf);
+        let mut store = [0u8; MAX_ROOTS_LEN];
+        let roots = &mut store[..roots_len::<P>()];
+        self.own_roots::<L>(roots, steps);
+        P::t(&self.keyed, &adrs.fors_roots(), roots, steps)
+    }
+
     /// The message that the key signs on a layer.
     pub(crate) fn own_message<L: Ledger>(&self, layer: usize, steps: &mut Steps<L>) -> NBytes<P::N>
         requires { layer ≤ P.D.USIZE }
@@ -167,8 +181,7 @@ impl<'a, P: ForsParams> Dispute<'a, P> {
     {
         layer_sizes::<P>();
         if layer == 0 {
-            let (_, key) = self.compare_forest::<L>(steps);
-            return key;
+            return self.own_key::<L>(steps);
         }
         let adrs = self.adrs_at(layer as u32 - 1);
         let height = P::HPrime::USIZE as u32;
