@@ -13,3 +13,6 @@ pub mod Told
 pub mod Shown
 pub mod Judging
 pub mod Order
+pub mod Answered
+pub mod Climbed
+pub mod Forested

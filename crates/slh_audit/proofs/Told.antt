@@ -1,5 +1,6 @@
 -- What a comparison of nodes tells.
 use Rattle.std.proofs.Common.{◌≡◌, ◌↔◌, ℕ, suc, ◌+◌, ◌-◌, ◌*◌, ◌/◌, ◌%◌, ◌^◌, ◌<◌, ◌≤◌, ◌==◌, Bool, IsTrue, List, length, take, drop, arith, refl, sym, ap, ◌∙◌}
+use Rattle.std.proofs.Math.Nat.{pow-le-pow_right}
 use Rattle.std.proofs.lemmas.Nat.{mul-le, shr_below, div_below, pow_pos, pow-add}
 use Rattle.slh_core.specs.Parameters.{chain_count}
 use Rattle.slh_core.specs.Wots.{wots_pk_from_sig}
@@ -53,6 +54,13 @@ pub up_below : (y z top : ℕ) → z ≤ top → y < 2 ^ top → y / 2 ^ z < 2 ^
 up_below y z top h k =
     let whole : top ≡ (top - z) + z = omega arith in
     shr_below y (top - z) z (rw (← whole) k)
+
+-- a node on the way up has a sibling whose number fits
+pub sibling_room : (y z top : ℕ) → top ≤ 31 → z ≤ top → y < 2 ^ top → y / 2 ^ z + 1 < 2 ^ 32
+sibling_room y z top few inside below =
+    let fits : top - z ≤ 31 = omega (arith, few) in
+    let most : 2 ^ (top - z) ≤ 2 ^ 31 = pow-le-pow_right {n = 2} (omega arith) fits in
+    omega (arith, most, up_below y z top inside below)
 
 pub path_len : (n wots hp whole len : ℕ) → wots ≡ 2 * n + 3 → whole ≡ (chain_count n + hp) * n → len + wots * n ≡ whole → len ≡ hp * n
 path_len n wots hp whole len e k l = let m : len + (2 * n + 3) * n ≡ whole = rw e at l in omega arith

@@ -15,7 +15,7 @@ ghost use Rattle.slh_trees.specs.MessageDigest.{split_digest as spec_split_diges
 
 use crate::dispute::Dispute;
 use crate::evidence::{AuditError, Evidence, Verdict};
-use crate::layer::same;
+use crate::layer::same_value;
 use crate::sizes::{check_lengths, check_sizes};
 use hybrid_array::ArraySize;
 use slh_core::nbytes::NBytes;
@@ -90,7 +90,7 @@ fn digest_verdict<P: ForsParams, L: Ledger>(
     requires { length digest.now ≡ P.M.USIZE }
     ensures { result ≡ spec_digest_verdict P.scheme pk_seed.now sk_seed.now digest.now sig.now }
 {
-    let dispute = set_against::<P>(sk_seed, pk_seed, digest, sig);
+    let dispute = &set_against::<P>(sk_seed, pk_seed, digest, sig);
     let (made, key) = dispute.compare_forest::<L>(steps);
     let lowest = dispute.own_from::<L>(&key, steps);
     if all_made(made, lowest) {
@@ -117,7 +117,6 @@ fn digest_shows<P: ForsParams, L: Ledger>(
 }
 
 /// The audit of the bytes of a signature of the message that the three slices joined are.
-#[tactic(auto, unfolding(crate::specs::Verdicts::message_audit))]
 fn audit_message<P: ForsParams, L: Ledger>(
     key: &[u8],
     head: &[u8],
@@ -138,14 +137,14 @@ fn audit_message<P: ForsParams, L: Ledger>(
     let pk_seed = part_of::<P::N>(key, 2);
     let pk_root = part_of::<P::N>(key, 3);
     let own = top_root::<P, L>(&sk_seed, &pk_seed, &mut steps);
-    if !same(pk_root.as_slice(), own.as_slice()) {
+    if !same_value(&pk_root, &own) {
         return Err(AuditError::KeyMismatch);
     }
     let mut store = [0u8; MAX_DIGEST_LEN];
     let digest = &mut store[..P::M::USIZE];
     write_digest::<P>(&pk_seed, &pk_root, head, ctx, msg, sig, digest);
     let root = root_for_digest::<P, L>(&pk_seed, digest, sig, &mut steps);
-    if !same(root.as_slice(), pk_root.as_slice()) {
+    if !same_value(&root, &pk_root) {
         return Err(AuditError::Invalid);
     }
     Ok(digest_verdict::<P, L>(&sk_seed, &pk_seed, digest, sig, &mut steps))

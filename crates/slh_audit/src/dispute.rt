@@ -7,6 +7,7 @@ ghost use Rattle.slh_trees.specs.Checking.{fors_pk_from_sig};
 ghost use Rattle.slh_trees.specs.Fors.{fors_pk, fors_node as spec_fors_node};
 ghost use Rattle.slh_trees.specs.Hypertree.{layer_size, leaf_at, tree_at};
 
+use crate::sizes::piece;
 use hybrid_array::ArraySize;
 use slh_core::address::{ForsTree, WotsHash};
 use slh_core::nbytes::NBytes;
@@ -77,8 +78,7 @@ impl<'a, P: ForsParams> Dispute<'a, P> {
         ensures len { length result.now ≡ layer_size P.N.USIZE P.HPrime.USIZE }
     {
         layer_sizes::<P>();
-        let size = layer_len::<P>();
-        &self.layers[layer * size..(layer + 1) * size]
+        piece(self.layers, layer_len::<P>(), layer)
     }
 
     /// The forest's public key that the signature leads to.
@@ -135,7 +135,6 @@ impl<'a, P: ForsParams> Dispute<'a, P> {
     }
 
     /// Writes the roots of the key's own forest.
-    #[tactic(auto, unfolding(slh_core::specs::Bytes::joined))]
     pub(crate) fn own_roots<L: Ledger>(&self, out: &mut [u8], steps: &mut Steps<L>)
         requires { length out.old ≡ P.K.USIZE * P.N.USIZE }
         ensures { let Z = ⟦<P as Sizes>⟧.scheme_now in

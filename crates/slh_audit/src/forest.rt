@@ -9,7 +9,8 @@ ghost use Rattle.slh_trees.specs.Checking.{checked_fors_node};
 ghost use Rattle.slh_trees.specs.Fors.{fors_leaf, fors_node as spec_fors_node, leaf_index};
 
 use crate::dispute::{Dispute, Sizes};
-use crate::layer::{collide, hashes_collide, nodes_collide};
+use crate::layer::{hashes_collide, nodes_collide, values_collide};
+use crate::sizes::piece;
 use hybrid_array::ArraySize;
 use slh_core::address::{ForsRoots as ForsRootsAddress, ForsTree};
 use slh_core::digits::base_2b;
@@ -46,8 +47,7 @@ fn opened_parts<P: ForsParams>(sig: &[u8], tree: usize) -> (&[u8], &[u8])
     ensures path_len { length result.1.now ≡ P.A.USIZE * P.N.USIZE }
 {
     forest_sizes::<P>();
-    let size = opened_len::<P>();
-    sig[tree * size..(tree + 1) * size].split_at(P::N::USIZE)
+    piece(sig, opened_len::<P>(), tree).split_at(P::N::USIZE)
 }
 
 /// The leaf of the key's own forest with an index.
@@ -108,12 +108,7 @@ impl<'a, P: ForsParams> Dispute<'a, P> {
         let leaf = P::f(&self.keyed, &adrs.at_node(0, y), &secret, steps);
         let own = fors_sk_gen::<P, L>(&self.sk_seed, &self.keyed, &adrs, y, steps);
         let own_leaf = own_leaf::<P, L>(&self.sk_seed, &self.keyed, &adrs, y, steps);
-        collide(
-            secret.as_slice(),
-            own.as_slice(),
-            leaf.as_slice(),
-            own_leaf.as_slice(),
-        )
+        values_collide(&secret, &own, &leaf, &own_leaf)
     }
 
     /// Whether the node at a height on the way up in a tree of the forest shows.
@@ -125,7 +120,8 @@ impl<'a, P: ForsParams> Dispute<'a, P> {
             result ≡ spec_shows (dispute_on Z self.now) (ForsNode tree height) }
     {
         forest_sizes::<P>();
-        let (sk_seed, keyed) = (&self.sk_seed, &self.keyed);
+        let sk_seed = &self.sk_seed;
+        let keyed = &self.keyed;
         let adrs = ForsTree::new(self.tree, self.leaf);
         let y = named_leaf::<P>(self.md, tree);
         let (first, path) = opened_parts::<P>(self.forest, tree as usize);

@@ -35,11 +35,30 @@ pub(crate) fn same(a: &[u8], b: &[u8]) -> bool
     a == b
 }
 
+/// Whether two values are the same.
+pub(crate) fn same_value<N: ArraySize>(a: &NBytes<N>, b: &NBytes<N>) -> bool
+    ensures { result ≡ bytes_eq a.now b.now }
+{
+    same(a.as_slice(), b.as_slice())
+}
+
 /// Whether two inputs differ and two outputs are equal.
-pub(crate) fn collide(input: &[u8], own_input: &[u8], output: &[u8], own_output: &[u8]) -> bool
+fn collide(input: &[u8], own_input: &[u8], output: &[u8], own_output: &[u8]) -> bool
     ensures { result ≡ spec_collide input.now own_input.now output.now own_output.now }
 {
     input != own_input && output == own_output
+}
+
+/// Whether two values differ and what is made of them is equal.
+pub(crate) fn values_collide<N: ArraySize>(
+    input: &NBytes<N>,
+    own_input: &NBytes<N>,
+    output: &NBytes<N>,
+    own_output: &NBytes<N>,
+) -> bool
+    ensures { result ≡ spec_collide input.now own_input.now output.now own_output.now }
+{
+    !same_value(input, own_input) && same_value(output, own_output)
 }
 
 /// Whether two inputs differ and their hashes at an address are equal.
@@ -171,7 +190,9 @@ impl<'s, 'a, P: ForsParams> LayerCheck<'s, 'a, P> {
     {
         tree_sizes::<P>();
         let dispute = self.dispute;
-        let (sk_seed, keyed, adrs) = (&dispute.sk_seed, &dispute.keyed, &self.adrs);
+        let sk_seed = &dispute.sk_seed;
+        let keyed = &dispute.keyed;
+        let adrs = &self.adrs;
         let (chains, path) = layer_parts::<P>(self.sig);
         let leaf = wots_pk_from_sig::<P, L>(chains, &self.message, keyed, adrs, steps);
         let y = adrs.key_pair_adrs;
@@ -197,7 +218,9 @@ impl<'s, 'a, P: ForsParams> LayerCheck<'s, 'a, P> {
     {
         tree_sizes::<P>();
         let dispute = self.dispute;
-        let (sk_seed, keyed, adrs) = (&dispute.sk_seed, &dispute.keyed, &self.adrs);
+        let sk_seed = &dispute.sk_seed;
+        let keyed = &dispute.keyed;
+        let adrs = &self.adrs;
         let len = P::WotsSigLen::USIZE;
         let size = ends_len::<P>();
         let all = message_digits(&self.message);
@@ -232,7 +255,9 @@ impl<'s, 'a, P: ForsParams> LayerCheck<'s, 'a, P> {
             return false;
         }
         let dispute = self.dispute;
-        let (sk_seed, keyed, adrs) = (&dispute.sk_seed, &dispute.keyed, &self.adrs);
+        let sk_seed = &dispute.sk_seed;
+        let keyed = &dispute.keyed;
+        let adrs = &self.adrs;
         let (chains, _) = layer_parts::<P>(self.sig);
         let value = part_of::<P::N>(chains, chain as usize);
         let at = at_chain(adrs, chain);
@@ -240,12 +265,7 @@ impl<'s, 'a, P: ForsParams> LayerCheck<'s, 'a, P> {
         let after = wots_chain::<P, L>(&value, digit, step + 1 - digit, keyed, &at, steps);
         let own_before = own_chain::<P, L>(sk_seed, keyed, adrs, chain, step, steps);
         let own_after = own_chain::<P, L>(sk_seed, keyed, adrs, chain, step + 1, steps);
-        collide(
-            before.as_slice(),
-            own_before.as_slice(),
-            after.as_slice(),
-            own_after.as_slice(),
-        )
+        values_collide(&before, &own_before, &after, &own_after)
     }
 
     /// Whether a chain is opened earlier than the key opens it for the message that it signs on the
@@ -269,10 +289,12 @@ impl<'s, 'a, P: ForsParams> LayerCheck<'s, 'a, P> {
             return false;
         }
         let dispute = self.dispute;
-        let (sk_seed, keyed, adrs) = (&dispute.sk_seed, &dispute.keyed, &self.adrs);
+        let sk_seed = &dispute.sk_seed;
+        let keyed = &dispute.keyed;
+        let adrs = &self.adrs;
         let (chains, _) = layer_parts::<P>(self.sig);
         let value = part_of::<P::N>(chains, chain as usize);
         let own_value = own_chain::<P, L>(sk_seed, keyed, adrs, chain, digit, steps);
-        same(value.as_slice(), own_value.as_slice())
+        same_value(&value, &own_value)
     }
 }

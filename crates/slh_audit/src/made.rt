@@ -40,7 +40,8 @@ impl<'a, P: ForsParams> Dispute<'a, P> {
     {
         let mut store = [0u8; MAX_FOREST_LEN];
         let own = &mut store[..forest_len::<P>()];
-        let (sk_seed, keyed) = (&self.sk_seed, &self.keyed);
+        let sk_seed = &self.sk_seed;
+        let keyed = &self.keyed;
         let adrs = ForsTree::new(self.tree, self.leaf);
         let key = fors_sign_root::<P, L>(self.md, sk_seed, keyed, &adrs, own, steps);
         (same(self.forest, own), key)
@@ -73,7 +74,8 @@ impl<'a, P: ForsParams> Dispute<'a, P> {
         let sig = self.layer_sig(layer as usize);
         let adrs = self.adrs_at(layer);
         let leaf = adrs.key_pair_adrs;
-        let (sk_seed, keyed) = (&self.sk_seed, &self.keyed);
+        let sk_seed = &self.sk_seed;
+        let keyed = &self.keyed;
         let root = xmss_sign_root::<P, L>(own, sk_seed, keyed, leaf, &adrs, made, steps);
         let is_own = both_same(checked.as_slice(), own.as_slice(), sig, made);
         *checked = if is_own {

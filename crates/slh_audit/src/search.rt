@@ -97,7 +97,7 @@ impl<'a, P: ForsParams> Dispute<'a, P> {
             let D = dispute_on Z self.now in
             result ≡ find (spec_shows D) (layer_places D.hp (chain_count D.K.n) layer) }
     {
-        let check = self.layer_check::<L>(layer, steps);
+        let check = &self.layer_check::<L>(layer, steps);
         let found = check.first_tree_node::<L>(steps);
         if found.is_some() {
             return found;

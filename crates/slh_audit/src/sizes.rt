@@ -1,6 +1,7 @@
 //! The checks of sizes that come before anything is hashed.
 ghost use Rattle.std.specs.Prelude.{◌≡◌, ◌≤◌, ◌+◌, ◌*◌, ◌^◌, length, IfOk, OnOk};
 ghost use Rattle.slh_audit.specs.Verdicts.{length_refusals, size_refusal};
+ghost use Rattle.slh_core.specs.Bytes.{part};
 ghost use Rattle.slh_trees.specs.Checking.{signature_size};
 ghost use Rattle.slh_trees.specs.Sizes.{RefusedExactly};
 
@@ -32,6 +33,16 @@ pub(crate) fn forest_len<P: ForsParams>() -> usize
 {
     forest_sizes::<P>();
     P::K::USIZE * opened_len::<P>()
+}
+
+/// The piece with a number, of pieces of `len` bytes.
+#[inline]
+pub(crate) fn piece(bytes: &[u8], len: usize, i: usize) -> &[u8]
+    requires { (i + 1) * len ≤ length bytes.now }
+    ensures value { result.now ≡ part len bytes.now i }
+    ensures len { length result.now ≡ len }
+{
+    &bytes[i * len..i * len + len]
 }
 
 /// A view of the signature, where the key and the signature have their lengths.

@@ -1,6 +1,6 @@
 use Rattle.std.proofs.Common.{arith, sym, ◌∙◌}
 use Rattle.slh_audit.proofs.Finding.{not_some, turn_found, turn_next}
-use Rattle.slh_audit.proofs.OwnLayers.{upper_silent}
+use Rattle.slh_audit.proofs.Climbed.{layers_begin}
 use Rattle.slh_audit.specs.Evidence.{dispute_on, shows}
 use Rattle.slh_core.specs.Parameters.{scheme_of}
 use Rattle.slh_audit.proofs.dispute.Dispute.first_in_layers.Goals as goal
@@ -10,7 +10,7 @@ loop-down-init g c =
     let Z = scheme_of g.P.HashSuite.suite g.P.N.ArraySize.USIZE g.P.HPrime.ArraySize.USIZE g.P.D.ArraySize.USIZE g.P.A.ArraySize.USIZE g.P.K.ArraySize.USIZE in
     let D = dispute_on Z c.args.self.now in
     let law = g.met.P.HashSuite.lengths g.met.P.WotsParams.valid_wots.n_high in
-    rw c.USIZE-count.ensures (upper_silent D c.args.lowest law c.requires.own c.requires.lowest)
+    layers_begin D c.USIZE-count.result c.args.lowest c.USIZE-count.ensures law c.requires.own c.requires.lowest
 
 pub returns-then-is_some : goal.returns-then-is_some
 returns-then-is_some g c =

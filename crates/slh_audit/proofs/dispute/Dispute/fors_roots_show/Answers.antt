@@ -1,22 +1,12 @@
-use Rattle.std.proofs.Common.{◌≡◌, refl}
-use Rattle.slh_audit.proofs.Meaning.{IsShown, fors_roots_mean}
-use Rattle.slh_audit.proofs.Shown.{says, told}
-use Rattle.slh_audit.specs.Evidence.{fors_roots_show}
-use Rattle.slh_core.specs.Digits.{digits}
-use Rattle.slh_core.specs.Suite.{seeded}
-use Rattle.slh_trees.specs.Checking.{fors_pk_from_sig}
-use Rattle.slh_trees.specs.Fors.{fors_pk}
+use Rattle.std.proofs.Common.{refl}
+use Rattle.slh_audit.proofs.Forested.{fors_roots_shown_by}
+use Rattle.slh_audit.specs.Evidence.{dispute_on}
+use Rattle.slh_core.specs.Parameters.{scheme_of}
 use Rattle.slh_audit.proofs.dispute.Dispute.fors_roots_show.Goals as goal
 
 pub returns : goal.returns
-unfolding IsShown fors_roots_show fors_pk fors_pk_from_sig
 returns g c =
-    let s = c.self.inside in
-    let a = g.P.A.ArraySize.USIZE in
-    let k = g.P.K.ArraySize.USIZE in
-    let K = seeded g.P.HashSuite.suite g.P.N.ArraySize.USIZE s.pk_seed in
-    let own = rw (← c.self.view_is) at c.own_roots.ensures in
-    let raw : c.hashes_collide.result ≡ fors_roots_show K s.sk_seed s.tree s.leaf a s.forest.now (digits s.md.now a k) k s.md.now
-    = rw (c.hashes_collide.ensures, c.fors_roots.ensures, c.checked_roots.ensures, own, c.new-adrs.ensures, c.self.invariant.5) refl in
-    let tells = says _ _ raw (fors_roots_mean _ _ _ _ _ _ _ _ _) in
-    told _ _ _ (rw (← c.self.view_is) tells)
+    let view = c.self.view_is in
+    fors_roots_shown_by (dispute_on (scheme_of g.P.HashSuite.suite g.P.N.ArraySize.USIZE g.P.HPrime.ArraySize.USIZE g.P.D.ArraySize.USIZE g.P.A.ArraySize.USIZE g.P.K.ArraySize.USIZE) c.args.self.now) _ c.self.inside.sk_seed c.self.inside.md.now c.self.inside.forest.now c.self.inside.tree c.self.inside.leaf
+    (rw (← view) c.self.invariant.5) (rw (← view) refl) (rw (← view) refl) (rw (← view) refl) (rw (← view) refl) (rw (← view) refl)
+    _ _ _ _ (rw (c.fors_roots.ensures, c.new-adrs.ensures) refl) (rw c.new-adrs.ensures at c.checked_roots.ensures) c.own_roots.ensures c.hashes_collide.ensures

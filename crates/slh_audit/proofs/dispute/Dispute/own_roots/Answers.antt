@@ -2,6 +2,7 @@ use Rattle.std.proofs.Common.{◌≡◌, ◌+◌, ◌-◌, ◌*◌, ◌∙◌, a
 use Rattle.std.proofs.lemmas.List.{take_all}
 use Rattle.slh_audit.proofs.Told.{rows_fit}
 use Rattle.slh_core.proofs.Joins.{joined_more}
+use Rattle.slh_trees.proofs.Rows.{none_joined}
 use Rattle.slh_audit.proofs.dispute.Dispute.own_roots.Goals as goal
 
 pub fors_node-root-requires-clause-node : goal.fors_node-root-requires-clause-node
@@ -12,6 +13,9 @@ fors_node-root-requires-clause-node g c =
 pub put_part-requires-clause-fits : goal.put_part-requires-clause-fits
 put_part-requires-clause-fits g c =
     rw c.USIZE-n.ensures (rows_fit (c.loop-i.i + 1) g.P.K.ArraySize.USIZE g.P.N.ArraySize.USIZE (length c.loop-i.out) (omega (arith, c.loop-i-test.true, c.USIZE-i-end.ensures)) (c.loop-i.auto.out ∙ c.requires))
+
+pub loop-i-init : goal.loop-i-init
+loop-i-init g c = none_joined _ _ _
 
 pub loop-i-preserved : goal.loop-i-preserved
 loop-i-preserved g c =
