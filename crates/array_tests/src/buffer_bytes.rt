@@ -6,7 +6,7 @@ use block_buffer::laws::{accepted_bytes, serialized_buffer};
 use block_buffer::{BlockBuffer, BufferKind, Eager, EagerBuffer, Lazy, LazyBuffer};
 use hybrid_array::sizes::{U4, U5};
 use hybrid_array::{Array, ArraySize};
-use std::alloc::{AllocError, Global};
+use std::alloc::Global;
 
 // The array of as many bytes as its size.
 pub(crate) fn array_of<S: ArraySize>(items: Vec<u8>) -> Array<u8, S>
@@ -78,52 +78,48 @@ fn buffers_are_restored(rt: HostRuntime) {
     assert!(rt; is_lazy_restored(rt.alloc(), &[1, 2, 3, 4]));
 }
 
-// How many bytes the buffer holds that gave these, if one did.
-fn held_of<K: BufferKind, S: ArraySize>(
-    alloc: Global,
-    bytes: &[u8],
-) -> Result<Option<usize>, AllocError>
+// Whether these bytes give a buffer that holds so many, or none.
+fn gives<K: BufferKind, S: ArraySize>(alloc: Global, bytes: &[u8], held: Option<usize>) -> bool
     requires size { S.USIZE ≡ 4 + K.WAITING }
     requires len { length bytes.now ≡ S.USIZE }
 {
-    let array = array_of::<S>(bytes.to_vec(alloc)?);
-    match BlockBuffer::<U4, K>::deserialize(&array) {
-        Ok(buffer) => Ok(Some(buffer.get_pos())),
-        Err(_) => Ok(None),
+    match bytes.to_vec(alloc) {
+        Ok(items) => match BlockBuffer::<U4, K>::deserialize(&array_of::<S>(items)) {
+            Ok(buffer) => held == Some(buffer.get_pos()),
+            Err(_) => held == None,
+        },
+        Err(_) => false,
     }
+}
+
+fn gives_eager_buffers(alloc: Global) -> bool {
+    gives::<Eager, U4>(alloc, &[0, 0, 0, 0], Some(0))
+        && gives::<Eager, U4>(alloc, &[2, 9, 8, 0], Some(2))
+        && gives::<Eager, U4>(alloc, &[3, 0, 0, 0], Some(3))
+}
+
+fn gives_no_eager_buffer(alloc: Global) -> bool {
+    gives::<Eager, U4>(alloc, &[2, 9, 8, 1], None)
+        && gives::<Eager, U4>(alloc, &[0, 1, 0, 0], None)
+        && gives::<Eager, U4>(alloc, &[4, 0, 0, 0], None)
+        && gives::<Eager, U4>(alloc, &[255, 0, 0, 0], None)
 }
 
 #[test]
 fn an_eager_buffer_accepts_its_own_bytes_alone(rt: HostRuntime) {
-    for (bytes, held) in [
-        ([0, 0, 0, 0], Some(0)),
-        ([2, 9, 8, 0], Some(2)),
-        ([2, 9, 8, 1], None),
-        ([0, 1, 0, 0], None),
-        ([3, 0, 0, 0], Some(3)),
-        ([4, 0, 0, 0], None),
-        ([255, 0, 0, 0], None),
-    ] {
-        assert!(rt;
-            held_of::<Eager, U4>(rt.alloc(), &bytes) == Ok(held),
-            "{bytes:?}"
-        );
-    }
+    assert!(rt; gives_eager_buffers(rt.alloc()) && gives_no_eager_buffer(rt.alloc()));
+}
+
+fn gives_lazy_buffers_alone(alloc: Global) -> bool {
+    gives::<Lazy, U5>(alloc, &[4, 1, 2, 3, 4], Some(4))
+        && gives::<Lazy, U5>(alloc, &[5, 0, 0, 0, 0], None)
+        && gives::<Lazy, U5>(alloc, &[3, 1, 2, 3, 4], None)
+        && gives::<Lazy, U5>(alloc, &[0, 0, 0, 0, 0], Some(0))
 }
 
 #[test]
 fn a_lazy_buffer_accepts_its_own_bytes_alone(rt: HostRuntime) {
-    for (bytes, held) in [
-        ([4, 1, 2, 3, 4], Some(4)),
-        ([5, 0, 0, 0, 0], None),
-        ([3, 1, 2, 3, 4], None),
-        ([0, 0, 0, 0, 0], Some(0)),
-    ] {
-        assert!(rt;
-            held_of::<Lazy, U5>(rt.alloc(), &bytes) == Ok(held),
-            "{bytes:?}"
-        );
-    }
+    assert!(rt; gives_lazy_buffers_alone(rt.alloc()));
 }
 
 // Whether a buffer that is set to so many bytes of the block 5, 6, 7, 8 holds these.

@@ -5,7 +5,7 @@ use block_buffer::laws::read_in_two;
 use block_buffer::{BlockGen, ReadBuffer};
 use hybrid_array::ArrayMut;
 use hybrid_array::sizes::U4;
-use std::alloc::{AllocError, Global};
+use std::alloc::Global;
 
 // Gives the bytes 0, 1, 2 and so on, and after 255 again 0.
 #[derive(Drop)]
@@ -129,28 +129,34 @@ fn is_counting(bytes: &[u8], first: u8) -> bool {
     true
 }
 
-// How long pieces are, one after another, and how many blocks they take in all.
-#[test]
-fn no_block_is_made_that_is_not_needed(rt: HostRuntime) {
+// Whether a piece counts up from the first, and so many blocks were made in all.
+fn reads_on(
+    buffer: &mut ReadBuffer<U4>,
+    generator: &mut Counting,
+    out: &mut [u8],
+    first: u8,
+    blocks: u64,
+) -> bool {
+    buffer.read(out, generator);
+    is_counting(out, first) && generator.blocks == blocks
+}
+
+fn makes_blocks_as_needed() -> bool {
     let mut generator = from_zero();
     let mut buffer = ReadBuffer::<U4>::default();
-    let mut next = 0u8;
-    for (len, blocks) in [
-        (0, 0),
-        (1, 1),
-        (3, 1),
-        (0, 1),
-        (4, 2),
-        (9, 5),
-        (3, 5),
-        (8, 7),
-    ] {
-        let mut out = [0u8; 9];
-        buffer.read(&mut out[..len], &mut generator);
-        assert!(rt; is_counting(&out[..len], next), "{len} bytes from {next}");
-        assert!(rt; generator.blocks == blocks, "{len} bytes from {next}");
-        next = next.wrapping_add(len as u8);
-    }
+    reads_on(&mut buffer, &mut generator, &mut [], 0, 0)
+        && reads_on(&mut buffer, &mut generator, &mut [0; 1], 0, 1)
+        && reads_on(&mut buffer, &mut generator, &mut [0; 3], 1, 1)
+        && reads_on(&mut buffer, &mut generator, &mut [], 4, 1)
+        && reads_on(&mut buffer, &mut generator, &mut [0; 4], 4, 2)
+        && reads_on(&mut buffer, &mut generator, &mut [0; 9], 8, 5)
+        && reads_on(&mut buffer, &mut generator, &mut [0; 3], 17, 5)
+        && reads_on(&mut buffer, &mut generator, &mut [0; 8], 20, 7)
+}
+
+#[test]
+fn no_block_is_made_that_is_not_needed(rt: HostRuntime) {
+    assert!(rt; makes_blocks_as_needed());
 }
 
 fn writes_nothing() -> bool {
@@ -205,27 +211,32 @@ fn a_reset_forgets_what_was_unread(rt: HostRuntime) {
     assert!(rt; forgets_unread());
 }
 
-// How many bytes are unread in the read buffer that gave these, if one did.
-fn unread_of(alloc: Global, bytes: &[u8; 4]) -> Result<Option<usize>, AllocError> {
-    let array = array_of::<U4>(bytes.to_vec(alloc)?);
-    match ReadBuffer::<U4>::deserialize(&array) {
-        Ok(buffer) => Ok(Some(buffer.remaining())),
-        Err(_) => Ok(None),
+// Whether these bytes give a read buffer with so many unread, or none.
+fn gives(alloc: Global, bytes: &[u8; 4], unread: Option<usize>) -> bool {
+    match bytes.to_vec(alloc) {
+        Ok(items) => match ReadBuffer::<U4>::deserialize(&array_of::<U4>(items)) {
+            Ok(buffer) => unread == Some(buffer.remaining()),
+            Err(_) => unread == None,
+        },
+        Err(_) => false,
     }
+}
+
+fn gives_buffers(alloc: Global) -> bool {
+    gives(alloc, &[2, 0, 6, 7], Some(2))
+        && gives(alloc, &[1, 5, 6, 7], Some(3))
+        && gives(alloc, &[4, 0, 0, 0], Some(0))
+}
+
+fn gives_none(alloc: Global) -> bool {
+    gives(alloc, &[2, 1, 6, 7], None)
+        && gives(alloc, &[0, 0, 0, 0], None)
+        && gives(alloc, &[4, 0, 0, 1], None)
+        && gives(alloc, &[4, 1, 0, 0], None)
+        && gives(alloc, &[5, 0, 0, 0], None)
 }
 
 #[test]
 fn a_read_buffer_accepts_its_own_bytes_alone(rt: HostRuntime) {
-    for (bytes, unread) in [
-        ([2, 0, 6, 7], Some(2)),
-        ([2, 1, 6, 7], None),
-        ([1, 5, 6, 7], Some(3)),
-        ([0, 0, 0, 0], None),
-        ([4, 0, 0, 0], Some(0)),
-        ([4, 0, 0, 1], None),
-        ([4, 1, 0, 0], None),
-        ([5, 0, 0, 0], None),
-    ] {
-        assert!(rt; unread_of(rt.alloc(), &bytes) == Ok(unread), "{bytes:?}");
-    }
+    assert!(rt; gives_buffers(rt.alloc()) && gives_none(rt.alloc()));
 }

@@ -287,19 +287,25 @@ fn no_read_asks_for_more_than_is_left(rt: HostRuntime) {
     assert!(rt; asks_for_what_is_left(rt.alloc()));
 }
 
+fn is_cause(sink: &MemSink, status: u8) -> bool {
+    match sink.refused() {
+        0 => status == 0 && sink.bytes() == b"a\nc\n".as_slice() || status == 6,
+        _ => status == 4 && sink.bytes().is_empty(),
+    }
+}
+
+fn takes_more(sink: &mut MemSink) -> bool {
+    let before = sink.bytes().len();
+    write_all(sink, b"more").is_ok() && sink.bytes().len() == before + 4
+}
+
 // Whether a run over a sink in memory ends with 4 where the sink found no memory, with 6 where
 // something else found none, and with 0 where all had enough, and whether its ends go on afterwards.
 fn ends_by_its_cause(alloc: Global) -> Result<bool, AllocError> {
     let mut source = QuietSource::new(b"a b\nc\n".to_vec(alloc)?);
     let mut sink = MemSink::new(alloc, Vec::new(alloc));
     let status = serve_lines(alloc, &First, &mut source, &mut sink);
-    let right = match sink.refused() {
-        0 => status == 0 && sink.bytes() == b"a\nc\n".as_slice() || status == 6,
-        _ => status == 4 && sink.bytes().is_empty(),
-    };
-    let before = sink.bytes().len();
-    let written = write_all(&mut sink, b"more").is_ok();
-    Ok(right && written && sink.bytes().len() == before + 4)
+    Ok(is_cause(&sink, status) && takes_more(&mut sink))
 }
 
 // Run with each allocation failing in turn, too (`rt try --test --fail-alloc`).
