@@ -240,14 +240,18 @@ pub fn restore<'a>(rt: &HostRuntime, words: &ArgMatches<'a>) -> Result<Outcome, 
         record: record.as_slice(),
     });
     match restored {
-        Ok(text) => {
-            files::put(rt, files::STANDARD, text.as_slice())?;
-            Ok(Outcome::Done)
+        Ok(text) => files::put(rt, files::STANDARD, text.as_slice())?,
+        Err(error) => return Err(restore_failure(path, error)),
+    }
+    Ok(Outcome::Done)
+}
+
+fn restore_failure<'a>(path: &'a str, error: RestoreError) -> Failure<'a> {
+    match error {
+        RestoreError::Form => Failure::Told(path, "not a record of its set"),
+        RestoreError::Mismatch(i) => {
+            Failure::ToldAt(path, "not of this master, or changed: path", i)
         }
-        Err(RestoreError::Form) => Err(Failure::Told(path, "not a record of its set")),
-        Err(RestoreError::Mismatch(i)) => {
-            Err(Failure::ToldAt(path, "not of this master, or changed: path", i))
-        }
-        Err(RestoreError::Memory) => Err(Failure::Memory),
+        RestoreError::Memory => Failure::Memory,
     }
 }

@@ -1,7 +1,7 @@
 //! `slh sign` and `slh verify`.
 use crate::arguments::{
-    Randomness, check_inputs, check_output, context, message, required, signature, signing_key,
-    tell, verifying_key,
+    Claim, Randomness, check_inputs, check_output, claim_of, context, message, required,
+    signing_key, tell, verifying_key,
 };
 use crate::failure::Failure;
 use crate::files;
@@ -68,8 +68,20 @@ pub fn verify<'a>(rt: &HostRuntime, words: &ArgMatches<'a>) -> Result<Outcome, F
     check_inputs(words)?;
     let context = context(rt, words)?;
     let key = verifying_key(rt, words)?;
-    let signature = signature(rt, words, key.set)?;
-    let message = message(rt, words, context)?;
+    tell_verdict(rt, words, claim_of(rt, words, context, key)?)
+}
+
+/// Tells whether a signature is one of the file.
+pub fn tell_verdict<'a>(
+    rt: &HostRuntime,
+    words: &ArgMatches<'a>,
+    claim: Claim,
+) -> Result<Outcome, Failure<'a>> {
+    let Claim {
+        key,
+        signature,
+        message,
+    } = claim;
     match slh_files::verify(rt.alloc(), key, message, signature) {
         Ok(true) => tell(rt, Outcome::Accepted),
         Ok(false) => tell(rt, Outcome::Invalid),
