@@ -88,10 +88,14 @@ fn delegated<'a>(rt: &HostRuntime, words: &ArgMatches<'a>) -> Result<ByteString,
     };
     let key = signing_key(rt, words)?;
     let subject = subject_of(rt, words, key.set)?;
-    let mut links = old_chain(rt, words)?;
+    let links = old_chain(rt, words)?;
     let randomness = Randomness::new(rt, words)?;
     let link = new_link(rt, words, depth, &key, &subject, &randomness)?;
-    links.push_slice(&link)?;
+    with_link(links, &link)
+}
+
+fn with_link(mut links: ByteString, link: &[u8]) -> Result<ByteString, Failure<'static>> {
+    links.push_slice(link)?;
     Ok(links)
 }
 
