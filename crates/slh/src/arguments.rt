@@ -135,8 +135,8 @@ pub fn signing_key<'a>(rt: &HostRuntime, words: &ArgMatches<'a>) -> Result<Key, 
     }
 }
 
-/// The signature of `--signature`, of the length that the set's have.
-pub fn signature<'a>(
+// The signature of `--signature`, of the length that the set's have.
+fn signature<'a>(
     rt: &HostRuntime,
     words: &ArgMatches<'a>,
     set: Set,
@@ -149,6 +149,37 @@ pub fn signature<'a>(
     } else {
         Err(Failure::Signature(path, set))
     }
+}
+
+/// A signature of a file, and the key that it is to be under.
+#[derive(Drop)]
+pub struct Claim {
+    pub key: Key,
+    pub signature: ByteString,
+    pub message: Message,
+}
+
+/// What `--signature` says of the file under a key.
+pub fn claim_of<'a>(
+    rt: &HostRuntime,
+    words: &ArgMatches<'a>,
+    context: ByteString,
+    key: Key,
+) -> Result<Claim, Failure<'a>> {
+    let signature = signature(rt, words, key.set)?;
+    let message = message(rt, words, context)?;
+    Ok(Claim {
+        key,
+        signature,
+        message,
+    })
+}
+
+/// What `--signature` says of the file under the signing key of `--key`.
+pub fn own_claim<'a>(rt: &HostRuntime, words: &ArgMatches<'a>) -> Result<Claim, Failure<'a>> {
+    let context = context(rt, words)?;
+    let key = signing_key(rt, words)?;
+    claim_of(rt, words, context, key)
 }
 
 /// What randomizers are made from: nothing for `--deterministic`.

@@ -1,5 +1,5 @@
 //! `slh audit` and `slh check`.
-use crate::arguments::{check_inputs, context, message, required, signature, signing_key, tell};
+use crate::arguments::{Claim, check_inputs, own_claim, required, tell};
 use crate::failure::Failure;
 use clap::ArgMatches;
 use slh_files::{Outcome, evidence_of};
@@ -8,10 +8,11 @@ use slh_run::{ByteString, Error, Evidence, Verdict, push_evidence};
 /// Tells whether the holder of a key made a signature that the key accepts.
 pub fn audit<'a>(rt: &HostRuntime, words: &ArgMatches<'a>) -> Result<Outcome, Failure<'a>> {
     check_inputs(words)?;
-    let context = context(rt, words)?;
-    let key = signing_key(rt, words)?;
-    let signature = signature(rt, words, key.set)?;
-    let message = message(rt, words, context)?;
+    let Claim {
+        key,
+        signature,
+        message,
+    } = own_claim(rt, words)?;
     match slh_files::audit(rt.alloc(), key, message, signature) {
         Ok(Verdict::Genuine) => tell(rt, Outcome::Genuine),
         Ok(Verdict::Foreign(evidence)) => tell_foreign(rt, evidence),
@@ -38,10 +39,11 @@ pub fn check<'a>(rt: &HostRuntime, words: &ArgMatches<'a>) -> Result<Outcome, Fa
     let Some(evidence) = evidence_of(rt.alloc(), required(words, "evidence")?.as_bytes())? else {
         return Err(Failure::Evidence);
     };
-    let context = context(rt, words)?;
-    let key = signing_key(rt, words)?;
-    let signature = signature(rt, words, key.set)?;
-    let message = message(rt, words, context)?;
+    let Claim {
+        key,
+        signature,
+        message,
+    } = own_claim(rt, words)?;
     match slh_files::check(rt.alloc(), key, message, signature, evidence) {
         Ok(true) => tell(rt, Outcome::Shown),
         Ok(false) => tell(rt, Outcome::NotShown),

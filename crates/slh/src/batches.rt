@@ -172,6 +172,15 @@ pub fn verify<'a>(rt: &HostRuntime, words: &ArgMatches<'a>) -> Result<Outcome, F
         message: message.as_slice(),
         receipt: receipt.as_slice(),
     });
+    tell_accepted(rt, path, file, accepted)
+}
+
+fn tell_accepted<'a>(
+    rt: &HostRuntime,
+    path: &'a str,
+    file: &'a str,
+    accepted: Result<(), ReceiptError>,
+) -> Result<Outcome, Failure<'a>> {
     match accepted {
         Ok(()) => tell(rt, Outcome::Accepted),
         Err(ReceiptError::Invalid) => tell(rt, Outcome::Invalid),

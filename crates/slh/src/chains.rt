@@ -1,17 +1,18 @@
 //! `slh chain`: keys that sign keys.
 use crate::arguments::{
-    Randomness, check_inputs, check_output, context, key_of_kind, message, required, signature,
-    signing_key, tell, verifying_key,
+    Randomness, check_inputs, check_output, claim_of, context, key_of_kind, required, signing_key,
+    tell, verifying_key,
 };
 use crate::failure::Failure;
 use crate::files;
 use crate::keys::key_file;
+use crate::signatures::tell_verdict;
 use clap::ArgMatches;
 use slh_chain::{ChainError, LinkError, delegate as link_of, walk as end_of};
 use slh_dsa::ParameterSet;
 use slh_files::{Key, Kind, Outcome, digits_of};
 use slh_line::{OnSet, signing_key as signing_key_of, verifying_key as verifying_key_of};
-use slh_run::ByteString;
+use slh_run::{ByteString, Set};
 use std::alloc::Global;
 
 // A link that is to be made.
@@ -75,32 +76,64 @@ pub fn delegate<'a>(rt: &HostRuntime, words: &ArgMatches<'a>) -> Result<Outcome,
     check_inputs(words)?;
     let output = required(words, "output")?;
     check_output(rt, words, &["key", "subject"], output)?;
+    let links = delegated(rt, words)?;
+    files::put(rt, output, links.as_slice())?;
+    Ok(Outcome::Done)
+}
+
+// The chain with the new link.
+fn delegated<'a>(rt: &HostRuntime, words: &ArgMatches<'a>) -> Result<ByteString, Failure<'a>> {
     let Some(depth) = words.get_one::<u8>("depth") else {
         return Err(Failure::Command);
     };
     let key = signing_key(rt, words)?;
+    let subject = subject_of(rt, words, key.set)?;
+    let links = old_chain(rt, words)?;
+    let randomness = Randomness::new(rt, words)?;
+    let link = new_link(rt, words, depth, &key, &subject, &randomness)?;
+    with_link(links, &link)
+}
+
+fn with_link(mut links: ByteString, link: &[u8]) -> Result<ByteString, Failure<'static>> {
+    links.push_slice(link)?;
+    Ok(links)
+}
+
+// The key of `--subject`, which is of the set of the key that delegates.
+fn subject_of<'a>(rt: &HostRuntime, words: &ArgMatches<'a>, set: Set) -> Result<Key, Failure<'a>> {
     let path = required(words, "subject")?;
     let subject = key_of_kind(rt, Kind::Verifying, path)?;
-    if subject.set != key.set {
+    if subject.set != set {
         return Err(Failure::Told(path, "a key of another set than the one that delegates"));
     }
-    let mut links = match words.get_str("chain") {
-        Some(path) => chain(rt, path)?,
-        None => ByteString::new(rt.alloc()),
-    };
-    let randomness = Randomness::new(rt, words)?;
-    let random = randomness.of_set(key.set);
-    let link = key.set.run(Delegation {
+    Ok(subject)
+}
+
+// The chain that there is.
+fn old_chain<'a>(rt: &HostRuntime, words: &ArgMatches<'a>) -> Result<ByteString, Failure<'a>> {
+    match words.get_str("chain") {
+        Some(path) => chain(rt, path),
+        None => Ok(ByteString::new(rt.alloc())),
+    }
+}
+
+fn new_link<'k>(
+    rt: &HostRuntime,
+    words: &ArgMatches<'_>,
+    depth: u8,
+    key: &'k Key,
+    subject: &'k Key,
+    randomness: &'k Randomness,
+) -> Result<Vec<u8>, Failure<'static>> {
+    let name = required(words, "name")?;
+    key.set.run(Delegation {
         alloc: rt.alloc(),
         key: key.bytes.as_slice(),
-        name: required(words, "name")?.as_bytes(),
+        name: name.as_bytes(),
         depth,
         subject: subject.bytes.as_slice(),
-        random,
-    })?;
-    links.push_slice(&link)?;
-    files::put(rt, output, links.as_slice())?;
-    Ok(Outcome::Done)
+        random: randomness.of_set(key.set),
+    })
 }
 
 // A chain from a root key.
@@ -158,16 +191,21 @@ fn last_key<'a>(rt: &HostRuntime, words: &ArgMatches<'a>) -> Result<Key, Failure
             set: root.set,
             bytes,
         }),
-        Err(WalkError::Link(ChainError::Form(i))) => {
-            Err(Failure::BadLink(path, "cut short, or no link", i))
+        Err(error) => Err(walk_failure(path, error)),
+    }
+}
+
+fn walk_failure<'a>(path: &'a str, error: WalkError) -> Failure<'a> {
+    let error = match error {
+        WalkError::Link(error) => error,
+        WalkError::Memory => return Failure::Memory,
+    };
+    match error {
+        ChainError::Form(i) => Failure::BadLink(path, "cut short, or no link", i),
+        ChainError::Budget(i) => {
+            Failure::BadLink(path, "deeper than the one before lets it be", i)
         }
-        Err(WalkError::Link(ChainError::Budget(i))) => {
-            Err(Failure::BadLink(path, "deeper than the one before lets it be", i))
-        }
-        Err(WalkError::Link(ChainError::Invalid(i))) => {
-            Err(Failure::BadLink(path, "not signed by the key before it", i))
-        }
-        Err(WalkError::Memory) => Err(Failure::Memory),
+        ChainError::Invalid(i) => Failure::BadLink(path, "not signed by the key before it", i),
     }
 }
 
@@ -187,20 +225,16 @@ pub fn walk<'a>(rt: &HostRuntime, words: &ArgMatches<'a>) -> Result<Outcome, Fai
 pub fn verify<'a>(rt: &HostRuntime, words: &ArgMatches<'a>) -> Result<Outcome, Failure<'a>> {
     check_inputs(words)?;
     let context = context(rt, words)?;
-    let key = match last_key(rt, words) {
-        Ok(key) => key,
+    match last_key(rt, words) {
+        Ok(key) => tell_verdict(rt, words, claim_of(rt, words, context, key)?),
         Err(Failure::BadLink(path, text, i)) => {
-            let failure = Failure::BadLink(path, text, i);
-            let _ = eprintln!(rt; "slh: {failure}");
-            return tell(rt, Outcome::Invalid);
+            tell_bad_link(rt, Failure::BadLink(path, text, i))
         }
-        Err(failure) => return Err(failure),
-    };
-    let signature = signature(rt, words, key.set)?;
-    let message = message(rt, words, context)?;
-    match slh_files::verify(rt.alloc(), key, message, signature) {
-        Ok(true) => tell(rt, Outcome::Accepted),
-        Ok(false) => tell(rt, Outcome::Invalid),
-        Err(error) => Err(Failure::Refused(required(words, "file")?, error)),
+        Err(failure) => Err(failure),
     }
+}
+
+fn tell_bad_link(rt: &HostRuntime, failure: Failure<'_>) -> Result<Outcome, Failure<'static>> {
+    let _ = eprintln!(rt; "slh: {failure}");
+    tell(rt, Outcome::Invalid)
 }

@@ -11,17 +11,38 @@ use slh_files::Outcome;
 /// Does what the words ask for.
 pub fn outcome_of<'a>(rt: &HostRuntime, matches: &ArgMatches<'a>) -> Result<Outcome, Failure<'a>> {
     match matches.subcommand() {
-        Some(("keygen", words)) => keygen(rt, words),
-        Some(("public", words)) => public(rt, words),
-        Some(("sign", words)) => sign(rt, words),
-        Some(("verify", words)) => verify(rt, words),
-        Some(("audit", words)) => audit(rt, words),
-        Some(("check", words)) => check(rt, words),
-        Some(("inspect", words)) => inspect(rt, words),
         Some(("batch", words)) => batch(rt, words),
         Some(("manifest", words)) => manifest(rt, words),
         Some(("chain", words)) => chain(rt, words),
         Some(("ring", words)) => ring(rt, words),
+        Some((name, words)) => of_signatures(rt, name, words),
+        None => Err(Failure::Command),
+    }
+}
+
+fn of_signatures<'a>(
+    rt: &HostRuntime,
+    name: &str,
+    words: &ArgMatches<'a>,
+) -> Result<Outcome, Failure<'a>> {
+    match name {
+        "sign" => sign(rt, words),
+        "verify" => verify(rt, words),
+        "audit" => audit(rt, words),
+        "check" => check(rt, words),
+        _ => of_keys(rt, name, words),
+    }
+}
+
+fn of_keys<'a>(
+    rt: &HostRuntime,
+    name: &str,
+    words: &ArgMatches<'a>,
+) -> Result<Outcome, Failure<'a>> {
+    match name {
+        "keygen" => keygen(rt, words),
+        "public" => public(rt, words),
+        "inspect" => inspect(rt, words),
         _ => Err(Failure::Command),
     }
 }

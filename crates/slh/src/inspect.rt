@@ -14,21 +14,34 @@ use slh_run::{ByteString, Set};
 pub fn inspect<'a>(rt: &HostRuntime, words: &ArgMatches<'a>) -> Result<Outcome, Failure<'a>> {
     let path = required(words, "file")?;
     let file = files::read(rt, path)?;
-    let told = match read_key(rt.alloc(), Kind::Signing, file.as_slice()) {
-        Ok(key) => signing_text(rt, path, &key)?,
-        Err(KeyFileError::OtherKind) => match read_key(
-            rt.alloc(),
-            Kind::Verifying,
-            file.as_slice(),
-        ) {
-            Ok(key) => verifying_text(rt, "verifying key", &key)?,
-            Err(error) => return Err(Failure::Key(path, error)),
-        },
-        Err(KeyFileError::NoKey) => signature_text(rt, path, &file)?,
-        Err(error) => return Err(Failure::Key(path, error)),
-    };
+    let told = text_of(rt, path, &file)?;
     files::put(rt, files::STANDARD, told.as_slice())?;
     Ok(Outcome::Done)
+}
+
+fn text_of<'a>(
+    rt: &HostRuntime,
+    path: &'a str,
+    file: &ByteString,
+) -> Result<ByteString, Failure<'a>> {
+    match read_key(rt.alloc(), Kind::Signing, file.as_slice()) {
+        Ok(key) => signing_text(rt, path, &key),
+        Err(KeyFileError::OtherKind) => other_text(rt, path, file),
+        Err(KeyFileError::NoKey) => signature_text(rt, path, file),
+        Err(error) => Err(Failure::Key(path, error)),
+    }
+}
+
+// The text for a key that is no signing key.
+fn other_text<'a>(
+    rt: &HostRuntime,
+    path: &'a str,
+    file: &ByteString,
+) -> Result<ByteString, Failure<'a>> {
+    match read_key(rt.alloc(), Kind::Verifying, file.as_slice()) {
+        Ok(key) => Ok(verifying_text(rt, "verifying key", &key)?),
+        Err(error) => Err(Failure::Key(path, error)),
+    }
 }
 
 // The text for a signing key: that of its verifying key, and whether its root is its own.

@@ -39,13 +39,27 @@ pub fn keygen<'a>(rt: &HostRuntime, words: &ArgMatches<'a>) -> Result<Outcome, F
 /// Writes the files of a pair, NAME.key and NAME.pub, neither of which may be there.
 pub fn write_pair<'a>(rt: &HostRuntime, name: &'a str, key: &Key) -> Result<Outcome, Failure<'a>> {
     let secret = key_file(rt, Kind::Signing, key, name)?;
-    let public = key_file(rt, Kind::Verifying, &verifying_key(rt.alloc(), key)?, name)?;
+    let public = public_file(rt, key, name)?;
+    write_files(rt, name, secret.as_slice(), public.as_slice())
+}
+
+// The text of the file of a signing key's verifying key.
+fn public_file<'a>(rt: &HostRuntime, key: &Key, name: &'a str) -> Result<ByteString, Failure<'a>> {
+    key_file(rt, Kind::Verifying, &verifying_key(rt.alloc(), key)?, name)
+}
+
+fn write_files<'a>(
+    rt: &HostRuntime,
+    name: &'a str,
+    secret: &[u8],
+    public: &[u8],
+) -> Result<Outcome, Failure<'a>> {
     let secret_path = format!(in rt.alloc(); "{name}.key")?;
     let public_path = format!(in rt.alloc(); "{name}.pub")?;
-    if let Err(error) = files::write_new(rt, secret_path.as_str(), SECRET, secret.as_slice()) {
+    if let Err(error) = files::write_new(rt, secret_path.as_str(), SECRET, secret) {
         return Err(Failure::NewFile(name, ".key", error));
     }
-    if let Err(error) = files::write_new(rt, public_path.as_str(), PUBLIC, public.as_slice()) {
+    if let Err(error) = files::write_new(rt, public_path.as_str(), PUBLIC, public) {
         let _ = fs::remove_file(rt, secret_path.as_str());
         return Err(Failure::NewFile(name, ".pub", error));
     }
@@ -58,7 +72,7 @@ pub fn public<'a>(rt: &HostRuntime, words: &ArgMatches<'a>) -> Result<Outcome, F
     let output = words.get_str("output").unwrap_or(files::STANDARD);
     check_output(rt, words, &["key"], output)?;
     let key = signing_key(rt, words)?;
-    let public = key_file(rt, Kind::Verifying, &verifying_key(rt.alloc(), &key)?, path)?;
+    let public = public_file(rt, &key, path)?;
     files::put(rt, output, public.as_slice())?;
     Ok(Outcome::Done)
 }

@@ -98,14 +98,24 @@ fn entries_of<'a>(
     for name in names {
         if let Err(error) = entries.add(name.as_bytes(), &mut folder) {
             let name = shown(rt.alloc(), name.as_bytes())?;
-            return Err(match (error, folder.fault.take()) {
-                (BuildError::Full, _) => Failure::Told(path, build_text(error)),
-                (BuildError::Fault, Some(fault)) => Failure::EntryFile(path, name, fault),
-                _ => Failure::Entry(path, name, build_text(error)),
-            });
+            return Err(entry_failure(path, name, error, folder.fault.take()));
         }
     }
     Ok(entries)
+}
+
+// Why the file of this name is no entry.
+fn entry_failure<'a>(
+    path: &'a str,
+    name: String,
+    error: BuildError,
+    fault: Option<io::Error>,
+) -> Failure<'a> {
+    match (error, fault) {
+        (BuildError::Full, _) => Failure::Told(path, build_text(error)),
+        (BuildError::Fault, Some(fault)) => Failure::EntryFile(path, name, fault),
+        _ => Failure::Entry(path, name, build_text(error)),
+    }
 }
 
 /// Signs the regular files below a folder.
@@ -113,24 +123,40 @@ pub fn seal<'a>(rt: &HostRuntime, words: &ArgMatches<'a>) -> Result<Outcome, Fai
     let path = folder_path(rt, words)?;
     let output = required(words, "output")?;
     check_output(rt, words, &["key"], output)?;
+    let manifest = sealed(rt, words, path, output)?;
+    files::put(rt, output, &manifest)?;
+    Ok(Outcome::Done)
+}
+
+// The manifest of the files below a folder.
+fn sealed<'a>(
+    rt: &HostRuntime,
+    words: &ArgMatches<'a>,
+    path: &'a str,
+    output: &'a str,
+) -> Result<Vec<u8>, Failure<'a>> {
     let key = signing_key(rt, words)?;
-    let names = names_for(rt, path, output)?;
-    let entries = entries_of(rt, path, &names)?;
+    let entries = entries_below(rt, path, output)?;
     let randomness = Randomness::new(rt, words)?;
-    let random = randomness.of_set(key.set);
     let manifest = key.set.run(Sealing {
         alloc: rt.alloc(),
         key: key.bytes.as_slice(),
-        random,
+        random: randomness.of_set(key.set),
         entries,
     });
     match manifest {
-        Ok(manifest) => {
-            files::put(rt, output, &manifest)?;
-            Ok(Outcome::Done)
-        }
+        Ok(manifest) => Ok(manifest),
         Err(error) => Err(Failure::Told(path, build_text(error))),
     }
+}
+
+fn entries_below<'a>(
+    rt: &HostRuntime,
+    path: &'a str,
+    output: &'a str,
+) -> Result<Builder, Failure<'a>> {
+    let names = names_for(rt, path, output)?;
+    entries_of(rt, path, &names)
 }
 
 // A manifest over a folder.
@@ -174,15 +200,23 @@ pub fn check<'a>(rt: &HostRuntime, words: &ArgMatches<'a>) -> Result<Outcome, Fa
         manifest: manifest.as_slice(),
         folder: Folder::new(rt, below),
     });
+    tell_checked(rt, below, path, manifest.as_slice(), checked, folder)
+}
+
+// Tells what came of a check of the manifest at a path over a folder.
+fn tell_checked<'a>(
+    rt: &HostRuntime,
+    below: &'a str,
+    path: &'a str,
+    manifest: &[u8],
+    checked: Result<(), CheckError>,
+    folder: Folder<'_>,
+) -> Result<Outcome, Failure<'a>> {
     match checked {
         Ok(()) => tell(rt, Outcome::Accepted),
         Err(CheckError::Invalid) => tell(rt, Outcome::Invalid),
-        Err(CheckError::Missing(i)) => {
-            tell_name(rt, Outcome::Missing, entry_name(manifest.as_slice(), i))
-        }
-        Err(CheckError::Differs(i)) => {
-            tell_name(rt, Outcome::Differs, entry_name(manifest.as_slice(), i))
-        }
+        Err(CheckError::Missing(i)) => tell_name(rt, Outcome::Missing, entry_name(manifest, i)),
+        Err(CheckError::Differs(i)) => tell_name(rt, Outcome::Differs, entry_name(manifest, i)),
         Err(CheckError::Form) => Err(Failure::Told(path, "not a manifest of the key's set")),
         Err(CheckError::Fault) => Err(fault_failure(rt.alloc(), below, folder)?),
     }

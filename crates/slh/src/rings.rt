@@ -41,13 +41,13 @@ pub fn make_master<'a>(rt: &HostRuntime, words: &ArgMatches<'a>) -> Result<Outco
 
 // The key at a path.
 #[derive(Drop)]
-struct Derivation<'s> {
+struct Derivation<'m, 'p> {
     alloc: Global,
-    master: &'s [u8],
-    path: &'s Path,
+    master: &'m [u8],
+    path: &'p Path,
 }
 
-impl<'s> OnSet for Derivation<'s> {
+impl<'m, 'p> OnSet for Derivation<'m, 'p> {
     ghost use Rattle.std.specs.Prelude.{⊤};
 
     type Out = Result<ByteString, AllocError>;
@@ -69,14 +69,19 @@ pub fn key<'a>(rt: &HostRuntime, words: &ArgMatches<'a>) -> Result<Outcome, Fail
     let Some(path) = Path::from_text(text.as_bytes()) else {
         return Err(Failure::Path(text));
     };
+    let key = key_at(rt, words, &path)?;
+    write_pair(rt, required(words, "name")?, &key)
+}
+
+fn key_at<'a>(rt: &HostRuntime, words: &ArgMatches<'a>, path: &Path) -> Result<Key, Failure<'a>> {
     let set = set_of(words)?;
     let master = master(rt, words)?;
     let bytes = set.run(Derivation {
         alloc: rt.alloc(),
         master: master.as_slice(),
-        path: &path,
+        path,
     })?;
-    write_pair(rt, required(words, "name")?, &Key { set, bytes })
+    Ok(Key { set, bytes })
 }
 
 // The record of the ring of some paths.
@@ -109,14 +114,19 @@ fn ring_of<'a, P: ParameterSet>(alloc: Global, paths: &[&'a str]) -> Result<Ring
         let Some(path) = Path::from_text(text.as_bytes()) else {
             return Err(Failure::Path(*text));
         };
-        match ring.add(path) {
-            Ok(()) => {}
-            Err(RingError::Present) => return Err(Failure::Told(*text, "it stands twice")),
-            Err(RingError::Full) => return Err(Failure::Told(*text, "a ring has 64 paths")),
-            Err(RingError::Memory) => return Err(Failure::Memory),
+        if let Err(error) = ring.add(path) {
+            return Err(ring_failure(*text, error));
         }
     }
     Ok(ring)
+}
+
+fn ring_failure<'a>(text: &'a str, error: RingError) -> Failure<'a> {
+    match error {
+        RingError::Present => Failure::Told(text, "it stands twice"),
+        RingError::Full => Failure::Told(text, "a ring has 64 paths"),
+        RingError::Memory => Failure::Memory,
+    }
 }
 
 /// Writes the line `SET RECORD` of the ring of some paths.
@@ -133,8 +143,17 @@ pub fn record<'a>(rt: &HostRuntime, words: &ArgMatches<'a>) -> Result<Outcome, F
         master: master.as_slice(),
         paths,
     })?;
+    put_record(rt, output, set, &record)
+}
+
+fn put_record<'a>(
+    rt: &HostRuntime,
+    output: &'a str,
+    set: Set,
+    record: &[u8],
+) -> Result<Outcome, Failure<'a>> {
     let mut line = ByteString::from_slice(rt.alloc(), set.name().as_bytes())?;
-    push_hex_line(&mut line, b" ", &record)?;
+    push_hex_line(&mut line, b" ", record)?;
     files::put(rt, output, line.as_slice())?;
     Ok(Outcome::Done)
 }
@@ -197,24 +216,34 @@ pub fn restore<'a>(rt: &HostRuntime, words: &ArgMatches<'a>) -> Result<Outcome, 
     check_inputs(words)?;
     let path = required(words, "file")?;
     let master = master(rt, words)?;
-    let file = files::read(rt, path)?;
-    let Some((set, record)) = record_in(rt.alloc(), file.as_slice())? else {
-        return Err(Failure::Told(path, "not a line SET RECORD"));
-    };
+    let (set, record) = record_at(rt, path)?;
     let restored = set.run(Restoring {
         alloc: rt.alloc(),
         master: master.as_slice(),
         record: record.as_slice(),
     });
     match restored {
-        Ok(text) => {
-            files::put(rt, files::STANDARD, text.as_slice())?;
-            Ok(Outcome::Done)
+        Ok(text) => files::put(rt, files::STANDARD, text.as_slice())?,
+        Err(error) => return Err(restore_failure(path, error)),
+    }
+    Ok(Outcome::Done)
+}
+
+// The set and the record of a file.
+fn record_at<'a>(rt: &HostRuntime, path: &'a str) -> Result<(Set, ByteString), Failure<'a>> {
+    let file = files::read(rt, path)?;
+    match record_in(rt.alloc(), file.as_slice())? {
+        Some(found) => Ok(found),
+        None => Err(Failure::Told(path, "not a line SET RECORD")),
+    }
+}
+
+fn restore_failure<'a>(path: &'a str, error: RestoreError) -> Failure<'a> {
+    match error {
+        RestoreError::Form => Failure::Told(path, "not a record of its set"),
+        RestoreError::Mismatch(i) => {
+            Failure::ToldAt(path, "not of this master, or changed: path", i)
         }
-        Err(RestoreError::Form) => Err(Failure::Told(path, "not a record of its set")),
-        Err(RestoreError::Mismatch(i)) => {
-            Err(Failure::ToldAt(path, "not of this master, or changed: path", i))
-        }
-        Err(RestoreError::Memory) => Err(Failure::Memory),
+        RestoreError::Memory => Failure::Memory,
     }
 }

@@ -1,7 +1,7 @@
 //! `slh sign` and `slh verify`.
 use crate::arguments::{
-    Randomness, check_inputs, check_output, context, message, required, signature, signing_key,
-    tell, verifying_key,
+    Claim, Randomness, check_inputs, check_output, claim_of, context, message, required,
+    signing_key, tell, verifying_key,
 };
 use crate::failure::Failure;
 use crate::files;
@@ -17,9 +17,20 @@ pub fn sign<'a>(rt: &HostRuntime, words: &ArgMatches<'a>) -> Result<Outcome, Fai
     let context = context(rt, words)?;
     let key = signing_key(rt, words)?;
     let message = message(rt, words, context)?;
+    let signature = signed(rt, words, path, key, message)?;
+    put(rt, words, path, signature.as_slice())
+}
+
+fn signed<'a>(
+    rt: &HostRuntime,
+    words: &ArgMatches<'a>,
+    path: &'a str,
+    key: Key,
+    message: Message,
+) -> Result<ByteString, Failure<'a>> {
     let random = Randomness::new(rt, words)?;
     match made(rt, key, message, random.bytes(), words.get_flag("audit")) {
-        Ok(signature) => put(rt, words, path, signature.as_slice()),
+        Ok(signature) => Ok(signature),
         Err(SignError::Refused(error)) => Err(Failure::Refused(path, error)),
         Err(SignError::Fault) => Err(Failure::Fault(path)),
     }
@@ -54,13 +65,24 @@ fn put<'a>(
     } else if path == files::STANDARD {
         files::put(rt, path, signature)?;
     } else {
-        let output = format!(in rt.alloc(); "{path}.sig")?;
-        check_output(rt, words, &["key", "file"], output.as_str())?;
-        if let Err(error) = files::write(rt, output.as_str(), signature) {
-            return Err(Failure::NewFile(path, ".sig", error));
-        }
+        put_beside(rt, words, path, signature)?;
     }
     Ok(Outcome::Done)
+}
+
+// Writes FILE.sig.
+fn put_beside<'a>(
+    rt: &HostRuntime,
+    words: &ArgMatches<'a>,
+    path: &'a str,
+    signature: &[u8],
+) -> Result<(), Failure<'a>> {
+    let output = format!(in rt.alloc(); "{path}.sig")?;
+    check_output(rt, words, &["key", "file"], output.as_str())?;
+    match files::write(rt, output.as_str(), signature) {
+        Ok(()) => Ok(()),
+        Err(error) => Err(Failure::NewFile(path, ".sig", error)),
+    }
 }
 
 /// Tells whether a signature is one of a file.
@@ -68,8 +90,20 @@ pub fn verify<'a>(rt: &HostRuntime, words: &ArgMatches<'a>) -> Result<Outcome, F
     check_inputs(words)?;
     let context = context(rt, words)?;
     let key = verifying_key(rt, words)?;
-    let signature = signature(rt, words, key.set)?;
-    let message = message(rt, words, context)?;
+    tell_verdict(rt, words, claim_of(rt, words, context, key)?)
+}
+
+/// Tells whether a signature is one of the file.
+pub fn tell_verdict<'a>(
+    rt: &HostRuntime,
+    words: &ArgMatches<'a>,
+    claim: Claim,
+) -> Result<Outcome, Failure<'a>> {
+    let Claim {
+        key,
+        signature,
+        message,
+    } = claim;
     match slh_files::verify(rt.alloc(), key, message, signature) {
         Ok(true) => tell(rt, Outcome::Accepted),
         Ok(false) => tell(rt, Outcome::Invalid),
