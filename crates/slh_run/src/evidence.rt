@@ -65,7 +65,8 @@ fn read_leaf(words: &[&[u8]]) -> Option<Evidence>
     Some(Evidence::Leaf { layer })
 }
 
-/// The evidence of these words: a kind, and its numbers.
+/// The evidence of these words: a kind, and its numbers. `None`: no such kind, more numbers or fewer
+/// than it has, or one that isn't 1 to 10 decimal digits with a value below 2^32.
 pub fn read_evidence(words: &[&[u8]]) -> Option<Evidence>
     ensures { result ≡ evidence_in (contents words.now) }
 {
