@@ -1,7 +1,7 @@
 //! The compression function (FIPS 180-4, 6.4.2): one text for a single block and for several side
 //! by side.
 
-ghost use Rattle.std.specs.Prelude.{◌≡◌, ℕ, List, [], length, map, slice_index, slice_index_or};
+ghost use Rattle.std.specs.Prelude.{◌≡◌, ℕ, List, [], length, map, slice_index, slice_index_or, ⊤};
 ghost use Rattle.std.specs.Prelude.{◌+◌, ◌*◌, ◌<◌, ◌≤◌};
 ghost use Rattle.sha2.specs.Sha512.{big_sigma0, big_sigma1, ch, compress, maj, round, rounds};
 ghost use Rattle.sha2.specs.Sha512.{schedule, small_sigma0, small_sigma1};
@@ -9,6 +9,7 @@ ghost use Rattle.sha512_lanes.specs.Lanes.{variables, window};
 ghost use Rattle.sha512_lanes.specs.Steps.{IsBefore, block_words, next_in};
 
 use crate::word::Word;
+use std::alloc::AllocError;
 
 /// The constants of the 80 rounds (FIPS 180-4, 4.2.3).
 const CONSTANTS: [u64; 80] = [
@@ -95,7 +96,7 @@ const CONSTANTS: [u64; 80] = [
 ];
 
 /// The eight working variables, or the eight words of a hash value.
-#[derive(Clone, Copy, Drop)]
+#[derive(Drop)]
 pub(crate) struct Variables<W> {
     pub(crate) a: W,
     pub(crate) b: W,
@@ -107,8 +108,21 @@ pub(crate) struct Variables<W> {
     pub(crate) h: W,
 }
 
+// By hand: the derived `clone` would go word by word.
+impl<W: Copy> Clone for Variables<W> {
+    ghost is_clone = { λ x y. y ≡ x };
+
+    ghost is_infallible = { λ _. ⊤ };
+
+    fn clone(&self) -> Result<Self, AllocError> {
+        Ok(*self)
+    }
+}
+
+impl<W: Copy> Copy for Variables<W> {}
+
 /// Sixteen words of the schedule, one after the other.
-#[derive(Clone, Copy, Drop)]
+#[derive(Drop)]
 pub(crate) struct Window<W> {
     pub(crate) w0: W,
     pub(crate) w1: W,
@@ -127,6 +141,18 @@ pub(crate) struct Window<W> {
     pub(crate) w14: W,
     pub(crate) w15: W,
 }
+
+impl<W: Copy> Clone for Window<W> {
+    ghost is_clone = { λ x y. y ≡ x };
+
+    ghost is_infallible = { λ _. ⊤ };
+
+    fn clone(&self) -> Result<Self, AllocError> {
+        Ok(*self)
+    }
+}
+
+impl<W: Copy> Copy for Window<W> {}
 
 // One operation fewer than the standard's form.
 #[inline(always)]
