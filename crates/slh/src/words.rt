@@ -5,7 +5,7 @@ use clap::{Arg, ArgAction, Command, value_parser};
 use std::alloc::{AllocError, Global};
 
 /// What `--version` prints: the version, and the toolchain that proved the program.
-const VERSION: &str = "0.8.0 (rattle-kit-13f logic dac8208d650f15bf)";
+const VERSION: &str = "0.9.0 (rattle-kit-13f logic dac8208d650f15bf)";
 
 const SETS: [&str; 6] = [
     "SLH-DSA-SHA2-128s",
