@@ -40,4 +40,6 @@ mod traits;
 #[cfg(test)]
 mod trees;
 #[cfg(test)]
+mod uncounted;
+#[cfg(test)]
 mod worked;

@@ -1,8 +1,9 @@
 //! XMSS trees, the hypertree and FORS (FIPS 205, sections 6 to 8), over any hash suite.
 //!
 //! The crate below, `slh_core`, has suites, addresses, sizes, digits and key pairs. Their names
-//! stand here too. [`toy::Toy`] is a suite of one byte for tests, whose values can be computed by
-//! hand; it hides nothing. No call takes memory.
+//! stand here too. [`uncounted`] has the calls of the scheme for callers that count no hash calls.
+//! [`toy::Toy`] is a suite of one byte for tests, whose values can be computed by hand; it hides
+//! nothing. No call takes memory.
 //!
 //! Whether a verifying key of the toy suite, the bytes 0x03 and 0xe1, accepts a signature of the
 //! message 0x48 with an empty context (FIPS 205, algorithms 20 and 24). The test
@@ -53,6 +54,8 @@ pub mod sizes;
 mod subtree;
 pub mod toy;
 mod treehash;
+pub mod uncounted;
+mod uncounted_fors;
 pub mod xmss;
 
 pub use check::check_root;
