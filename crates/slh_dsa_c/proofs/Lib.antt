@@ -1,1 +1,2 @@
+mod Sets
 mod Verified

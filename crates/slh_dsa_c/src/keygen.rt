@@ -5,37 +5,41 @@ ghost use Rattle.slh_dsa_c.specs.Status.{key_of_seeds, keygen_lengths, keygen_st
 ghost use Rattle.slh_dsa_c.specs.Status.{number_of_refusal};
 ghost use Rattle.slh_trees.specs.Keys.{IsTrueKey};
 
-use crate::set::in_set;
-use crate::status::{LENGTH, OK, UNKNOWN_SET, number_of};
+use crate::set::{Writer, write_in_set};
+use crate::status::{LENGTH, OK, number_of};
 use hybrid_array::ArraySize;
 use slh_core::params::chain_sizes;
-use slh_dsa::{
-    ParameterSet, Sha2_128f, Sha2_128s, Sha2_192f, Sha2_192s, Sha2_256f, Sha2_256s, SigningKey,
-};
+use slh_dsa::{ParameterSet, SigningKey};
 
-fn keygen_in<P: ParameterSet>(seeds: &[u8], key: &mut [u8], public: &mut [u8]) -> u32
-    ensures status { result
-        ≡ number_of_refusal
-        (keygen_lengths P.scheme (length seeds.now) (length key.old) (length public.old)) }
-    ensures key { result ≡ 0 → key.new ≡ key_of_seeds P.scheme seeds.now }
-    ensures true_key { result ≡ 0 → IsTrueKey P.scheme key.new }
-    ensures public { result ≡ 0 → public.new ≡ drop (2 * P.scheme.n) key.new }
-    ensures same { result ≢ 0 → (key.new ≡ key.old) × (public.new ≡ public.old) }
-{
-    chain_sizes::<P>();
-    let n = P::N::USIZE;
-    if seeds.len() != 3 * n || key.len() != 4 * n || public.len() != 2 * n {
-        return LENGTH;
-    }
-    let (sk_seed, rest) = seeds.split_at(n);
-    let (sk_prf, pk_seed) = rest.split_at(n);
-    match SigningKey::<P>::slh_keygen_internal(sk_seed, sk_prf, pk_seed) {
-        Ok(made) => {
-            made.write_to(key);
-            made.verifying_key().write_to(public);
-            OK
+// The seeds of a signing key, whose verifying key is to have so many bytes.
+#[derive(Drop)]
+struct Keygen<'a> {
+    seeds: &'a [u8],
+    public_bytes: usize,
+}
+
+impl<'a> Writer for Keygen<'a> {
+    ghost status = { λ c Z len. number_of_refusal
+        (keygen_lengths Z (length c.seeds.now) len c.public_bytes) };
+
+    ghost writes = { λ c Z key. (key ≡ key_of_seeds Z c.seeds.now) × IsTrueKey Z key };
+
+    fn write<P: ParameterSet>(self, out: &mut [u8]) -> u32 {
+        chain_sizes::<P>();
+        let n = P::N::USIZE;
+        let seeds = self.seeds;
+        if seeds.len() != 3 * n || out.len() != 4 * n || self.public_bytes != 2 * n {
+            return LENGTH;
         }
-        Err(error) => number_of(error),
+        let (sk_seed, rest) = seeds.split_at(n);
+        let (sk_prf, pk_seed) = rest.split_at(n);
+        match SigningKey::<P>::slh_keygen_internal(sk_seed, sk_prf, pk_seed) {
+            Ok(made) => {
+                made.write_to(out);
+                OK
+            }
+            Err(error) => number_of(error),
+        }
     }
 }
 
@@ -58,5 +62,18 @@ pub extern "C" fn slh_dsa_sha2_keygen(
         public.new ≡ drop (2 * Z.n) key.new) }
     ensures same { result ≢ 0 → (key.new ≡ key.old) × (public.new ≡ public.old) }
 {
-    in_set!(set, keygen_in(seeds, key, public), UNKNOWN_SET)
+    let public_bytes = public.len();
+    let status = write_in_set(
+        set,
+        Keygen {
+            seeds,
+            public_bytes,
+        },
+        key,
+    );
+    if status == OK {
+        // The verifying key is the signing key's last half.
+        public.copy_from_slice(&key[public_bytes..]);
+    }
+    status
 }

@@ -16,19 +16,21 @@ const SIZES: [(u32, usize, usize); 6] = [
     (6, 32, 49856),
 ];
 
+fn has_sizes(set: u32, n: usize, signature_bytes: usize) -> bool {
+    slh_dsa_sha2_n(set) == n && slh_dsa_sha2_signature_bytes(set) == signature_bytes
+}
+
 #[test]
 fn sizes_are_those_of_the_table(rt: HostRuntime) {
     for (set, n, signature_bytes) in SIZES {
-        assert!(rt; slh_dsa_sha2_n(set) == n);
-        assert!(rt; slh_dsa_sha2_signature_bytes(set) == signature_bytes);
+        assert!(rt; has_sizes(set, n, signature_bytes));
     }
 }
 
 #[test]
 fn a_number_without_a_set_has_no_sizes(rt: HostRuntime) {
     for set in [0, 7, u32::MAX] {
-        assert!(rt; slh_dsa_sha2_n(set) == 0);
-        assert!(rt; slh_dsa_sha2_signature_bytes(set) == 0);
+        assert!(rt; has_sizes(set, 0, 0));
     }
 }
 
@@ -57,12 +59,15 @@ const ROOT: [u8; 16] = [
     0x40, 0x52, 0xe0, 0x73, 0x3e, 0x69, 0xe7, 0x87, 0x39, 0xd6, 0xe6, 0x7c, 0x77, 0xf9, 0xa3, 0x7d,
 ];
 
+// Whether a verifying key is the public seed of these seeds and that root.
+fn has_root(public: &[u8]) -> bool {
+    public.split_at_checked(16) == Some(([3; 16].as_slice(), ROOT.as_slice()))
+}
+
 #[test]
 fn a_made_key_has_the_root_of_the_rust_crate(rt: HostRuntime) {
     let (status, key, public) = keys();
-    assert!(rt; status == 0);
-    assert!(rt; key[32..48] == [3; 16] && &key[48..] == ROOT.as_slice());
-    assert!(rt; public[..16] == [3; 16] && &public[16..] == ROOT.as_slice());
+    assert!(rt; status == 0 && has_root(&key[32..]) && has_root(&public));
 }
 
 fn sign(mode: u32, ctx: &[u8], randomizer: &[u8]) -> (u32, Sig) {
@@ -82,14 +87,19 @@ fn audit(sig: &[u8], evidence: &mut CEvidence) -> u32 {
     slh_dsa_sha2_audit(SET, 0, &key, b"Hello", b"", sig, evidence)
 }
 
+// Whether what is signed in a mode is verified in it, and not in another or with another context.
+fn is_verified_in_its_mode_alone(mode: u32, other: u32) -> bool {
+    let (status, sig) = sign(mode, b"ctx", &[4; 16]);
+    status == 0
+        && verify(mode, b"ctx", &sig) == 0
+        && verify(other, b"ctx", &sig) == 1
+        && verify(mode, b"", &sig) == 1
+}
+
 #[test]
 fn what_is_signed_is_verified_in_its_mode_alone(rt: HostRuntime) {
-    for mode in [0, 1, 2] {
-        let (status, sig) = sign(mode, b"ctx", &[4; 16]);
-        assert!(rt; status == 0);
-        assert!(rt; verify(mode, b"ctx", &sig) == 0);
-        assert!(rt; verify((mode + 1) % 3, b"ctx", &sig) == 1);
-        assert!(rt; verify(mode, b"", &sig) == 1);
+    for (mode, other) in [(0, 1), (1, 2), (2, 0)] {
+        assert!(rt; is_verified_in_its_mode_alone(mode, other));
     }
 }
 
@@ -99,22 +109,30 @@ fn without_random_bytes_the_public_seed_stands_for_them(rt: HostRuntime) {
     let (_, key, _) = keys();
     let mut sig = [0u8; LEN];
     let status = slh_dsa_sha2_sign_deterministic(SET, 0, &key, b"Hello", b"", &mut sig);
-    assert!(rt; status == 0);
-    assert!(rt; sig == sign(0, b"", &[3; 16]).1);
+    assert!(rt; status == 0 && sig == sign(0, b"", &[3; 16]).1);
+}
+
+// What signing the empty message answers with a randomizer of no bytes.
+fn refusal(set: u32, mode: u32, key: &[u8], ctx: &[u8], sig: &mut [u8]) -> u32 {
+    slh_dsa_sha2_sign(set, mode, key, b"", ctx, &[], sig)
+}
+
+// Whether each call names the first cause, where later ones stand too.
+fn names_first_causes(sig: &mut Sig) -> bool {
+    let (_, key, _) = keys();
+    let long = [0u8; 256];
+    refusal(0, 3, &[], &long, &mut []) == 9
+        && refusal(SET, 3, &[], &long, &mut []) == 10
+        && refusal(SET, 0, &[], &long, sig) == 5
+        && refusal(SET, 0, &key, &long, &mut sig[1..]) == 5
+        && refusal(SET, 0, &key, &long, sig) == 6
+        && refusal(SET, 0, &key, b"", sig) == 7
 }
 
 #[test]
 fn a_refused_call_names_the_first_cause_and_writes_nothing(rt: HostRuntime) {
-    let (_, key, _) = keys();
     let mut sig = [7u8; LEN];
-    let long = [0u8; 256];
-    assert!(rt; slh_dsa_sha2_sign(0, 3, &[], b"", &long, &[], &mut []) == 9);
-    assert!(rt; slh_dsa_sha2_sign(SET, 3, &[], b"", &long, &[], &mut []) == 10);
-    assert!(rt; slh_dsa_sha2_sign(SET, 0, &[], b"", &long, &[], &mut sig) == 5);
-    assert!(rt; slh_dsa_sha2_sign(SET, 0, &key, b"", &long, &[], &mut sig[1..]) == 5);
-    assert!(rt; slh_dsa_sha2_sign(SET, 0, &key, b"", &long, &[], &mut sig) == 6);
-    assert!(rt; slh_dsa_sha2_sign(SET, 0, &key, b"", b"", &[], &mut sig) == 7);
-    assert!(rt; sig == [7; LEN]);
+    assert!(rt; names_first_causes(&mut sig) && sig == [7; LEN]);
     assert!(rt; slh_dsa_sha2_keygen(SET, &[0; 47], &mut [0; 64], &mut [0; 32]) == 5);
 }
 
@@ -131,10 +149,10 @@ fn no_evidence() -> CEvidence {
 fn a_made_signature_is_genuine_and_a_changed_one_invalid(rt: HostRuntime) {
     let mut evidence = no_evidence();
     let (_, mut sig) = sign(0, b"", &[4; 16]);
-    assert!(rt; audit(&sig, &mut evidence) == 0);
+    let made = audit(&sig, &mut evidence);
     sig[LEN - 1] ^= 1;
-    assert!(rt; audit(&sig, &mut evidence) == 1);
-    assert!(rt; evidence.kind == 0);
+    let changed = audit(&sig, &mut evidence);
+    assert!(rt; made == 0 && changed == 1 && evidence.kind == 0);
 }
 
 fn check(kind: u32) -> u32 {
