@@ -1,9 +1,7 @@
 //! What the tests hand to `serve`, and what it writes.
 use hmac_sha256::Hash;
-use slh_run::{ByteString, MemSink, QuietSource, Words, serve};
+use slh_run::{MemSink, QuietSource, Source, Words, serve};
 use std::alloc::{AllocError, Global};
-use std::process::Abort;
-use std::test::Fail;
 
 // A job line with three seeds, and the key that they give, as the Rust crate `slh-dsa` 0.1.0 does.
 pub(crate) const KEYGEN: &[u8] =
@@ -19,60 +17,100 @@ pub(crate) const KEY_REPLY: &[u8] =
     b"key 0101010101010101010101010101010102020202020202020202020202020202030303030303030303030303030303034052e0733e69e78739d6e67c77f9a37d 030303030303030303030303030303034052e0733e69e78739d6e67c77f9a37d\n";
 
 // These pieces, one after the other.
-pub(crate) fn joined(alloc: Global, pieces: &[&[u8]]) -> Result<ByteString, AllocError> {
-    let mut all = ByteString::new(alloc);
+pub(crate) fn joined(alloc: Global, pieces: &[&[u8]]) -> Result<Vec<u8>, AllocError> {
+    let mut all = Vec::new(alloc);
     for piece in pieces {
-        all.push_slice(piece)?;
+        all.extend_from_slice(piece)?;
     }
     Ok(all)
 }
 
-// The bytes of hexadecimal digits.
-pub(crate) fn decoded(alloc: Global, digits: &[u8]) -> Result<ByteString, Fail> {
-    ByteString::from_slice(alloc, &hex::decode(alloc, digits)?).map_err(Fail::from)
+// Whether these bytes are those pieces, one after the other.
+fn is_joined(bytes: &[u8], pieces: &[&[u8]]) -> bool {
+    let mut rest = bytes;
+    for piece in pieces {
+        match rest.strip_prefix(*piece) {
+            Some(after) => rest = after,
+            None => return false,
+        }
+    }
+    rest.is_empty()
 }
 
-// What `serve` writes where its source gives these pieces, and its status.
-fn served(alloc: Global, pieces: &[&[u8]]) -> Result<(u8, ByteString), AllocError> {
-    let input = joined(alloc, pieces)?;
-    let mut source = QuietSource::new(Vec::from_slice(alloc, input.as_slice())?);
-    let mut sink = MemSink::new(alloc, Vec::new(alloc));
-    let status = serve(alloc, &Words::new(alloc), &mut source, &mut sink);
-    Ok((status, ByteString::from_slice(alloc, sink.bytes())?))
-}
-
-// Holds these pieces of input to these replies.
-pub(crate) fn answers(
-    rt: &impl Abort,
+// Whether a run ends with this status, and its sink then has these pieces.
+pub(crate) fn ends_with<S: Source>(
     alloc: Global,
-    input: &[&[u8]],
-    replies: &[&[u8]],
-) -> Result<(), Fail> {
-    let (status, text) = served(alloc, input)?;
-    let expected = joined(alloc, replies)?;
-    assert_eq!(rt; status, 0, "for {input:?}");
-    assert_eq!(rt; text.as_slice(), expected.as_slice(), "for {input:?}");
-    Ok(())
+    words: &Words,
+    source: &mut S,
+    sink: &mut MemSink,
+    status: u8,
+    written: &[&[u8]],
+) -> bool {
+    serve(alloc, words, source, sink) == status && is_joined(sink.bytes(), written)
+}
+
+// A sink of which the write with this number fails.
+pub(crate) fn failing_sink(alloc: Global, write: u64) -> Option<MemSink> {
+    Some(MemSink::new(alloc, [write].to_vec(alloc).ok()?))
+}
+
+// Whether this source without words gets these replies.
+pub(crate) fn gets<S: Source + Drop>(alloc: Global, mut source: S, replies: &[&[u8]]) -> bool {
+    let mut sink = MemSink::new(alloc, Vec::new(alloc));
+    ends_with(
+        alloc,
+        &Words::new(alloc),
+        &mut source,
+        &mut sink,
+        0,
+        replies,
+    )
+}
+
+// Whether these pieces of input get these replies.
+pub(crate) fn answers(alloc: Global, input: &[&[u8]], replies: &[&[u8]]) -> bool {
+    match joined(alloc, input) {
+        Ok(bytes) => gets(alloc, QuietSource::new(bytes), replies),
+        Err(_) => false,
+    }
+}
+
+// What `serve` writes for the line of these pieces.
+fn reply(alloc: Global, line: &[&[u8]]) -> Result<Vec<u8>, AllocError> {
+    let mut source = QuietSource::new(joined(alloc, line)?);
+    let mut sink = MemSink::new(alloc, Vec::new(alloc));
+    serve(alloc, &Words::new(alloc), &mut source, &mut sink);
+    sink.bytes().to_vec(alloc)
+}
+
+fn digits(reply: &[u8]) -> Option<&[u8]> {
+    reply.strip_prefix(b"sig ")?.strip_suffix(b"\n")
 }
 
 // The digits of the signature that the line of these pieces gives.
-pub(crate) fn signed(alloc: Global, line: &[&[u8]]) -> Result<ByteString, Fail> {
-    let (_, text) = served(alloc, line)?;
-    let rest = text.as_slice().strip_prefix(b"sig ").ok_or("no signature")?;
-    let digits = rest.strip_suffix(b"\n").ok_or("no line feed")?;
-    ByteString::from_slice(alloc, digits).map_err(Fail::from)
+pub(crate) fn signed(alloc: Global, line: &[&[u8]]) -> Option<Vec<u8>> {
+    let reply = reply(alloc, line).ok()?;
+    digits(&reply)?.to_vec(alloc).ok()
 }
 
-// Holds the digits of a signature to the SHA-256 of its bytes.
-pub(crate) fn hashes_to(
-    rt: &impl Abort,
-    alloc: Global,
-    digits: &[u8],
-    hash: &str,
-) -> Result<(), Fail> {
-    let bytes = hex::decode(alloc, digits)?;
-    assert!(rt; bytes.len() < 50_000);
-    let digest = hex::encode(alloc, Hash::hash(&bytes))?;
-    assert_eq!(rt; digest.as_str(), hash);
-    Ok(())
+// The bytes of twice as many digits.
+pub(crate) fn decoded<const N: usize>(digits: &[u8]) -> [u8; N] {
+    let mut bytes = [0; N];
+    match hex::decode_to_slice(digits, &mut bytes) {
+        Ok(()) => bytes,
+        Err(_) => [0; N],
+    }
+}
+
+// Whether bytes have the SHA-256 of these digits.
+pub(crate) fn has_hash(bytes: &[u8], digits: &[u8]) -> bool {
+    bytes.len() < 50_000 && Hash::hash(bytes) == decoded::<32>(digits)
+}
+
+// Whether the digits of a signature are those of bytes with this SHA-256.
+pub(crate) fn hashes_to(alloc: Global, digits: &[u8], hash: &[u8]) -> bool {
+    match hex::decode(alloc, digits) {
+        Ok(bytes) => has_hash(&bytes, hash),
+        Err(_) => false,
+    }
 }

@@ -18,6 +18,10 @@ mod lines;
 #[cfg(test)]
 mod page_of_lines;
 #[cfg(test)]
+mod runs;
+#[cfg(test)]
 mod sets;
+#[cfg(test)]
+mod signatures;
 #[cfg(test)]
 mod sizes;

@@ -1,7 +1,6 @@
 //! The example of the page of `slh_run`.
 use slh_run::{MemSink, MemSource, Words, serve};
 use std::alloc::{AllocError, Global};
-use std::test::Fail;
 
 fn replies(alloc: Global, lines: &[u8]) -> Result<(u8, Vec<u8>), AllocError> {
     let mut source = MemSource::new(lines.to_vec(alloc)?, Vec::new(alloc));
@@ -17,10 +16,14 @@ const LINE: &[u8] =
 const REPLY: &[u8] =
     b"key 0101010101010101010101010101010102020202020202020202020202020202030303030303030303030303030303034052e0733e69e78739d6e67c77f9a37d 030303030303030303030303030303034052e0733e69e78739d6e67c77f9a37d\n";
 
+fn is_answered(alloc: Global) -> bool {
+    match replies(alloc, LINE) {
+        Ok((status, written)) => status == 0 && written.as_slice() == REPLY,
+        Err(_) => false,
+    }
+}
+
 #[test]
-fn example_of_the_page_of_lines(rt: HostRuntime) -> Result<(), Fail> {
-    let (status, written) = replies(rt.alloc(), LINE)?;
-    assert_eq!(rt; status, 0);
-    assert_eq!(rt; written.as_slice(), REPLY);
-    Ok(())
+fn example_of_the_page_of_lines(rt: HostRuntime) {
+    assert!(rt; is_answered(rt.alloc()));
 }
