@@ -7,27 +7,20 @@
 //!
 //! Whether a verifying key of the toy suite, the bytes 0x03 and 0xe1, accepts a signature of the
 //! message 0x48 with an empty context (FIPS 205, algorithms 20 and 24). The test
-//! `example_of_the_page_of_trees` of `slh_tests` runs this, with `Brand` for the ledger and
-//! `Blank::new(1)` for the count of hash calls:
+//! `example_of_the_page_of_trees` of `slh_tests` runs this:
 //!
 //! ```
-//! ghost use Rattle.slh_core.specs.Steps.{IsFresh};
-//!
 //! use slh_trees::sizes::frame_head;
 //! use slh_trees::toy::Toy;
-//! use slh_trees::{NBytes, SigView, Steps, check_root};
-//! use std::sync::ledger::{Blank, Ledger};
+//! use slh_trees::uncounted::check_root;
+//! use slh_trees::{NBytes, SigView};
 //!
-//! fn accepts<L: Ledger>(signature: &[u8], blank: Blank) -> bool
-//!     requires fresh { IsFresh blank L.name L.parts }
-//! {
+//! fn accepts(signature: &[u8]) -> bool {
 //!     let Some(view) = SigView::<Toy>::new(signature) else {
 //!         return false;
 //!     };
-//!     let mut steps = Steps::<L>::new(blank);
 //!     let (seed, root) = (NBytes::exact(&[3]), NBytes::exact(&[0xe1]));
-//!     let head = frame_head(&[]);
-//!     let found = check_root::<Toy, L>(&seed, &root, &head, &[], &[0x48], &view, &mut steps);
+//!     let found = check_root::<Toy>(&seed, &root, &frame_head(&[]), &[], &[0x48], &view);
 //!     found == root
 //! }
 //! ```
