@@ -1,8 +1,9 @@
 //! Trees and paths that another program computed, and many receipts that are accepted.
-use crate::receipts::{key, sealed};
+use crate::receipts::{public, receipt};
+use crate::toys;
 use hmac_sha256::Hash;
-use slh_batch::{accept, clash};
-use slh_dsa::{Sha2_128f, Signature, SigningKey};
+use slh_batch::Sealed;
+use slh_dsa::{Sha2_128f, Signature};
 use slh_trees::toy::Toy;
 use std::alloc::Global;
 
@@ -52,21 +53,23 @@ const TOY_SIGNATURE_LEN: usize = 21;
 
 const SIGNATURE_LEN: usize = 17088;
 
-fn toy_key() -> Option<SigningKey<Toy>> {
-    SigningKey::slh_keygen_internal(&[5], &[7], &[3]).ok()
+// Takes in a receipt without its signature. `false`: the receipt is too short or too long.
+fn takes_front(hash: &mut Hash, receipt: &[u8]) -> bool {
+    if receipt.len() < TOY_SIGNATURE_LEN || receipt.len() > 1000 || hash.absorbed() > 100_000 {
+        return false;
+    }
+    hash.update(&receipt[..receipt.len() - TOY_SIGNATURE_LEN]);
+    true
 }
 
 // The SHA-256 of all receipts without their signatures.
-fn front_digest(alloc: Global, n: u16) -> Option<[u8; 32]> {
-    let batch = sealed(alloc, &toy_key()?, n).ok()?;
+fn digest_of_fronts(alloc: Global, batch: &Sealed<Toy>, n: u16) -> Option<[u8; 32]> {
     let mut hash = Hash::new();
     for i in 0..n {
-        let receipt = batch.receipt(alloc, u32::from(i)).ok()?;
-        let front_len = receipt.len().checked_sub(TOY_SIGNATURE_LEN)?;
-        if front_len > 1000 || hash.absorbed() > 100_000 {
-            return None;
+        match toys::receipt(alloc, batch, u32::from(i)) {
+            Ok(receipt) if takes_front(&mut hash, &receipt) => (),
+            _ => return None,
         }
-        hash.update(&receipt[..front_len]);
     }
     Some(hash.finalize())
 }
@@ -76,66 +79,23 @@ fn is_digest(digest: &[u8; 32], expected: &str) -> bool {
     hex::decode_to_slice(expected, &mut bytes).is_ok() && bytes == *digest
 }
 
-fn has_front(alloc: Global, n: u16, expected: &str) -> bool {
-    match front_digest(alloc, n) {
+fn has_fronts(alloc: Global, batch: &Sealed<Toy>, n: u16, expected: &str) -> bool {
+    match digest_of_fronts(alloc, batch, n) {
         Some(digest) => is_digest(&digest, expected),
         None => false,
     }
 }
 
-#[test]
-fn paths_are_those_of_another_program(rt: HostRuntime) {
-    for (i, row) in ROWS.iter().enumerate() {
-        assert!(rt; has_front(rt.alloc(), i as u16 + 1, row.1));
+fn makes_fronts(alloc: Global, n: u16, expected: &str) -> bool {
+    match toys::sealed(alloc, n, None) {
+        Ok(batch) => has_fronts(alloc, &batch, n, expected),
+        Err(_) => false,
     }
 }
 
-// What is signed for a root of n messages.
-fn signed_bytes(n: u16, root: &str) -> Option<[u8; 36]> {
-    let mut message = [0u8; 36];
-    message[2..4].copy_from_slice(&n.to_be_bytes());
-    hex::decode_to_slice(root, &mut message[4..]).ok()?;
-    Some(message)
-}
-
-// The signature of a batch of n messages.
-fn signature(alloc: Global, n: u16) -> Option<Signature<Sha2_128f>> {
-    let receipt = sealed(alloc, &key()?, n).ok()?.receipt(alloc, 0).ok()?;
-    let front_len = receipt.len().checked_sub(SIGNATURE_LEN)?;
-    Signature::try_from(alloc, &receipt[front_len..]).ok()
-}
-
-fn signs_root(alloc: Global, n: u16, root: &str) -> Option<bool> {
-    let message = signed_bytes(n, root)?;
-    let signature = signature(alloc, n)?;
-    let public = key()?.verifying_key();
-    Some(public.try_verify_with_context(&message, b"slh-batch", &signature) == Ok(()))
-}
-
-#[test]
-fn roots_are_those_of_another_program(rt: HostRuntime) {
+fn makes_each_front(alloc: Global) -> bool {
     for (i, row) in ROWS.iter().enumerate() {
-        assert!(rt; signs_root(rt.alloc(), i as u16 + 1, row.0) == Some(true));
-    }
-}
-
-// Whether each receipt of a batch of the toy suite is accepted, and has no clash with itself.
-fn all_accepted(alloc: Global, n: u16) -> bool {
-    let Some(key) = toy_key() else {
-        return false;
-    };
-    let public = key.verifying_key();
-    let Ok(batch) = sealed(alloc, &key, n) else {
-        return false;
-    };
-    for i in 0..n {
-        let message = i.to_be_bytes();
-        let Ok(receipt) = batch.receipt(alloc, u32::from(i)) else {
-            return false;
-        };
-        if accept(&public, &message, &receipt) != Ok(())
-            || clash::<Toy>(&message, &receipt, &message, &receipt).is_some()
-        {
+        if !makes_fronts(alloc, i as u16 + 1, row.1) {
             return false;
         }
     }
@@ -143,8 +103,79 @@ fn all_accepted(alloc: Global, n: u16) -> bool {
 }
 
 #[test]
-fn each_message_of_a_batch_is_accepted(rt: HostRuntime) {
-    for n in [4096, 1000] {
-        assert!(rt; all_accepted(rt.alloc(), n));
+fn paths_are_those_of_another_program(rt: HostRuntime) {
+    assert!(rt; makes_each_front(rt.alloc()));
+}
+
+// What is signed for a root of n messages.
+fn signed_bytes(n: u16, root: &str) -> Option<[u8; 36]> {
+    let mut message = [0u8; 36];
+    message[2..4].copy_from_slice(&n.to_be_bytes());
+    match hex::decode_to_slice(root, &mut message[4..]) {
+        Ok(()) => Some(message),
+        Err(_) => None,
     }
+}
+
+fn is_signature(alloc: Global, message: &[u8; 36], signature: &[u8]) -> bool {
+    match Signature::<Sha2_128f>::try_from(alloc, signature) {
+        Ok(signature) => {
+            public().try_verify_with_context(message, b"slh-batch", &signature) == Ok(())
+        }
+        Err(_) => false,
+    }
+}
+
+fn ends_in_signature(alloc: Global, receipt: &[u8], message: &[u8; 36]) -> bool {
+    receipt.len() >= SIGNATURE_LEN
+        && is_signature(alloc, message, &receipt[receipt.len() - SIGNATURE_LEN..])
+}
+
+fn signs_root(alloc: Global, n: u16, root: &str) -> bool {
+    match (receipt(alloc, n, 0), signed_bytes(n, root)) {
+        (Ok(receipt), Some(message)) => ends_in_signature(alloc, &receipt, &message),
+        _ => false,
+    }
+}
+
+fn signs_each_root(alloc: Global) -> bool {
+    for (i, row) in ROWS.iter().enumerate() {
+        if !signs_root(alloc, i as u16 + 1, row.0) {
+            return false;
+        }
+    }
+    true
+}
+
+#[test]
+fn roots_are_those_of_another_program(rt: HostRuntime) {
+    assert!(rt; signs_each_root(rt.alloc()));
+}
+
+// Whether a receipt is accepted, and has no clash with itself.
+fn is_accepted(message: &[u8], receipt: &[u8]) -> bool {
+    toys::answer(message, receipt) == Ok(())
+        && !toys::have_clash(message, receipt, message, receipt)
+}
+
+fn are_accepted(alloc: Global, batch: &Sealed<Toy>, n: u16) -> bool {
+    for i in 0..n {
+        match toys::receipt(alloc, batch, u32::from(i)) {
+            Ok(receipt) if is_accepted(&i.to_be_bytes(), &receipt) => (),
+            _ => return false,
+        }
+    }
+    true
+}
+
+fn all_accepted(alloc: Global, n: u16) -> bool {
+    match toys::sealed(alloc, n, None) {
+        Ok(batch) => are_accepted(alloc, &batch, n),
+        Err(_) => false,
+    }
+}
+
+#[test]
+fn each_message_of_a_batch_is_accepted(rt: HostRuntime) {
+    assert!(rt; all_accepted(rt.alloc(), 4096) && all_accepted(rt.alloc(), 1000));
 }

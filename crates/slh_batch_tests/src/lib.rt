@@ -9,3 +9,5 @@ mod page_of_batches;
 mod receipts;
 #[cfg(test)]
 mod refusals;
+#[cfg(test)]
+mod toys;

@@ -1,62 +1,95 @@
 //! Receipts of SLH-DSA-SHA2-128f.
-use slh_batch::{Batch, BatchError, ReceiptError, Sealed, accept};
-use slh_dsa::{ParameterSet, Sha2_128f, SigningKey};
+use crate::page_of_batches::accepted;
+use slh_batch::{Batch, BatchError, ReceiptError};
+use slh_dsa::{Sha2_128f, SigningKey, VerifyingKey};
 use std::alloc::Global;
 
-pub(crate) fn key() -> Option<SigningKey<Sha2_128f>> {
-    SigningKey::slh_keygen_internal(&[1; 16], &[2; 16], &[3; 16]).ok()
+pub(crate) fn key() -> SigningKey<Sha2_128f> {
+    SigningKey::slh_keygen_internal(&[1; 16], &[2; 16], &[3; 16]).unwrap()
 }
 
-// A batch of n messages, the numbers 0, 1 and so on in two bytes each.
-pub(crate) fn sealed<P: ParameterSet>(
-    alloc: Global,
-    key: &SigningKey<P>,
-    n: u16,
-) -> Result<Sealed<P>, BatchError> {
+/// A batch of n messages, the numbers 0, 1 and so on in two bytes each.
+pub(crate) fn numbers(alloc: Global, n: u16) -> Result<Batch, BatchError> {
     let mut batch = Batch::new(alloc);
     for k in 0..n {
         batch.push(&k.to_be_bytes())?;
     }
-    batch.seal(alloc, key, None)
+    Ok(batch)
 }
 
-// The length of receipt i of three, and what it says to the messages 0, 1 and 2.
-fn receipt_of_three(alloc: Global, i: u32) -> Option<(usize, [Result<(), ReceiptError>; 3])> {
-    let key = key()?;
-    let receipt = sealed(alloc, &key, 3).ok()?.receipt(alloc, i).ok()?;
-    let public = key.verifying_key();
-    let answers = [
-        accept(&public, &[0, 0], &receipt),
-        accept(&public, &[0, 1], &receipt),
-        accept(&public, &[0, 2], &receipt),
-    ];
-    Some((receipt.len(), answers))
+/// Receipt i of n messages.
+pub(crate) fn receipt(alloc: Global, n: u16, i: u32) -> Result<Vec<u8>, BatchError> {
+    numbers(alloc, n)?
+        .seal(alloc, &key(), None)?
+        .receipt(alloc, i)
+}
+
+pub(crate) fn public() -> VerifyingKey<Sha2_128f> {
+    key().verifying_key()
+}
+
+fn answer(message: &[u8], receipt: &[u8]) -> Result<(), ReceiptError> {
+    accepted(&public(), message, receipt)
+}
+
+// Whether a receipt is accepted for message i alone, of the messages 0, 1 and 2.
+fn is_of(receipt: &[u8], i: u32) -> bool {
+    for k in 0..3u8 {
+        let expected = if u32::from(k) == i {
+            Ok(())
+        } else {
+            Err(ReceiptError::Invalid)
+        };
+        if answer(&[0, k], receipt) != expected {
+            return false;
+        }
+    }
+    true
+}
+
+// Whether receipt i of three has this size, and holds for its message alone.
+fn holds(alloc: Global, i: u32, len: usize) -> bool {
+    match receipt(alloc, 3, i) {
+        Ok(receipt) => receipt.len() == len && is_of(&receipt, i),
+        Err(_) => false,
+    }
 }
 
 #[test]
 fn three_receipts_have_their_sizes_and_hold_for_their_messages(rt: HostRuntime) {
     let alloc = rt.alloc();
-    let other = Err(ReceiptError::Invalid);
-    assert!(rt; receipt_of_three(alloc, 0) == Some((17160, [Ok(()), other, other])));
-    assert!(rt; receipt_of_three(alloc, 1) == Some((17160, [other, Ok(()), other])));
-    assert!(rt; receipt_of_three(alloc, 2) == Some((17128, [other, other, Ok(())])));
+    assert!(rt; holds(alloc, 0, 17160) && holds(alloc, 1, 17160) && holds(alloc, 2, 17128));
 }
 
-// What receipt 1 of three says to its message, with one bit of it changed.
-fn bent(alloc: Global, place: usize) -> Option<Result<(), ReceiptError>> {
-    let key = key()?;
-    let mut receipt = sealed(alloc, &key, 3).ok()?.receipt(alloc, 1).ok()?;
+// Whether a receipt is invalid while one bit of it is changed.
+fn is_invalid_at(receipt: &mut [u8], place: usize) -> bool {
     if place >= receipt.len() {
-        return None;
+        return false;
     }
     receipt[place] ^= 1;
-    Some(accept(&key.verifying_key(), &[0, 1], &receipt))
+    let changed = answer(&[0, 1], receipt);
+    receipt[place] ^= 1;
+    changed == Err(ReceiptError::Invalid)
 }
 
 // The index, both digests of the path, and the signature's first and last byte.
+fn is_invalid_at_each_place(receipt: &mut [u8]) -> bool {
+    for place in [3, 8, 39, 40, 71, 72, 17159] {
+        if !is_invalid_at(receipt, place) {
+            return false;
+        }
+    }
+    answer(&[0, 1], receipt) == Ok(())
+}
+
+fn is_invalid_where_changed(alloc: Global) -> bool {
+    match receipt(alloc, 3, 1) {
+        Ok(mut receipt) => is_invalid_at_each_place(&mut receipt),
+        Err(_) => false,
+    }
+}
+
 #[test]
 fn a_changed_bit_is_invalid(rt: HostRuntime) {
-    for place in [3, 8, 39, 40, 71, 72, 17159] {
-        assert!(rt; bent(rt.alloc(), place) == Some(Err(ReceiptError::Invalid)));
-    }
+    assert!(rt; is_invalid_where_changed(rt.alloc()));
 }

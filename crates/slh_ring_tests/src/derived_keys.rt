@@ -3,6 +3,8 @@
 //! before + info + bytes([i]))`, and info is `b"key"`, the name's length in a byte, the name, how
 //! many numbers the path has in a byte, and each of them by `to_bytes(4, "big")`. The Rust crate
 //! `slh-dsa` 0.1.0 made the key of the first 3n bytes.
+ghost use Rattle.std.specs.Prelude.{◌≤◌, ◌^◌, length};
+
 use slh_dsa::{ParameterSet, Sha2_128f, Sha2_192f, Sha2_256f, SigningKey};
 use slh_ring::{Path, derive};
 
@@ -31,42 +33,62 @@ const KEY_256F: &str =
      dd6a1952e004dbaf53e55663d4799e08fd4624087eff658615e40e675e59d015fdd5a095f1504e0e\
      0bd22cdd045958d9";
 
-// 0, 1 and so on, up to 31.
-fn master() -> [u8; 32] {
-    let mut master = [0u8; 32];
-    for i in 0..32usize {
-        master[i] = i as u8;
-    }
-    master
-}
+const MASTER: [u8; 32] = [
+    0, 1, 2, 3, 4, 5, 6, 7, 8, 9, 10, 11, 12, 13, 14, 15, 16, 17, 18, 19, 20, 21, 22, 23, 24, 25,
+    26, 27, 28, 29, 30, 31,
+];
 
-fn key_of<P: ParameterSet>(digits: &str) -> Option<SigningKey<P>> {
-    let mut bytes = [0u8; 128];
+// The bytes of these digits.
+fn decoded<'a>(digits: &str, store: &'a mut [u8; 128]) -> Option<&'a [u8]> {
     let len = digits.len() / 2;
-    if len > bytes.len() {
+    if len > 128 {
         return None;
     }
-    hex::decode_to_slice(digits, &mut bytes[..len]).ok()?;
-    SigningKey::try_from(&bytes[..len]).ok()
+    let bytes = &mut store[..len];
+    match hex::decode_to_slice(digits, bytes) {
+        Ok(()) => Some(bytes),
+        Err(_) => None,
+    }
+}
+
+/// Whether a key is the one at a path.
+pub(crate) fn is_derived<P: ParameterSet>(key: &SigningKey<P>, master: &[u8], path: &Path) -> bool
+    requires { length master.now ≤ 2 ^ 60 }
+{
+    *key == derive::<P>(master, path)
+}
+
+fn is_derived_of<P: ParameterSet>(bytes: &[u8], path: &Path) -> bool {
+    match SigningKey::<P>::try_from(bytes) {
+        Ok(key) => is_derived(&key, &MASTER, path),
+        Err(_) => false,
+    }
 }
 
 // Whether the key at a path is the one of these digits.
 fn is_key<P: ParameterSet>(numbers: &[u32], digits: &str) -> bool {
-    match (Path::from_slice(numbers), key_of::<P>(digits)) {
-        (Some(path), Some(key)) => derive::<P>(&master(), &path) == key,
+    match (Path::from_slice(numbers), decoded(digits, &mut [0; 128])) {
+        (Some(path), Some(bytes)) => is_derived_of::<P>(bytes, &path),
         _ => false,
     }
 }
 
+fn is_key_128f(numbers: &[u32], digits: &str) -> bool {
+    is_key::<Sha2_128f>(numbers, digits)
+}
+
+fn are_keys_of_each_size() -> bool {
+    is_key_128f(&[1, 2026, 7], KEY_128F)
+        && is_key::<Sha2_192f>(&[1, 2026, 7], KEY_192F)
+        && is_key::<Sha2_256f>(&[1, 2026, 7], KEY_256F)
+}
+
 #[test]
 fn keys_are_those_of_other_programs(rt: HostRuntime) {
-    assert!(rt; is_key::<Sha2_128f>(&[1, 2026, 7], KEY_128F));
-    assert!(rt; is_key::<Sha2_192f>(&[1, 2026, 7], KEY_192F));
-    assert!(rt; is_key::<Sha2_256f>(&[1, 2026, 7], KEY_256F));
+    assert!(rt; are_keys_of_each_size());
 }
 
 #[test]
 fn the_shortest_and_the_longest_path_have_keys(rt: HostRuntime) {
-    assert!(rt; is_key::<Sha2_128f>(&[], FIRST));
-    assert!(rt; is_key::<Sha2_128f>(&[u32::MAX; 8], LAST));
+    assert!(rt; is_key_128f(&[], FIRST) && is_key_128f(&[u32::MAX; 8], LAST));
 }

@@ -15,3 +15,5 @@ mod paths;
 mod records;
 #[cfg(test)]
 mod rings;
+#[cfg(test)]
+mod toys;

@@ -1,99 +1,101 @@
 //! Rings: which paths are refused, and in which order paths stand.
-use crate::paths::path;
+use crate::toys::{add, are_equal, copied, empty, len, numbers_at, stands, takes_first};
 use slh_ring::{Ring, RingError};
 use slh_trees::toy::Toy;
 use std::alloc::Global;
 
-/// The ring of these paths of one number each, and what the last call of `add` answered.
-pub(crate) fn ring_of(
+// Whether a ring of so many paths answers this to one more, and has so many then.
+fn answers(
     alloc: Global,
-    numbers: &[u32],
-) -> Option<(Ring<Toy>, Result<(), RingError>)> {
-    let mut ring = Ring::new(alloc);
-    let mut last = Ok(());
-    for number in numbers {
-        last = ring.add(path(&[*number])?);
-    }
-    Some((ring, last))
-}
-
-/// The ring of so many paths of one number each: 0, 1 and so on.
-pub(crate) fn first_paths(alloc: Global, count: u32) -> Option<Ring<Toy>> {
-    let mut ring = Ring::new(alloc);
-    for number in 0..count {
-        ring.add(path(&[number])?).ok()?;
-    }
-    Some(ring)
-}
-
-// What a second path 1 answers, and how many paths there are then.
-fn second_time(alloc: Global) -> Option<(Result<(), RingError>, usize)> {
-    let (ring, last) = ring_of(alloc, &[1, 1])?;
-    Some((last, ring.len()))
+    count: u32,
+    number: u32,
+    answer: Result<(), RingError>,
+    then: usize,
+) -> bool {
+    let mut ring = empty(alloc);
+    takes_first(&mut ring, count) && add(&mut ring, &[number]) == answer && len(&ring) == then
 }
 
 #[test]
 fn a_path_that_is_there_is_refused(rt: HostRuntime) {
-    assert!(rt; second_time(rt.alloc()) == Some((Err(RingError::Present), 1)));
+    assert!(rt; answers(rt.alloc(), 2, 1, Err(RingError::Present), 2));
 }
 
-// What a ring of so many paths answers to one more, and how many it has then.
-fn one_more(alloc: Global, count: u32, number: u32) -> Option<(Result<(), RingError>, usize)> {
-    let mut ring = first_paths(alloc, count)?;
-    let answer = ring.add(path(&[number])?);
-    Some((answer, ring.len()))
+fn is_full_at_64(alloc: Global) -> bool {
+    answers(alloc, 63, 63, Ok(()), 64)
+        && answers(alloc, 64, 64, Err(RingError::Full), 64)
+        && answers(alloc, 64, 0, Err(RingError::Present), 64)
+        && answers(alloc, 64, 63, Err(RingError::Present), 64)
 }
 
 #[test]
 fn a_sixty_fifth_path_is_refused_unless_it_is_there(rt: HostRuntime) {
-    let alloc = rt.alloc();
-    assert!(rt; one_more(alloc, 63, 63) == Some((Ok(()), 64)));
-    assert!(rt; one_more(alloc, 64, 64) == Some((Err(RingError::Full), 64)));
-    assert!(rt; one_more(alloc, 64, 0) == Some((Err(RingError::Present), 64)));
-    assert!(rt; one_more(alloc, 64, 63) == Some((Err(RingError::Present), 64)));
+    assert!(rt; is_full_at_64(rt.alloc()));
 }
 
-// Whether the path at an index has these numbers.
-fn stands(ring: &Ring<Toy>, i: usize, numbers: &[u32]) -> bool {
-    match ring.get(i) {
-        Some(path) => path.as_slice() == numbers,
-        None => false,
+const ADDED: [&[u32]; 6] = [
+    &[2],
+    &[1, 5],
+    &[],
+    &[1],
+    &[u32::MAX, 0],
+    &[1, 0, 0, 0, 0, 0, 0, 0],
+];
+
+const IN_ORDER: [&[u32]; 6] = [
+    &[],
+    &[1],
+    &[1, 0, 0, 0, 0, 0, 0, 0],
+    &[1, 5],
+    &[2],
+    &[u32::MAX, 0],
+];
+
+fn takes_each(ring: &mut Ring<Toy>, paths: &[&[u32]]) -> bool {
+    for numbers in paths {
+        if numbers.len() > 8 || add(ring, numbers) != Ok(()) {
+            return false;
+        }
     }
+    true
 }
 
-fn are_in_order(alloc: Global) -> Option<bool> {
-    let mut ring = Ring::new(alloc);
-    for numbers in [
-        [2].as_slice(),
-        &[1, 5],
-        &[],
-        &[1],
-        &[u32::MAX, 0],
-        &[1, 0, 0, 0, 0, 0, 0, 0],
-    ] {
-        ring.add(path(numbers)?).ok()?;
+fn stand_in_order(ring: &Ring<Toy>, paths: &[&[u32]]) -> bool {
+    for (i, numbers) in paths.iter().enumerate() {
+        if !stands(ring, i, numbers) {
+            return false;
+        }
     }
-    let front = stands(&ring, 0, &[]) && stands(&ring, 1, &[1]);
-    let middle = stands(&ring, 2, &[1, 0, 0, 0, 0, 0, 0, 0]) && stands(&ring, 3, &[1, 5]);
-    let end = stands(&ring, 4, &[2]) && stands(&ring, 5, &[u32::MAX, 0]);
-    Some(front && middle && end && ring.get(6).is_none() && ring.len() == 6)
+    numbers_at(ring, paths.len()).is_none() && len(ring) == paths.len()
+}
+
+fn are_put_in_order(alloc: Global) -> bool {
+    let mut ring = empty(alloc);
+    takes_each(&mut ring, &ADDED) && stand_in_order(&ring, &IN_ORDER)
 }
 
 #[test]
 fn paths_stand_in_order(rt: HostRuntime) {
-    assert!(rt; are_in_order(rt.alloc()) == Some(true));
+    assert!(rt; are_put_in_order(rt.alloc()));
 }
 
-// Whether a copy is equal, and is left alone by what is added to its original.
-fn copies_are_apart(alloc: Global) -> Option<bool> {
-    let mut ring = first_paths(alloc, 3)?;
-    let copy = ring.clone().ok()?;
-    let equal = copy == ring;
-    ring.add(path(&[3])?).ok()?;
-    Some(equal && copy != ring && copy.len() == 3)
+// Whether a copy of three paths is equal, and is left alone by what is added to its original.
+fn goes_on_alone(ring: &mut Ring<Toy>, copy: &Ring<Toy>) -> bool {
+    are_equal(copy, ring) && add(ring, &[3]) == Ok(()) && !are_equal(copy, ring) && len(copy) == 3
+}
+
+fn copies_are_apart(alloc: Global) -> bool {
+    let mut ring = empty(alloc);
+    if !takes_first(&mut ring, 3) {
+        return false;
+    }
+    match copied(&ring) {
+        Some(copy) => goes_on_alone(&mut ring, &copy),
+        None => false,
+    }
 }
 
 #[test]
 fn a_copy_of_a_ring_is_equal_and_goes_on_alone(rt: HostRuntime) {
-    assert!(rt; copies_are_apart(rt.alloc()) == Some(true));
+    assert!(rt; copies_are_apart(rt.alloc()));
 }
