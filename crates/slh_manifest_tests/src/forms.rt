@@ -1,15 +1,19 @@
 //! Bytes that are no manifest, over a store whose reads fail: each is refused before one.
-use crate::manifests::{key, sealed, store, toy_check, toy_key};
+use crate::manifests::{Row, key, sealed, store, toy_answers, toy_manifest};
+use slh_dsa::{Sha2_128f, VerifyingKey};
 use slh_manifest::{CheckError, MemStore, check};
 use std::alloc::Global;
 
 // Two entries of names with one byte, and a signature.
 const LEN: usize = 4 + 2 * 42 + 21;
 
+const NAMES: [&[u8]; 2] = [b"a", b"b"];
+
+const ROWS: [Row<'static>; 2] = [(b"a", b"1"), (b"b", b"2")];
+
 // The manifest of `a` and `b`.
 fn manifest(alloc: Global) -> Option<[u8; LEN]> {
-    let mut files = store(alloc, &[(b"a", b"1"), (b"b", b"2")], &[]).ok()?;
-    let manifest = sealed(alloc, &toy_key()?, &[b"a", b"b"], &mut files).ok()?;
+    let manifest = toy_manifest(alloc, &NAMES, &ROWS)?;
     let mut bytes = [0u8; LEN];
     if manifest.len() != LEN {
         return None;
@@ -20,63 +24,103 @@ fn manifest(alloc: Global) -> Option<[u8; LEN]> {
 
 // A store of which the first reads fail.
 fn failing(alloc: Global) -> Option<MemStore> {
-    let mut fails = Vec::new(alloc);
-    for read in 0..8 {
-        fails.push(read).ok()?;
-    }
+    let fails = [0, 1, 2, 3, 4, 5, 6, 7].to_vec(alloc).ok()?;
     Some(MemStore::new(alloc, fails))
 }
 
-// What is said of these bytes.
-fn answer(alloc: Global, bytes: &[u8]) -> Option<Result<(), CheckError>> {
-    toy_check(bytes, &mut failing(alloc)?)
+// Whether this is said of these bytes.
+fn is_refused(alloc: Global, bytes: &[u8], error: CheckError) -> bool {
+    match failing(alloc) {
+        Some(mut files) => toy_answers(bytes, &mut files, Err(error)),
+        None => false,
+    }
 }
-
-const FORM: Option<Result<(), CheckError>> = Some(Err(CheckError::Form));
 
 #[test]
 fn a_manifest_is_read_against_the_store(rt: HostRuntime) {
     let own = manifest(rt.alloc()).unwrap_or([0; LEN]);
-    assert!(rt; answer(rt.alloc(), &own) == Some(Err(CheckError::Fault)));
+    assert!(rt; is_refused(rt.alloc(), &own, CheckError::Fault));
+}
+
+fn has_no_form(alloc: Global, bytes: &[u8]) -> bool {
+    is_refused(alloc, bytes, CheckError::Form)
+}
+
+fn has_form_of_its_length(alloc: Global, own: &[u8; LEN]) -> bool {
+    for len in 0..LEN {
+        if !has_no_form(alloc, &own[..len]) {
+            return false;
+        }
+    }
+    let mut long = [0u8; LEN + 1];
+    long[..LEN].copy_from_slice(own);
+    has_no_form(alloc, &long)
+}
+
+fn have_no_form_at_other_lengths(alloc: Global) -> bool {
+    match manifest(alloc) {
+        Some(own) => has_form_of_its_length(alloc, &own),
+        None => false,
+    }
 }
 
 #[test]
 fn manifests_of_other_lengths_have_no_form(rt: HostRuntime) {
-    let own = manifest(rt.alloc()).unwrap_or([0; LEN]);
-    for len in 0..LEN {
-        assert!(rt; answer(rt.alloc(), &own[..len]) == FORM);
-    }
-    let mut long = [0u8; LEN + 1];
-    long[..LEN].copy_from_slice(&own);
-    assert!(rt; answer(rt.alloc(), &long) == FORM);
+    assert!(rt; have_no_form_at_other_lengths(rt.alloc()));
 }
 
-// What is said of the manifest with these bytes in place of those from there on.
-fn bent(alloc: Global, place: usize, part: &[u8]) -> Option<Result<(), CheckError>> {
-    let mut bytes = manifest(alloc)?;
+// Puts these bytes in place of those from there on, if there are as many.
+fn bend(bytes: &mut [u8], place: usize, part: &[u8]) -> Option<()> {
     let end = place.checked_add(part.len())?;
     bytes.get_mut(place..end)?.copy_from_slice(part);
-    answer(alloc, &bytes)
+    Some(())
 }
 
 // The number of entries stands at 0, then in each entry the number of the name's bytes, the name,
 // how many bytes stand under it, and their digest.
+const NO_FORM: [(usize, &[u8]); 21] = [
+    // 0, 1, 3, 4096, 4097 and 2^32 - 1 entries
+    (0, b"\0\0\0\0"),
+    (0, b"\0\0\0\x01"),
+    (0, b"\0\0\0\x03"),
+    (0, b"\0\0\x10\0"),
+    (0, b"\0\0\x10\x01"),
+    (0, b"\xff\xff\xff\xff"),
+    // names of 0, 2 and 255 bytes
+    (4, b"\0"),
+    (46, b"\0"),
+    (4, b"\x02"),
+    (46, b"\x02"),
+    (4, b"\xff"),
+    (46, b"\xff"),
+    // first names that the second doesn't follow
+    (5, b"b"),
+    (5, b"c"),
+    (5, b"\xff"),
+    // 2^32 + 1, 2^33 and 2^64 - 1 bytes
+    (6, b"\0\0\0\x01\0\0\0\x01"),
+    (48, b"\0\0\0\x01\0\0\0\x01"),
+    (6, b"\0\0\0\x02\0\0\0\0"),
+    (48, b"\0\0\0\x02\0\0\0\0"),
+    (6, b"\xff\xff\xff\xff\xff\xff\xff\xff"),
+    (48, b"\xff\xff\xff\xff\xff\xff\xff\xff"),
+];
+
+// Whether the manifest has no form with these bytes in place of those from there on.
+fn is_out_of_form(alloc: Global, place: usize, part: &[u8]) -> bool {
+    match manifest(alloc) {
+        Some(mut bytes) => bend(&mut bytes, place, part).is_some() && has_no_form(alloc, &bytes),
+        None => false,
+    }
+}
+
 #[test]
 fn numbers_names_and_lengths_out_of_range_have_no_form(rt: HostRuntime) {
-    let alloc = rt.alloc();
-    for count in [0, 1, 3, 4096, 4097, u32::MAX] {
-        assert!(rt; bent(alloc, 0, &count.to_be_bytes()) == FORM);
-    }
-    for size in [0, 2, 255] {
-        assert!(rt; bent(alloc, 4, &[size]) == FORM);
-        assert!(rt; bent(alloc, 46, &[size]) == FORM);
-    }
-    for name in [b'b', b'c', b'\xff'] {
-        assert!(rt; bent(alloc, 5, &[name]) == FORM);
-    }
-    for len in [(1 << 32) + 1, 1 << 33, u64::MAX] {
-        assert!(rt; bent(alloc, 6, &len.to_be_bytes()) == FORM);
-        assert!(rt; bent(alloc, 48, &len.to_be_bytes()) == FORM);
+    for (place, part) in &NO_FORM {
+        assert!(rt;
+            is_out_of_form(rt.alloc(), *place, part),
+            "{part:?} at {place}"
+        );
     }
 }
 
@@ -95,28 +139,37 @@ const OTHERS: [(usize, &[u8]); 10] = [
     (87 + 17088, b"\x5a"),
 ];
 
-// Whether each of them is answered so. The set is SLH-DSA-SHA2-128f, since signatures of the toy
-// suite hold for other bytes too.
-fn others_are(alloc: Global, answer: Result<(), CheckError>) -> Option<bool> {
-    let key = key()?;
-    let mut files = store(alloc, &[(b"a", b"1"), (b"b", b"2")], &[]).ok()?;
-    let manifest = sealed(alloc, &key, &[b"a", b"b"], &mut files).ok()?;
-    let public = key.verifying_key();
-    for (place, part) in OTHERS {
-        let mut bytes = manifest.to_vec(alloc).ok()?;
-        let end = place.checked_add(part.len())?;
-        bytes
-            .as_mut_slice()
-            .get_mut(place..end)?
-            .copy_from_slice(part);
-        if check(&public, &bytes, &mut failing(alloc)?) != answer {
+// Whether a manifest is invalid with these bytes in place of those from there on.
+fn is_invalid(
+    alloc: Global,
+    public: &VerifyingKey<Sha2_128f>,
+    mut manifest: Vec<u8>,
+    place: usize,
+    part: &[u8],
+) -> Option<bool> {
+    bend(manifest.as_mut_slice(), place, part)?;
+    let mut files = failing(alloc)?;
+    Some(check(public, &manifest, &mut files) == Err(CheckError::Invalid))
+}
+
+fn are_invalid(alloc: Global, public: &VerifyingKey<Sha2_128f>, manifest: &[u8]) -> Option<bool> {
+    for (place, part) in &OTHERS {
+        if !is_invalid(alloc, public, manifest.to_vec(alloc).ok()?, *place, part)? {
             return Some(false);
         }
     }
     Some(true)
 }
 
+// The set is SLH-DSA-SHA2-128f, since signatures of the toy suite hold for other bytes too.
+fn others_are_invalid(alloc: Global) -> Option<bool> {
+    let key = key()?;
+    let mut files = store(alloc, &ROWS, &[]).ok()?;
+    let manifest = sealed(alloc, &key, &NAMES, &mut files).ok()?;
+    are_invalid(alloc, &key.verifying_key(), &manifest)
+}
+
 #[test]
 fn other_names_lengths_and_digests_have_another_signature(rt: HostRuntime) {
-    assert!(rt; others_are(rt.alloc(), Err(CheckError::Invalid)) == Some(true));
+    assert!(rt; others_are_invalid(rt.alloc()) == Some(true));
 }

@@ -1,5 +1,5 @@
 //! Known bytes of a manifest, and what is answered over other stores.
-use slh_dsa::{ParameterSet, Sha2_128f, SigningKey};
+use slh_dsa::{ParameterSet, Sha2_128f, SigningKey, VerifyingKey};
 use slh_manifest::{BuildError, Builder, CheckError, MemStore, Store, check};
 use slh_trees::toy::Toy;
 use std::alloc::{AllocError, Global};
@@ -34,12 +34,30 @@ pub(crate) fn toy_key() -> Option<SigningKey<Toy>> {
     SigningKey::slh_keygen_internal(&[5], &[7], &[3]).ok()
 }
 
-/// What the toy key says of a manifest.
-pub(crate) fn toy_check<T: Store>(
+/// The manifest of these names of a store by the toy key.
+pub(crate) fn toy_sealed<T: Store>(
+    alloc: Global,
+    names: &[&[u8]],
+    store: &mut T,
+) -> Option<Vec<u8>> {
+    sealed(alloc, &toy_key()?, names, store).ok()
+}
+
+/// The manifest of these names by the toy key, over a store with these bytes.
+pub(crate) fn toy_manifest(alloc: Global, names: &[&[u8]], rows: &[Row]) -> Option<Vec<u8>> {
+    toy_sealed(alloc, names, &mut store(alloc, rows, &[]).ok()?)
+}
+
+/// Whether the toy key answers this of a manifest.
+pub(crate) fn toy_answers<T: Store>(
     manifest: &[u8],
     store: &mut T,
-) -> Option<Result<(), CheckError>> {
-    Some(check(&toy_key()?.verifying_key(), manifest, store))
+    answer: Result<(), CheckError>,
+) -> bool {
+    match toy_key() {
+        Some(key) => check(&key.verifying_key(), manifest, store) == answer,
+        None => false,
+    }
 }
 
 // The manifest of the name `a` with the bytes `abc`.
@@ -52,39 +70,51 @@ pub(crate) fn key() -> Option<SigningKey<Sha2_128f>> {
     SigningKey::slh_keygen_internal(&[1; 16], &[2; 16], &[3; 16]).ok()
 }
 
-// Its length, and whether it begins with these bytes.
-fn begins(alloc: Global, front: &[u8]) -> Option<(usize, bool)> {
-    let manifest = manifest_of_abc(alloc, &key()?)?;
-    Some((manifest.len(), manifest.starts_with(front)))
-}
-
 // The number of entries, a name, its length and the SHA-256 of its bytes (FIPS 180-2, B.1).
 const FRONT: &[u8] = b"\x00\x00\x00\x01\x01a\x00\x00\x00\x00\x00\x00\x00\x03\
 \xba\x78\x16\xbf\x8f\x01\xcf\xea\x41\x41\x40\xde\x5d\xae\x22\x23\
 \xb0\x03\x61\xa3\x96\x17\x7a\x9c\xb4\x10\xff\x61\xf2\x00\x15\xad";
 
-#[test]
-fn a_manifest_of_one_name_has_its_bytes(rt: HostRuntime) {
-    assert!(rt; begins(rt.alloc(), FRONT) == Some((17134, true)));
+fn is_manifest_of_abc(alloc: Global) -> Option<bool> {
+    let manifest = manifest_of_abc(alloc, &key()?)?;
+    Some(manifest.len() == 17134 && manifest.starts_with(FRONT))
 }
 
-// What is said of it over a store with these names.
-fn answer(alloc: Global, rows: &[Row]) -> Option<Result<(), CheckError>> {
+#[test]
+fn a_manifest_of_one_name_has_its_bytes(rt: HostRuntime) {
+    assert!(rt; is_manifest_of_abc(rt.alloc()) == Some(true));
+}
+
+// Whether this is answered of a manifest over a store with these names.
+fn is_answered(
+    alloc: Global,
+    (public, manifest): (&VerifyingKey<Sha2_128f>, &[u8]),
+    rows: &[Row],
+    answer: Result<(), CheckError>,
+) -> bool {
+    match store(alloc, rows, &[]) {
+        Ok(mut files) => check(public, manifest, &mut files) == answer,
+        Err(_) => false,
+    }
+}
+
+fn are_told_apart(alloc: Global, own: (&VerifyingKey<Sha2_128f>, &[u8])) -> bool {
+    let other: [Row; 2] = [(b"a", b"abc"), (b"a", b"abd")];
+    is_answered(alloc, own, &[(b"a", b"abc")], Ok(()))
+        && is_answered(alloc, own, &other, Err(CheckError::Differs(0)))
+        && is_answered(alloc, own, &[(b"b", b"abc")], Err(CheckError::Missing(0)))
+        && is_answered(alloc, own, &[], Err(CheckError::Missing(0)))
+}
+
+fn tells_apart(alloc: Global) -> Option<bool> {
     let key = key()?;
     let manifest = manifest_of_abc(alloc, &key)?;
-    let mut files = store(alloc, rows, &[]).ok()?;
-    Some(check(&key.verifying_key(), &manifest, &mut files))
+    Some(are_told_apart(alloc, (&key.verifying_key(), &manifest)))
 }
 
 #[test]
 fn other_bytes_differ_and_no_bytes_are_missing(rt: HostRuntime) {
-    let alloc = rt.alloc();
-    assert!(rt; answer(alloc, &[(b"a", b"abc")]) == Some(Ok(())));
-    assert!(rt;
-        answer(alloc, &[(b"a", b"abc"), (b"a", b"abd")]) == Some(Err(CheckError::Differs(0)))
-    );
-    assert!(rt; answer(alloc, &[(b"b", b"abc")]) == Some(Err(CheckError::Missing(0))));
-    assert!(rt; answer(alloc, &[]) == Some(Err(CheckError::Missing(0))));
+    assert!(rt; tells_apart(rt.alloc()) == Some(true));
 }
 
 // Whether the plain verify takes what stands behind the entry as a signature of what stands before

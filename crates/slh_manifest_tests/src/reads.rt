@@ -1,5 +1,5 @@
 //! How a store is read: in pieces, and at most one byte further than an entry says.
-use crate::manifests::{sealed, toy_check, toy_key};
+use crate::manifests::{toy_answers, toy_sealed};
 use slh_manifest::{CheckError, Failed, Store};
 use std::alloc::Global;
 
@@ -55,15 +55,6 @@ impl Store for MadeUp {
     }
 }
 
-// The entry of so many bytes as it stands in a manifest.
-fn entry(alloc: Global, len: u64, most: u64) -> Option<[u8; 42]> {
-    let mut made = MadeUp::new(len, most);
-    let manifest = sealed(alloc, &toy_key()?, &[b"a"], &mut made).ok()?;
-    let mut bytes = [0u8; 42];
-    bytes.copy_from_slice(manifest.get(4..46)?);
-    Some(bytes)
-}
-
 // The entry of so many bytes with that digest.
 fn entry_with(len: u64, digest: &str) -> Option<[u8; 42]> {
     let mut bytes = [0u8; 42];
@@ -73,8 +64,15 @@ fn entry_with(len: u64, digest: &str) -> Option<[u8; 42]> {
     Some(bytes)
 }
 
+// Whether it stands in a manifest of so many bytes that a read gives at most so many of.
 fn is_entry(alloc: Global, len: u64, most: u64, digest: &str) -> Option<bool> {
-    Some(entry(alloc, len, most)? == entry_with(len, digest)?)
+    let manifest = toy_sealed(alloc, &[b"a"], &mut MadeUp::new(len, most))?;
+    Some(manifest.get(4..46)? == entry_with(len, digest)?.as_slice())
+}
+
+fn is_hashed(alloc: Global, len: u64, digest: &str) -> bool {
+    is_entry(alloc, len, PIECE, digest) == Some(true)
+        && is_entry(alloc, len, 1000, digest) == Some(true)
 }
 
 // Numbers of bytes, and SHA-256 of them by Python's hashlib: sha256(bytes(p // 4096 % 251 for p in
@@ -108,33 +106,57 @@ const DIGESTS: [(u64, &str); 6] = [
 
 #[test]
 fn bytes_are_hashed_in_their_order_whatever_a_read_gives(rt: HostRuntime) {
-    for (len, digest) in DIGESTS {
-        assert!(rt; is_entry(rt.alloc(), len, PIECE, digest) == Some(true));
-        assert!(rt; is_entry(rt.alloc(), len, 1000, digest) == Some(true));
+    for (len, digest) in &DIGESTS {
+        assert!(rt; is_hashed(rt.alloc(), *len, digest), "{len} bytes");
     }
 }
 
-// What a check of an entry of so many bytes answers over a store that has more or fewer; the
-// highest place that was asked for, how many bytes were asked for at once at most and in all, and
-// how many were given.
-fn asked(alloc: Global, len: u64, has: u64) -> Option<(Result<(), CheckError>, [u64; 4])> {
-    let manifest = sealed(alloc, &toy_key()?, &[b"a"], &mut MadeUp::new(len, PIECE)).ok()?;
+// How many bytes an entry is of, and how many the store has; what a check answers; the highest
+// place that it asked for, how many bytes it asked for at once at most and in all, and how many it
+// was given.
+const ASKED: [(u64, u64, Result<(), CheckError>, [u64; 4]); 7] = [
+    (3, 3, Ok(()), [4, 4, 5, 3]),
+    (3, 2, Err(CheckError::Differs(0)), [4, 4, 6, 2]),
+    (3, u64::MAX, Err(CheckError::Differs(0)), [4, 4, 4, 4]),
+    (0, u64::MAX, Err(CheckError::Differs(0)), [1, 1, 1, 1]),
+    (4095, 4095, Ok(()), [4096, 4096, 4097, 4095]),
+    (
+        4096,
+        4097,
+        Err(CheckError::Differs(0)),
+        [4097, 4096, 4097, 4097],
+    ),
+    (
+        100_000,
+        u64::MAX,
+        Err(CheckError::Differs(0)),
+        [100_001, 4096, 100_001, 100_001],
+    ),
+];
+
+// Whether a check of an entry answers so, and leaves its store with these numbers.
+fn asks(
+    alloc: Global,
+    (len, has): (u64, u64),
+    answer: Result<(), CheckError>,
+    numbers: &[u64; 4],
+) -> bool {
     let mut made = MadeUp::new(has, PIECE);
-    let answer = toy_check(&manifest, &mut made)?;
-    Some((answer, [made.highest, made.room, made.asked, made.given]))
+    match toy_sealed(alloc, &[b"a"], &mut MadeUp::new(len, PIECE)) {
+        Some(manifest) => {
+            toy_answers(&manifest, &mut made, answer)
+                && [made.highest, made.room, made.asked, made.given] == *numbers
+        }
+        None => false,
+    }
 }
 
 #[test]
 fn a_check_asks_for_one_byte_past_an_entry_at_most(rt: HostRuntime) {
-    let alloc = rt.alloc();
-    let differs = Err(CheckError::Differs(0));
-    assert!(rt; asked(alloc, 3, 3) == Some((Ok(()), [4, 4, 5, 3])));
-    assert!(rt; asked(alloc, 3, 2) == Some((differs, [4, 4, 6, 2])));
-    assert!(rt; asked(alloc, 3, u64::MAX) == Some((differs, [4, 4, 4, 4])));
-    assert!(rt; asked(alloc, 0, u64::MAX) == Some((differs, [1, 1, 1, 1])));
-    assert!(rt; asked(alloc, 4095, 4095) == Some((Ok(()), [4096, 4096, 4097, 4095])));
-    assert!(rt; asked(alloc, 4096, 4097) == Some((differs, [4097, 4096, 4097, 4097])));
-    assert!(rt;
-        asked(alloc, 100_000, u64::MAX) == Some((differs, [100_001, 4096, 100_001, 100_001]))
-    );
+    for (len, has, answer, numbers) in &ASKED {
+        assert!(rt;
+            asks(rt.alloc(), (*len, *has), *answer, numbers),
+            "{has} bytes for {len}"
+        );
+    }
 }
