@@ -1,49 +1,25 @@
 // The worked signature with bytes changed so that it is still accepted. All values were worked by
 // hand.
-ghost use Rattle.slh_core.specs.Steps.{IsFresh};
-
-use crate::worked::{KEY, MESSAGE, SIGNATURE};
-use hybrid_array::sizes::U1;
+use crate::trees::is_root;
+use crate::worked::{KEY, MESSAGE, SIGNATURE, changed};
 use slh_audit::{AuditError, Evidence, Verdict, audit, check_evidence};
-use slh_core::nbytes::NBytes;
-use slh_core::steps::Steps;
 use slh_trees::toy::Toy;
-use slh_trees::{SigView, check_root};
-use std::marker::Brand;
-use std::sync::ledger::{Blank, Ledger};
-use std::test::Fail;
 
-// The root that bytes lead to.
-fn root_of<L: Ledger>(sig: &[u8; 21], blank: Blank) -> u8
-    requires fresh { IsFresh blank L.name L.parts }
-{
-    let mut steps = Steps::<L>::new(blank);
-    let (seed, root) = (NBytes::<U1>::exact(&[3]), NBytes::<U1>::exact(&[225]));
-    let sig = SigView::<Toy>::new(sig).unwrap();
-    check_root::<Toy, L>(&seed, &root, &[0, 0], &[], &MESSAGE, &sig, &mut steps).as_slice()[0]
-}
-
-fn root(sig: &[u8; 21]) -> u8 {
-    root_of::<Brand>(sig, Blank::new(1))
-}
-
-// The signature with some of its bytes changed.
-fn changed(changes: &[(usize, u8); 3]) -> [u8; 21] {
-    let mut sig = SIGNATURE;
-    for (at, byte) in changes {
-        if *at < 21 {
-            sig[*at] = *byte;
-        }
-    }
-    sig
+fn answer(key: &[u8; 4], ctx: &[u8], sig: &[u8]) -> Result<Verdict, AuditError> {
+    audit::<Toy>(key, ctx, &MESSAGE, sig)
 }
 
 fn audited(sig: &[u8]) -> Result<Verdict, AuditError> {
-    audit::<Toy>(&KEY, &[], &MESSAGE, sig)
+    answer(&KEY, &[], sig)
+}
+
+// Whether evidence shows against bytes.
+pub(crate) fn checked(sig: &[u8], evidence: Evidence) -> Result<bool, AuditError> {
+    check_evidence::<Toy>(&KEY, &[], &MESSAGE, sig, &evidence)
 }
 
 fn shown(sig: &[u8], evidence: Evidence) -> bool {
-    check_evidence::<Toy>(&KEY, &[], &MESSAGE, sig, &evidence) == Ok(true)
+    checked(sig, evidence) == Ok(true)
 }
 
 pub(crate) fn fors_node(tree: u32, height: u32) -> Evidence {
@@ -66,89 +42,103 @@ pub(crate) fn leaf(layer: u32) -> Evidence {
     Evidence::Leaf { layer }
 }
 
-// Changed bytes that are accepted, their evidence, and two others that don't show.
-#[test]
-fn accepted_bytes_that_were_not_made_are_foreign(rt: HostRuntime) {
-    let none = (21, 0);
-    let rows = [
-        // Secrets 83 and 82 both give 46.
-        (
-            [(1, 0x53), none, none],
-            fors_node(0, 0),
-            [fors_node(0, 1), fors_node(1, 0)],
-        ),
+// Whether changed bytes are accepted, and foreign by evidence that shows where two others don't.
+fn is_foreign(changes: &[(usize, u8)], evidence: Evidence, others: [Evidence; 2]) -> bool {
+    let sig = changed(changes);
+    is_root(&sig, 225)
+        && audited(&sig) == Ok(Verdict::Foreign(evidence))
+        && shown(&sig, evidence)
+        && !shown(&sig, others[0])
+        && !shown(&sig, others[1])
+}
+
+fn is_forest_foreign() -> bool {
+    // Secrets 83 and 82 both give 46.
+    is_foreign(
+        &[(1, 0x53)],
+        fors_node(0, 0),
+        [fors_node(0, 1), fors_node(1, 0)],
+    )
         // The children (47, 52) and (46, 52) both give 184.
-        (
-            [(1, 0x54), none, none],
+        && is_foreign(
+            &[(1, 0x54)],
             fors_node(0, 1),
             [fors_node(0, 0), fors_node(0, 2)],
-        ),
+        )
         // The roots (116, 181) and (113, 184) both give 44.
-        (
-            [(3, 0x8f), (6, 0x14), none],
+        && is_foreign(
+            &[(3, 0x8f), (6, 0x14)],
             Evidence::ForsRoots,
             [fors_node(0, 2), fors_node(1, 2)],
-        ),
-        // 72 and 73 both give 39.
-        (
-            [(9, 0x48), none, none],
-            chain_step(0, 2, 0),
-            [chain_step(0, 2, 1), early(0, 2)],
-        ),
+        )
+}
+
+fn is_layer_foreign() -> bool {
+    // 72 and 73 both give 39.
+    is_foreign(
+        &[(9, 0x48)],
+        chain_step(0, 2, 0),
+        [chain_step(0, 2, 1), early(0, 2)],
+    )
         // The ends 31, 32, 32, 32, 33 and five times 32 both give 163.
-        (
-            [(14, 0x1c), (18, 0x21), none],
+        && is_foreign(
+            &[(14, 0x1c), (18, 0x21)],
             leaf(1),
             [leaf(0), chain_step(1, 0, 14)],
-        ),
+        )
         // The children (63, 63) and (62, 63) both give 225.
-        (
-            [(20, 0x3f), none, none],
+        && is_foreign(
+            &[(20, 0x3f)],
             tree_node(1, 2),
             [tree_node(1, 1), tree_node(1, 3)],
-        ),
+        )
         // The forest's key is 41, with digits 2, 9, 0, 1, 3: 9 is below 12.
-        (
-            [(6, 0x14), (8, 0x14), (11, 0x12)],
+        && is_foreign(
+            &[(6, 0x14), (8, 0x14), (11, 0x12)],
             early(0, 1),
             [early(0, 0), early(0, 4)],
-        ),
-    ];
-    for (changes, evidence, others) in rows {
-        let sig = changed(&changes);
-        assert!(rt; root(&sig) == 225);
-        assert!(rt; audited(&sig) == Ok(Verdict::Foreign(evidence)));
-        assert!(rt; shown(&sig, evidence));
-        assert!(rt; !shown(&sig, others[0]) && !shown(&sig, others[1]));
-    }
+        )
+}
+
+#[test]
+fn accepted_bytes_that_were_not_made_are_foreign(rt: HostRuntime) {
+    assert!(rt; is_forest_foreign() && is_layer_foreign());
+}
+
+fn is_genuine() -> bool {
+    audited(&SIGNATURE) == Ok(Verdict::Genuine)
+        && !shown(&SIGNATURE, fors_node(0, 0))
+        && !shown(&SIGNATURE, fors_node(1, 2))
+        && !shown(&SIGNATURE, Evidence::ForsRoots)
+        && !shown(&SIGNATURE, leaf(1))
+        && !shown(&SIGNATURE, early(0, 1))
 }
 
 #[test]
 fn made_bytes_are_genuine_and_nothing_shows_against_them(rt: HostRuntime) {
-    assert!(rt; audited(&SIGNATURE) == Ok(Verdict::Genuine));
-    for evidence in [
-        fors_node(0, 0),
-        fors_node(1, 2),
-        Evidence::ForsRoots,
-        leaf(1),
-        early(0, 1),
-    ] {
-        assert!(rt; !shown(&SIGNATURE, evidence));
-    }
+    assert!(rt; is_genuine());
+}
+
+fn is_invalid(sig: &[u8; 21], wanted: u8) -> bool {
+    is_root(sig, wanted) && audited(sig) == Err(AuditError::Invalid)
 }
 
 #[test]
 fn bytes_that_lead_to_another_root_are_invalid(rt: HostRuntime) {
-    let invalid = changed(&[(18, 0x21), (21, 0), (21, 0)]);
-    assert!(rt; root(&invalid) == 228);
-    assert!(rt; audited(&invalid) == Err(AuditError::Invalid));
+    assert!(rt; is_invalid(&changed(&[(18, 0x21)]), 228));
+}
+
+fn is_refused(key: &[u8; 4], ctx: &[u8], sig: &[u8], cause: AuditError) -> bool {
+    answer(key, ctx, sig) == Err(cause)
+}
+
+fn are_refused() -> bool {
+    is_refused(&[5, 7, 3, 224], &[], &SIGNATURE, AuditError::KeyMismatch)
+        && is_refused(&KEY, &[], &SIGNATURE[..20], AuditError::Length)
+        && is_refused(&KEY, &[0; 256], &SIGNATURE, AuditError::ContextTooLong)
 }
 
 #[test]
 fn audits_refuse_by_their_causes(rt: HostRuntime) {
-    let foreign = audit::<Toy>(&[5, 7, 3, 224], &[], &MESSAGE, &SIGNATURE);
-    assert!(rt; foreign == Err(AuditError::KeyMismatch));
-    assert!(rt; audited(&SIGNATURE[..20]) == Err(AuditError::Length));
-    let long_context = audit::<Toy>(&KEY, &[0; 256], &MESSAGE, &SIGNATURE);
-    assert!(rt; long_context == Err(AuditError::ContextTooLong));
+    assert!(rt; are_refused());
 }

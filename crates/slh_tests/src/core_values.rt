@@ -5,7 +5,6 @@ use hybrid_array::sizes::{U1, U16};
 use slh_core::address::{Address, WotsHash};
 use slh_core::digits::{base_2b, message_digits};
 use slh_core::nbytes::NBytes;
-use std::test::Fail;
 
 fn first_step(message: &[u8]) -> Result<[u8; 22], TryFromSliceError> {
     let message = NBytes::<U16>::from_slice(message)?;
@@ -20,15 +19,27 @@ fn first_step(message: &[u8]) -> Result<[u8; 22], TryFromSliceError> {
     Ok(adrs.compressed())
 }
 
+// Whether the address of the first step is this one.
+fn is_first_step(message: &[u8], wanted: &[u8; 22]) -> bool {
+    match first_step(message) {
+        Ok(bytes) => bytes == *wanted,
+        Err(_) => false,
+    }
+}
+
 // Put together by hand (FIPS 205, sections 4.2 and 11.2): the layer, the tree, the type, the key
 // pair, the chain, and the second hexadecimal digit of the message.
 #[test]
 fn example_of_the_page(rt: HostRuntime) {
-    let want = [
+    let wanted = [
         0, 0, 0, 0, 0, 0, 0, 0, 2, 0, 0, 0, 0, 3, 0, 0, 0, 1, 0, 0, 0, 12,
     ];
-    assert_eq!(rt; first_step(&[0x3c; 16]), Ok(want));
-    assert_eq!(rt; first_step(&[0x3c; 15]), Err(TryFromSliceError));
+    assert!(rt; is_first_step(&[0x3c; 16], &wanted));
+    assert!(rt; first_step(&[0x3c; 15]).err() == Some(TryFromSliceError));
+}
+
+fn is_compressed(adrs: &WotsHash, wanted: &[u8; 22]) -> bool {
+    adrs.compressed() == *wanted
 }
 
 // Cut by hand from the 32 bytes (FIPS 205, section 11.2).
@@ -41,33 +52,42 @@ fn compressed_bytes(rt: HostRuntime) {
         chain_adrs: 5,
         hash_adrs: 6,
     };
-    let want = [
+    let wanted = [
         1, 0, 0, 0, 0, 0, 0, 2, 3, 0, 0, 0, 0, 4, 0, 0, 0, 5, 0, 0, 0, 6,
     ];
-    assert_eq!(rt; adrs.compressed(), want);
+    assert!(rt; is_compressed(&adrs, &wanted));
+}
+
+fn has_digits(byte: u8, wanted: &[u16]) -> bool {
+    &message_digits(&NBytes::<U1>::exact(&[byte]))[..5] == wanted
+}
+
+fn are_digits_of_bytes() -> bool {
+    has_digits(0x12, &[1, 2, 0, 1, 11])
+        && has_digits(0xff, &[15, 15, 0, 0, 0])
+        && has_digits(0x00, &[0, 0, 0, 1, 14])
 }
 
 // Worked by hand: the two hexadecimal digits, and the checksum's three.
 #[test]
 fn digits_of_one_byte(rt: HostRuntime) {
-    let rows = [
-        (0x12, [1, 2, 0, 1, 11]),
-        (0xff, [15, 15, 0, 0, 0]),
-        (0x00, [0, 0, 0, 1, 14]),
-    ];
-    for (byte, want) in rows {
-        let m = NBytes::<U1>::exact(&[byte]);
-        assert_eq!(rt; message_digits(&m)[..5], want[..], "at {byte}");
-    }
+    assert!(rt; are_digits_of_bytes());
+}
+
+fn are_digits_of_four_bits() -> bool {
+    let mut digits = [0; 3];
+    base_2b(&[0x12, 0x30], 4, &mut digits);
+    digits == [1, 2, 3]
+}
+
+fn are_digits_of_six_bits() -> bool {
+    let mut digits = [0; 2];
+    base_2b(&[0xff, 0x00], 6, &mut digits);
+    digits == [63, 48]
 }
 
 // Worked by hand: digits that end within a byte, and digits over a byte's end.
 #[test]
 fn digits_of_four_and_six_bits(rt: HostRuntime) {
-    let mut three = [0; 3];
-    base_2b(&[0x12, 0x30], 4, &mut three);
-    assert_eq!(rt; three, [1, 2, 3]);
-    let mut two = [0; 2];
-    base_2b(&[0xff, 0x00], 6, &mut two);
-    assert_eq!(rt; two, [63, 48]);
+    assert!(rt; are_digits_of_four_bits() && are_digits_of_six_bits());
 }

@@ -22,7 +22,6 @@ use slh_trees::{
 use std::cell::Cell;
 use std::marker::Brand;
 use std::sync::ledger::{Blank, Ledger};
-use std::test::Fail;
 
 struct Counting;
 
@@ -191,102 +190,154 @@ fn lowest() -> WotsHash {
     }
 }
 
-// A chain of fifteen steps, a key pair, a signature of the byte 2c and its check, a tree.
-fn key_pair_calls<L: Ledger>(blank: Blank) -> [u32; 5]
+// A chain of fifteen steps.
+fn chain_calls<L: Ledger>(steps: &mut Steps<L>) -> u32 {
+    let keyed = keyed();
+    wots_chain::<Counting, L>(&byte(23), 0, 15, &keyed, &lowest(), steps);
+    keyed.calls.get()
+}
+
+fn key_pair_calls<L: Ledger>(steps: &mut Steps<L>) -> u32 {
+    let keyed = keyed();
+    wots_pk_gen::<Counting, L>(&byte(5), &keyed, &lowest(), steps);
+    keyed.calls.get()
+}
+
+// A signature of the byte 2c.
+fn chain_signature_calls<L: Ledger>(sig: &mut [u8; 5], steps: &mut Steps<L>) -> u32 {
+    let keyed = keyed();
+    wots_sign::<Counting, L>(&byte(0x2c), &byte(5), &keyed, &lowest(), sig, steps);
+    keyed.calls.get()
+}
+
+fn chain_check_calls<L: Ledger>(sig: &[u8; 5], steps: &mut Steps<L>) -> u32 {
+    let keyed = keyed();
+    wots_pk_from_sig::<Counting, L>(sig, &byte(0x2c), &keyed, &lowest(), steps);
+    keyed.calls.get()
+}
+
+fn tree_calls<L: Ledger>(steps: &mut Steps<L>) -> u32 {
+    let keyed = keyed();
+    xmss_node::<Counting, L>(&byte(5), 0, 2, &keyed, &lowest(), steps);
+    keyed.calls.get()
+}
+
+fn are_calls_of_key_pairs<L: Ledger>(blank: Blank) -> bool
     requires fresh { IsFresh blank L.name L.parts }
 {
     let mut steps = Steps::<L>::new(blank);
-    let (chain, pair, sign, check, tree) = (keyed(), keyed(), keyed(), keyed(), keyed());
     let mut sig = [0; 5];
-    wots_chain::<Counting, L>(&byte(23), 0, 15, &chain, &lowest(), &mut steps);
-    wots_pk_gen::<Counting, L>(&byte(5), &pair, &lowest(), &mut steps);
-    wots_sign::<Counting, L>(
-        &byte(0x2c),
-        &byte(5),
-        &sign,
-        &lowest(),
-        &mut sig,
-        &mut steps,
-    );
-    wots_pk_from_sig::<Counting, L>(&sig, &byte(0x2c), &check, &lowest(), &mut steps);
-    xmss_node::<Counting, L>(&byte(5), 0, 2, &tree, &lowest(), &mut steps);
-    [
-        chain.calls.get(),
-        pair.calls.get(),
-        sign.calls.get(),
-        check.calls.get(),
-        tree.calls.get(),
-    ]
+    chain_calls(&mut steps) == 15
+        && key_pair_calls(&mut steps) == 81
+        && chain_signature_calls(&mut sig, &mut steps) == 20
+        && chain_check_calls(&sig, &mut steps) == 61
+        && tree_calls(&mut steps) == 327
 }
 
 #[test]
 fn key_pairs_make_the_calls_of_their_algorithms(rt: HostRuntime) {
-    let calls = key_pair_calls::<Brand>(Blank::new(1));
-    assert_eq!(rt; calls, [15, 81, 20, 61, 327]);
+    assert!(rt; are_calls_of_key_pairs::<Brand>(Blank::new(1)));
 }
 
-// A signature of the byte 2c under leaf 3, its check, and the signature with the root.
-fn tree_calls<L: Ledger>(blank: Blank) -> [u32; 3]
-    requires fresh { IsFresh blank L.name L.parts }
-{
-    let mut steps = Steps::<L>::new(blank);
-    let (sign, check, root) = (keyed(), keyed(), keyed());
-    let m = byte(0x2c);
+// A signature of the byte 2c under leaf 3.
+fn tree_signature_calls<L: Ledger>(sig: &mut [u8; 7], steps: &mut Steps<L>) -> u32 {
+    let keyed = keyed();
+    xmss_sign::<Counting, L>(&byte(0x2c), &byte(5), &keyed, 3, &lowest(), sig, steps);
+    keyed.calls.get()
+}
+
+fn tree_check_calls<L: Ledger>(sig: &[u8; 7], steps: &mut Steps<L>) -> u32 {
+    let keyed = keyed();
+    xmss_pk_from_sig::<Counting, L>(3, sig, &byte(0x2c), &keyed, &lowest(), steps);
+    keyed.calls.get()
+}
+
+// The signature with the root.
+fn tree_root_calls<L: Ledger>(steps: &mut Steps<L>) -> u32 {
+    let keyed = keyed();
     let mut sig = [0; 7];
-    xmss_sign::<Counting, L>(&m, &byte(5), &sign, 3, &lowest(), &mut sig, &mut steps);
-    xmss_pk_from_sig::<Counting, L>(3, &sig, &m, &check, &lowest(), &mut steps);
-    xmss_sign_root::<Counting, L>(&m, &byte(5), &root, 3, &lowest(), &mut sig, &mut steps);
-    [sign.calls.get(), check.calls.get(), root.calls.get()]
+    xmss_sign_root::<Counting, L>(&byte(0x2c), &byte(5), &keyed, 3, &lowest(), &mut sig, steps);
+    keyed.calls.get()
 }
 
-// A signature of the byte 2c under tree 2 and leaf 3, and its check.
-fn layer_calls<L: Ledger>(blank: Blank) -> [u32; 2]
+// A signature of the byte 2c under tree 2 and leaf 3.
+fn layers_signature_calls<L: Ledger>(sig: &mut [u8; 14], steps: &mut Steps<L>) -> u32 {
+    let keyed = keyed();
+    ht_sign::<Counting, L>(&byte(0x2c), &byte(5), &keyed, 2, 3, sig, steps);
+    keyed.calls.get()
+}
+
+fn layers_check_calls<L: Ledger>(sig: &[u8; 14], steps: &mut Steps<L>) -> u32 {
+    let keyed = keyed();
+    ht_verify::<Counting, L>(&byte(0x2c), sig, &keyed, 2, 3, &byte(225), steps);
+    keyed.calls.get()
+}
+
+fn are_calls_of_trees<L: Ledger>(blank: Blank) -> bool
     requires fresh { IsFresh blank L.name L.parts }
 {
     let mut steps = Steps::<L>::new(blank);
-    let (sign, check) = (keyed(), keyed());
-    let m = byte(0x2c);
-    let mut sig = [0; 14];
-    ht_sign::<Counting, L>(&m, &byte(5), &sign, 2, 3, &mut sig, &mut steps);
-    ht_verify::<Counting, L>(&m, &sig, &check, 2, 3, &byte(225), &mut steps);
-    [sign.calls.get(), check.calls.get()]
+    let mut sig = [0; 7];
+    let mut layers = [0; 14];
+    tree_signature_calls(&mut sig, &mut steps) <= 327
+        && tree_check_calls(&sig, &mut steps) == 63
+        && tree_root_calls(&mut steps) == 327
+        && layers_signature_calls(&mut layers, &mut steps) <= 654
+        && layers_check_calls(&layers, &mut steps) == 111
 }
 
 #[test]
 fn trees_make_the_calls_of_their_algorithms(rt: HostRuntime) {
-    let [sign, check, root] = tree_calls::<Brand>(Blank::new(1));
-    assert!(rt; sign <= 327);
-    assert_eq!(rt; [check, root], [63, 327]);
-    let [sign, check] = layer_calls::<Brand>(Blank::new(1));
-    assert!(rt; sign <= 654);
-    assert_eq!(rt; check, 111);
+    assert!(rt; are_calls_of_trees::<Brand>(Blank::new(1)));
 }
 
-// A secret, a tree, a signature of the byte 9d, its check, and the signature with the key.
-fn forest_calls<L: Ledger>(blank: Blank) -> [u32; 5]
+fn secret_calls<L: Ledger>(steps: &mut Steps<L>) -> u32 {
+    let keyed = keyed();
+    fors_sk_gen::<Counting, L>(&byte(5), &keyed, &ForsTree::new(2, 3), 2, steps);
+    keyed.calls.get()
+}
+
+// A tree of the forest.
+fn forest_tree_calls<L: Ledger>(steps: &mut Steps<L>) -> u32 {
+    let keyed = keyed();
+    fors_node::<Counting, L>(&byte(5), 1, 2, &keyed, &ForsTree::new(2, 3), steps);
+    keyed.calls.get()
+}
+
+// A signature of the byte 9d.
+fn forest_signature_calls<L: Ledger>(sig: &mut [u8; 6], steps: &mut Steps<L>) -> u32 {
+    let keyed = keyed();
+    fors_sign::<Counting, L>(&[0x9d], &byte(5), &keyed, &ForsTree::new(2, 3), sig, steps);
+    keyed.calls.get()
+}
+
+fn forest_check_calls<L: Ledger>(sig: &[u8; 6], steps: &mut Steps<L>) -> u32 {
+    let keyed = keyed();
+    fors_pk_from_sig::<Counting, L>(sig, &[0x9d], &keyed, &ForsTree::new(2, 3), steps);
+    keyed.calls.get()
+}
+
+// The signature with the key.
+fn forest_key_calls<L: Ledger>(steps: &mut Steps<L>) -> u32 {
+    let (keyed, adrs) = (keyed(), ForsTree::new(2, 3));
+    let mut sig = [0; 6];
+    fors_sign_root::<Counting, L>(&[0x9d], &byte(5), &keyed, &adrs, &mut sig, steps);
+    keyed.calls.get()
+}
+
+fn are_calls_of_forests<L: Ledger>(blank: Blank) -> bool
     requires fresh { IsFresh blank L.name L.parts }
 {
     let mut steps = Steps::<L>::new(blank);
-    let (secret, tree, sign, check, root) = (keyed(), keyed(), keyed(), keyed(), keyed());
-    let adrs = ForsTree::new(2, 3);
     let mut sig = [0; 6];
-    fors_sk_gen::<Counting, L>(&byte(5), &secret, &adrs, 2, &mut steps);
-    fors_node::<Counting, L>(&byte(5), 1, 2, &tree, &adrs, &mut steps);
-    fors_sign::<Counting, L>(&[0x9d], &byte(5), &sign, &adrs, &mut sig, &mut steps);
-    fors_pk_from_sig::<Counting, L>(&sig, &[0x9d], &check, &adrs, &mut steps);
-    fors_sign_root::<Counting, L>(&[0x9d], &byte(5), &root, &adrs, &mut sig, &mut steps);
-    [
-        secret.calls.get(),
-        tree.calls.get(),
-        sign.calls.get(),
-        check.calls.get(),
-        root.calls.get(),
-    ]
+    secret_calls(&mut steps) == 1
+        && forest_tree_calls(&mut steps) == 11
+        && forest_signature_calls(&mut sig, &mut steps) <= 16
+        && forest_check_calls(&sig, &mut steps) == 7
+        && forest_key_calls(&mut steps) == 23
 }
 
 #[test]
 fn forests_make_the_calls_of_their_algorithms(rt: HostRuntime) {
-    let [secret, tree, sign, check, root] = forest_calls::<Brand>(Blank::new(1));
-    assert!(rt; sign <= 16);
-    assert_eq!(rt; [secret, tree, check, root], [1, 11, 7, 23]);
+    assert!(rt; are_calls_of_forests::<Brand>(Blank::new(1)));
 }

@@ -8,10 +8,9 @@ use slh_core::address::WotsHash;
 use slh_core::nbytes::NBytes;
 use slh_core::steps::Steps;
 use slh_core::suite::HashSuite;
-use slh_hash::{Sha2_128f, Sha2_128s, mgf1_256};
+use slh_hash::{Sha2_128f, Sha2_128s, Sha2Keyed, mgf1_256};
 use std::marker::Brand;
 use std::sync::ledger::{Blank, Ledger};
-use std::test::Fail;
 
 fn filled(value: u8) -> NBytes<U16> {
     NBytes::exact(&[value; 16])
@@ -22,13 +21,19 @@ const RANDOMIZER: [u8; 16] = [
     0x6a, 0x4b, 0x5c, 0xf2, 0x39, 0x11, 0xd4, 0xf3, 0xa6, 0x59, 0x1d, 0x70, 0x03, 0x44, 0x53, 0x16,
 ];
 
+fn is_randomizer_of_whole() -> bool {
+    let made = Sha2_128f::prf_msg(&filled(0), &filled(1), &[], &[], &[2; 32]);
+    made.as_slice() == RANDOMIZER.as_slice()
+}
+
+fn is_randomizer_of_pieces() -> bool {
+    let made = Sha2_128s::prf_msg(&filled(0), &filled(1), &[2; 2], &[2; 7], &[2; 23]);
+    made.as_slice() == RANDOMIZER.as_slice()
+}
+
 #[test]
 fn randomizer_of_a_message(rt: HostRuntime) {
-    let msg = [2; 32];
-    let whole = Sha2_128f::prf_msg(&filled(0), &filled(1), &[], &[], &msg);
-    assert_eq!(rt; whole.as_slice(), RANDOMIZER.as_slice());
-    let cut = Sha2_128s::prf_msg(&filled(0), &filled(1), &msg[..2], &msg[2..9], &msg[9..]);
-    assert_eq!(rt; cut.as_slice(), RANDOMIZER.as_slice());
+    assert!(rt; is_randomizer_of_whole() && is_randomizer_of_pieces());
 }
 
 // MGF1 over 16 bytes 00, 16 bytes 01 and the hash of these, 16 bytes 02 and 32 bytes 03.
@@ -38,33 +43,23 @@ const DIGEST: [u8; 34] = [
     0x7f, 0x5b,
 ];
 
+fn is_digest_of_whole() -> bool {
+    let mut digest = [0; 34];
+    let (rand, seed, root) = (filled(0), filled(1), filled(2));
+    Sha2_128f::h_msg(&rand, &seed, &root, &[], &[], &[3; 32], &mut digest);
+    digest == DIGEST
+}
+
+fn is_digest_of_pieces() -> bool {
+    let mut digest = [0; 30];
+    let (rand, seed, root) = (filled(0), filled(1), filled(2));
+    Sha2_128s::h_msg(&rand, &seed, &root, &[3; 2], &[3; 7], &[3; 23], &mut digest);
+    digest.as_slice() == &DIGEST[..30]
+}
+
 #[test]
 fn digest_of_a_message(rt: HostRuntime) {
-    let mut digest = [0; 34];
-    let msg = [3; 32];
-    Sha2_128f::h_msg(
-        &filled(0),
-        &filled(1),
-        &filled(2),
-        &[],
-        &[],
-        &msg,
-        &mut digest,
-    );
-    assert_eq!(rt; digest, DIGEST);
-    let mut short = [0; 30];
-    let (head, rest) = msg.split_at(2);
-    let (ctx, end) = rest.split_at(7);
-    Sha2_128s::h_msg(
-        &filled(0),
-        &filled(1),
-        &filled(2),
-        head,
-        ctx,
-        end,
-        &mut short,
-    );
-    assert_eq!(rt; short[..], DIGEST[..30]);
+    assert!(rt; is_digest_of_whole() && is_digest_of_pieces());
 }
 
 const SEED: [u8; 16] = [0, 1, 2, 3, 4, 5, 6, 7, 8, 9, 10, 11, 12, 13, 14, 15];
@@ -89,33 +84,44 @@ const PRF_VALUE: [u8; 16] = [
     0xaf, 0x5b, 0x32, 0x08, 0x6b, 0x9d, 0xcb, 0xf6, 0x7e, 0xca, 0xa8, 0x3c, 0x04, 0xea, 0x27, 0xc7,
 ];
 
-fn four_values<L: Ledger>(blank: Blank) -> [NBytes<U16>; 4]
+const ADRS: WotsHash = WotsHash {
+    layer_adrs: 1,
+    tree_adrs_low: 0x0203,
+    key_pair_adrs: 4,
+    chain_adrs: 5,
+    hash_adrs: 6,
+};
+
+fn is_f<L: Ledger>(keyed: &Sha2Keyed<U16>, steps: &mut Steps<L>) -> bool {
+    Sha2_128f::f(keyed, &ADRS, &filled(7), steps).as_slice() == F_VALUE.as_slice()
+}
+
+fn is_h<L: Ledger>(keyed: &Sha2Keyed<U16>, steps: &mut Steps<L>) -> bool {
+    Sha2_128f::h(keyed, &ADRS, &filled(7), &filled(8), steps).as_slice() == H_VALUE.as_slice()
+}
+
+fn is_t<L: Ledger>(keyed: &Sha2Keyed<U16>, steps: &mut Steps<L>) -> bool {
+    Sha2_128f::t(keyed, &ADRS, &[9; 100], steps).as_slice() == T_VALUE.as_slice()
+}
+
+fn is_prf<L: Ledger>(keyed: &Sha2Keyed<U16>, steps: &mut Steps<L>) -> bool {
+    Sha2_128f::prf_sk(keyed, &filled(10), &ADRS, steps).as_slice() == PRF_VALUE.as_slice()
+}
+
+fn are_hashes<L: Ledger>(blank: Blank) -> bool
     requires fresh { IsFresh blank L.name L.parts }
 {
     let mut steps = Steps::<L>::new(blank);
     let keyed = Sha2_128f::keyed(&NBytes::exact(&SEED));
-    let adrs = WotsHash {
-        layer_adrs: 1,
-        tree_adrs_low: 0x0203,
-        key_pair_adrs: 4,
-        chain_adrs: 5,
-        hash_adrs: 6,
-    };
-    [
-        Sha2_128f::f(&keyed, &adrs, &filled(7), &mut steps),
-        Sha2_128f::h(&keyed, &adrs, &filled(7), &filled(8), &mut steps),
-        Sha2_128f::t(&keyed, &adrs, &[9; 100], &mut steps),
-        Sha2_128f::prf_sk(&keyed, &filled(10), &adrs, &mut steps),
-    ]
+    is_f(&keyed, &mut steps)
+        && is_h(&keyed, &mut steps)
+        && is_t(&keyed, &mut steps)
+        && is_prf(&keyed, &mut steps)
 }
 
 #[test]
 fn hashes_of_an_address(rt: HostRuntime) {
-    let [f, h, t, prf] = four_values::<Brand>(Blank::new(1));
-    assert_eq!(rt; f.as_slice(), F_VALUE.as_slice());
-    assert_eq!(rt; h.as_slice(), H_VALUE.as_slice());
-    assert_eq!(rt; t.as_slice(), T_VALUE.as_slice());
-    assert_eq!(rt; prf.as_slice(), PRF_VALUE.as_slice());
+    assert!(rt; are_hashes::<Brand>(Blank::new(1)));
 }
 
 fn next_value<L: Ledger>(pk_seed: &[u8; 16], value: &[u8; 16], blank: Blank) -> NBytes<U16>
@@ -136,7 +142,7 @@ fn next_value<L: Ledger>(pk_seed: &[u8; 16], value: &[u8; 16], blank: Blank) -> 
 #[test]
 fn example_of_the_page(rt: HostRuntime) {
     let f = next_value::<Brand>(&SEED, &[7; 16], Blank::new(1));
-    assert_eq!(rt; f.as_slice(), F_VALUE.as_slice());
+    assert!(rt; f.as_slice() == F_VALUE.as_slice());
 }
 
 // MGF1 of the four bytes of "seed": its first 33 bytes, and the last 32 of 256.
@@ -162,15 +168,16 @@ fn starts_alike(len: usize) -> bool
 
 #[test]
 fn short_masks(rt: HostRuntime) {
-    assert!(rt; starts_alike(0));
-    assert!(rt; starts_alike(1));
-    assert!(rt; starts_alike(32));
-    assert!(rt; starts_alike(33));
+    assert!(rt; starts_alike(0) && starts_alike(1) && starts_alike(32) && starts_alike(33));
+}
+
+fn ends_alike() -> bool {
+    let mut mask = [0; 256];
+    mgf1_256(b"seed", &mut mask);
+    mask[224..] == MASK_END[..]
 }
 
 #[test]
 fn longest_mask(rt: HostRuntime) {
-    let mut mask = [0; 256];
-    mgf1_256(b"seed", &mut mask);
-    assert_eq!(rt; mask[224..], MASK_END[..]);
+    assert!(rt; ends_alike());
 }

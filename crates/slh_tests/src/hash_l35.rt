@@ -8,7 +8,7 @@ use slh_core::address::WotsHash;
 use slh_core::nbytes::NBytes;
 use slh_core::steps::Steps;
 use slh_core::suite::HashSuite;
-use slh_hash::{Sha2_192f, Sha2_192s, Sha2_256f, hmac_sha512, mgf1_512};
+use slh_hash::{Sha2_192f, Sha2_192s, Sha2_256f, Sha2Keyed512, hmac_sha512, mgf1_512};
 use std::marker::Brand;
 use std::sync::ledger::{Blank, Ledger};
 
@@ -28,10 +28,12 @@ const CODE_OF_LONG_KEY: [u8; 64] = [
     0x13, 0x46, 0x76, 0xfb, 0x6d, 0xe0, 0x44, 0x60, 0x65, 0xc9, 0x74, 0x40, 0xfa, 0x8c, 0x6a, 0x58,
 ];
 
-#[test]
-fn codes_of_the_rfc(rt: HostRuntime) {
+fn is_code_of_short_key() -> bool {
     let code = hmac_sha512(b"Jefe", b"what do ya ", b"want ", b"for ", b"nothing?");
-    assert_eq!(rt; code, CODE_OF_SHORT_KEY);
+    code == CODE_OF_SHORT_KEY
+}
+
+fn is_code_of_long_key() -> bool {
     let code = hmac_sha512(
         &[0xaa; 131],
         b"This is a test using a larger than block-size key ",
@@ -39,7 +41,12 @@ fn codes_of_the_rfc(rt: HostRuntime) {
         b"The key needs to be hashed before being used ",
         b"by the HMAC algorithm.",
     );
-    assert_eq!(rt; code, CODE_OF_LONG_KEY);
+    code == CODE_OF_LONG_KEY
+}
+
+#[test]
+fn codes_of_the_rfc(rt: HostRuntime) {
+    assert!(rt; is_code_of_short_key() && is_code_of_long_key());
 }
 
 // The first 24 bytes of the HMAC-SHA-512 of 24 bytes 01 and 32 bytes 02 under 24 bytes 00.
@@ -56,11 +63,14 @@ fn of_32(value: u8) -> NBytes<U32> {
     NBytes::exact(&[value; 32])
 }
 
+fn is_wide_randomizer() -> bool {
+    let made = Sha2_192s::prf_msg(&of_24(0), &of_24(1), &[2; 2], &[2; 7], &[2; 23]);
+    made.as_slice() == RANDOMIZER.as_slice()
+}
+
 #[test]
 fn wide_randomizer_of_a_message(rt: HostRuntime) {
-    let msg = [2; 32];
-    let cut = Sha2_192s::prf_msg(&of_24(0), &of_24(1), &msg[..2], &msg[2..9], &msg[9..]);
-    assert_eq!(rt; cut.as_slice(), RANDOMIZER.as_slice());
+    assert!(rt; is_wide_randomizer());
 }
 
 // The Rust crate's test: a randomizer of 32 bytes 00, a seed of 32 bytes 01, a root of 32 bytes 02
@@ -72,14 +82,16 @@ const DIGEST: [u8; 49] = [
     0x35,
 ];
 
+fn is_wide_digest() -> bool {
+    let mut digest = [0; 49];
+    let (rand, seed, root) = (of_32(0), of_32(1), of_32(2));
+    Sha2_256f::h_msg(&rand, &seed, &root, &[3; 2], &[3; 7], &[3; 23], &mut digest);
+    digest == DIGEST
+}
+
 #[test]
 fn wide_digest_of_a_message(rt: HostRuntime) {
-    let msg = [3; 32];
-    let (head, rest) = msg.split_at(2);
-    let (ctx, end) = rest.split_at(7);
-    let mut digest = [0; 49];
-    Sha2_256f::h_msg(&of_32(0), &of_32(1), &of_32(2), head, ctx, end, &mut digest);
-    assert_eq!(rt; digest, DIGEST);
+    assert!(rt; is_wide_digest());
 }
 
 const SEED: [u8; 24] = [
@@ -111,33 +123,44 @@ const PRF_VALUE: [u8; 24] = [
     0x55, 0x15, 0xbc, 0x7a, 0xee, 0x51, 0x09, 0xe4,
 ];
 
-fn four_values<L: Ledger>(blank: Blank) -> [NBytes<U24>; 4]
+const ADRS: WotsHash = WotsHash {
+    layer_adrs: 1,
+    tree_adrs_low: 0x0203,
+    key_pair_adrs: 4,
+    chain_adrs: 5,
+    hash_adrs: 6,
+};
+
+fn is_f<L: Ledger>(keyed: &Sha2Keyed512<U24>, steps: &mut Steps<L>) -> bool {
+    Sha2_192f::f(keyed, &ADRS, &of_24(7), steps).as_slice() == F_VALUE.as_slice()
+}
+
+fn is_h<L: Ledger>(keyed: &Sha2Keyed512<U24>, steps: &mut Steps<L>) -> bool {
+    Sha2_192f::h(keyed, &ADRS, &of_24(7), &of_24(8), steps).as_slice() == H_VALUE.as_slice()
+}
+
+fn is_t<L: Ledger>(keyed: &Sha2Keyed512<U24>, steps: &mut Steps<L>) -> bool {
+    Sha2_192f::t(keyed, &ADRS, &[9; 100], steps).as_slice() == T_VALUE.as_slice()
+}
+
+fn is_prf<L: Ledger>(keyed: &Sha2Keyed512<U24>, steps: &mut Steps<L>) -> bool {
+    Sha2_192f::prf_sk(keyed, &of_24(10), &ADRS, steps).as_slice() == PRF_VALUE.as_slice()
+}
+
+fn are_wide_hashes<L: Ledger>(blank: Blank) -> bool
     requires fresh { IsFresh blank L.name L.parts }
 {
     let mut steps = Steps::<L>::new(blank);
     let keyed = Sha2_192f::keyed(&NBytes::exact(&SEED));
-    let adrs = WotsHash {
-        layer_adrs: 1,
-        tree_adrs_low: 0x0203,
-        key_pair_adrs: 4,
-        chain_adrs: 5,
-        hash_adrs: 6,
-    };
-    [
-        Sha2_192f::f(&keyed, &adrs, &of_24(7), &mut steps),
-        Sha2_192f::h(&keyed, &adrs, &of_24(7), &of_24(8), &mut steps),
-        Sha2_192f::t(&keyed, &adrs, &[9; 100], &mut steps),
-        Sha2_192f::prf_sk(&keyed, &of_24(10), &adrs, &mut steps),
-    ]
+    is_f(&keyed, &mut steps)
+        && is_h(&keyed, &mut steps)
+        && is_t(&keyed, &mut steps)
+        && is_prf(&keyed, &mut steps)
 }
 
 #[test]
 fn wide_hashes_of_an_address(rt: HostRuntime) {
-    let [f, h, t, prf] = four_values::<Brand>(Blank::new(1));
-    assert_eq!(rt; f.as_slice(), F_VALUE.as_slice());
-    assert_eq!(rt; h.as_slice(), H_VALUE.as_slice());
-    assert_eq!(rt; t.as_slice(), T_VALUE.as_slice());
-    assert_eq!(rt; prf.as_slice(), PRF_VALUE.as_slice());
+    assert!(rt; are_wide_hashes::<Brand>(Blank::new(1)));
 }
 
 // MGF1 of the four bytes of "seed": its first 65 bytes, and the last 32 of 256.
@@ -163,13 +186,14 @@ fn starts_alike(len: usize) -> bool
     mask[..len] == MASK_START[..len]
 }
 
-#[test]
-fn wide_masks(rt: HostRuntime) {
-    assert!(rt; starts_alike(0));
-    assert!(rt; starts_alike(1));
-    assert!(rt; starts_alike(64));
-    assert!(rt; starts_alike(65));
+fn ends_alike() -> bool {
     let mut mask = [0; 256];
     mgf1_512(b"seed", &mut mask);
-    assert_eq!(rt; mask[224..], MASK_END[..]);
+    mask[224..] == MASK_END[..]
+}
+
+#[test]
+fn wide_masks(rt: HostRuntime) {
+    assert!(rt; starts_alike(0) && starts_alike(1) && starts_alike(64) && starts_alike(65));
+    assert!(rt; ends_alike());
 }

@@ -3,11 +3,12 @@
 ghost use Rattle.std.specs.Prelude.{◌≤◌};
 ghost use Rattle.slh_core.specs.Steps.{IsFresh};
 
+use hybrid_array::sizes::{U16, U32};
 use slh_core::address::{ForsTree, HashTree, WotsHash};
 use slh_core::nbytes::NBytes;
 use slh_core::steps::Steps;
 use slh_core::suite::HashSuite;
-use slh_hash::{Sha2_128f, Sha2_192f, Sha2_256f};
+use slh_hash::{Sha2_128f, Sha2_192f, Sha2_256f, Sha2Keyed, Sha2Keyed512};
 use std::marker::Brand;
 use std::sync::ledger::{Blank, Ledger};
 
@@ -30,12 +31,17 @@ const SEED: [u8; 32] = [
 ];
 
 // The bytes from 0 on, and after 255 from 0 again.
-fn counted<const LEN: usize>() -> [u8; LEN] {
-    let mut bytes = [0; LEN];
-    for i in 0..LEN {
+fn counted() -> [u8; PAIRS_LEN] {
+    let mut bytes = [0; PAIRS_LEN];
+    for i in 0..PAIRS_LEN {
         bytes[i] = (i % 256) as u8;
     }
     bytes
+}
+
+// The state for the public seed of a set whose values have 16 bytes.
+fn keyed() -> Sha2Keyed<U16> {
+    Sha2_128f::keyed(&NBytes::exact(&SEED[..16]))
 }
 
 // The steps 6 of the chains of key pair 4 of tree 0x0203 of layer 1.
@@ -66,34 +72,31 @@ const F_ROW: [u8; ROW_LEN] = [
     0xa2, 0xe5, 0xc7, 0x0e, 0x85, 0x90, 0xe3, 0x93, 0x46, 0x1e, 0x6a, 0x8c, 0x9f, 0xb7, 0x6f, 0x28,
 ];
 
-// The first values, and other bytes after them.
-fn first_steps<L: Ledger>(blank: Blank, count: usize) -> [u8; ROW_LEN]
-    requires fresh { IsFresh blank L.name L.parts }
-    requires short { count ≤ LONGEST }
-{
-    let mut steps = Steps::<L>::new(blank);
-    let keyed = Sha2_128f::keyed(&NBytes::exact(&SEED[..16]));
-    let mut bytes = counted::<ROW_LEN>();
-    let values = &mut bytes[..count * 16];
-    Sha2_128f::f_each(&keyed, &chains(), &NUMBERS[..count], values, &mut steps);
-    bytes
-}
-
-fn steps_alike(count: usize) -> bool
+fn steps_alike<L: Ledger>(count: usize, keyed: &Sha2Keyed<U16>, steps: &mut Steps<L>) -> bool
     requires { count ≤ LONGEST }
 {
-    let values = first_steps::<Brand>(Blank::new(1), count);
-    values[..count * 16] == F_ROW[..count * 16]
+    let mut bytes = counted();
+    let values = &mut bytes[..count * 16];
+    Sha2_128f::f_each(keyed, &chains(), &NUMBERS[..count], values, steps);
+    bytes[..count * 16] == F_ROW[..count * 16]
+}
+
+fn all_steps_alike<L: Ledger>(blank: Blank) -> bool
+    requires fresh { IsFresh blank L.name L.parts }
+{
+    let mut steps = Steps::<L>::new(blank);
+    let keyed = keyed();
+    steps_alike(1, &keyed, &mut steps)
+        && steps_alike(2, &keyed, &mut steps)
+        && steps_alike(4, &keyed, &mut steps)
+        && steps_alike(5, &keyed, &mut steps)
+        && steps_alike(8, &keyed, &mut steps)
+        && steps_alike(13, &keyed, &mut steps)
 }
 
 #[test]
 fn steps_of_rows(rt: HostRuntime) {
-    assert!(rt; steps_alike(1));
-    assert!(rt; steps_alike(2));
-    assert!(rt; steps_alike(4));
-    assert!(rt; steps_alike(5));
-    assert!(rt; steps_alike(8));
-    assert!(rt; steps_alike(13));
+    assert!(rt; all_steps_alike::<Brand>(Blank::new(1)));
 }
 
 // PRF of 16 bytes 0a at the secrets of the same chains.
@@ -113,34 +116,37 @@ const PRF_ROW: [u8; ROW_LEN] = [
     0xd7, 0x54, 0xd3, 0x88, 0xeb, 0xa5, 0xb8, 0xbc, 0xa4, 0x8a, 0x5f, 0xd4, 0x63, 0x80, 0x7a, 0x4f,
 ];
 
-// The first secrets, and zeros after them.
-fn first_secrets<L: Ledger>(blank: Blank, count: usize) -> [u8; ROW_LEN]
-    requires fresh { IsFresh blank L.name L.parts }
-    requires short { count ≤ LONGEST }
-{
-    let mut steps = Steps::<L>::new(blank);
-    let keyed = Sha2_128f::keyed(&NBytes::exact(&SEED[..16]));
-    let seed = NBytes::exact(&[10; 16]);
-    let adrs = chains().prf_adrs();
-    let mut bytes = [0; ROW_LEN];
-    let secrets = &mut bytes[..count * 16];
-    Sha2_128f::prf_each(&keyed, &seed, &adrs, &NUMBERS[..count], secrets, &mut steps);
-    bytes
-}
-
-fn secrets_alike(count: usize) -> bool
+fn secrets_alike<L: Ledger>(count: usize, keyed: &Sha2Keyed<U16>, steps: &mut Steps<L>) -> bool
     requires { count ≤ LONGEST }
 {
-    let secrets = first_secrets::<Brand>(Blank::new(1), count);
-    secrets[..count * 16] == PRF_ROW[..count * 16]
+    let seed = NBytes::exact(&[10; 16]);
+    let mut bytes = [0; ROW_LEN];
+    let secrets = &mut bytes[..count * 16];
+    Sha2_128f::prf_each(
+        keyed,
+        &seed,
+        &chains().prf_adrs(),
+        &NUMBERS[..count],
+        secrets,
+        steps,
+    );
+    bytes[..count * 16] == PRF_ROW[..count * 16]
+}
+
+fn all_secrets_alike<L: Ledger>(blank: Blank) -> bool
+    requires fresh { IsFresh blank L.name L.parts }
+{
+    let mut steps = Steps::<L>::new(blank);
+    let keyed = keyed();
+    secrets_alike(1, &keyed, &mut steps)
+        && secrets_alike(3, &keyed, &mut steps)
+        && secrets_alike(6, &keyed, &mut steps)
+        && secrets_alike(13, &keyed, &mut steps)
 }
 
 #[test]
 fn secrets_of_rows(rt: HostRuntime) {
-    assert!(rt; secrets_alike(1));
-    assert!(rt; secrets_alike(3));
-    assert!(rt; secrets_alike(6));
-    assert!(rt; secrets_alike(13));
+    assert!(rt; all_secrets_alike::<Brand>(Blank::new(1)));
 }
 
 // H of the bytes from 0 on, 32 a node, at height 6 of the forest of key pair 4 of tree 0x0203.
@@ -160,40 +166,36 @@ const H_ROW: [u8; ROW_LEN] = [
     0x3d, 0xcc, 0x05, 0x02, 0x0e, 0x0a, 0xd9, 0x89, 0x0b, 0xac, 0x88, 0x0a, 0xa5, 0xdc, 0xc8, 0x72,
 ];
 
-// The first parents, and zeros after them.
-fn first_parents<L: Ledger>(blank: Blank, count: usize) -> [u8; ROW_LEN]
-    requires fresh { IsFresh blank L.name L.parts }
-    requires short { count ≤ LONGEST }
+fn parents_alike<L: Ledger>(count: usize, keyed: &Sha2Keyed<U16>, steps: &mut Steps<L>) -> bool
+    requires { count ≤ LONGEST }
 {
-    let mut steps = Steps::<L>::new(blank);
-    let keyed = Sha2_128f::keyed(&NBytes::exact(&SEED[..16]));
     let adrs = ForsTree {
         tree_adrs_low: 0x0203,
         key_pair_adrs: 4,
         tree_height: 6,
         tree_index: 0,
     };
-    let bytes = counted::<PAIRS_LEN>();
-    let pairs = &bytes[..count * 32];
-    let mut out = [0; ROW_LEN];
-    let parents = &mut out[..count * 16];
-    Sha2_128f::h_each(&keyed, &adrs, &NUMBERS[..count], pairs, parents, &mut steps);
-    out
+    let pairs = &counted()[..count * 32];
+    let mut bytes = [0; ROW_LEN];
+    let parents = &mut bytes[..count * 16];
+    Sha2_128f::h_each(keyed, &adrs, &NUMBERS[..count], pairs, parents, steps);
+    bytes[..count * 16] == H_ROW[..count * 16]
 }
 
-fn parents_alike(count: usize) -> bool
-    requires { count ≤ LONGEST }
+fn all_parents_alike<L: Ledger>(blank: Blank) -> bool
+    requires fresh { IsFresh blank L.name L.parts }
 {
-    let parents = first_parents::<Brand>(Blank::new(1), count);
-    parents[..count * 16] == H_ROW[..count * 16]
+    let mut steps = Steps::<L>::new(blank);
+    let keyed = keyed();
+    parents_alike(1, &keyed, &mut steps)
+        && parents_alike(3, &keyed, &mut steps)
+        && parents_alike(6, &keyed, &mut steps)
+        && parents_alike(13, &keyed, &mut steps)
 }
 
 #[test]
 fn parents_of_rows(rt: HostRuntime) {
-    assert!(rt; parents_alike(1));
-    assert!(rt; parents_alike(3));
-    assert!(rt; parents_alike(6));
-    assert!(rt; parents_alike(13));
+    assert!(rt; all_parents_alike::<Brand>(Blank::new(1)));
 }
 
 // F of the bytes from 0 on, 24 a chain: SHA-256.
@@ -209,14 +211,26 @@ const WIDE_F_ROW: [u8; 144] = [
     0xbe, 0x38, 0x9f, 0xa4, 0x67, 0xdc, 0x7b, 0xfa, 0x58, 0x99, 0x23, 0x20, 0xa9, 0x92, 0x88, 0x5c,
 ];
 
-fn wide_steps<L: Ledger>(blank: Blank) -> [u8; 144]
+fn wide_steps_alike<L: Ledger>(count: usize, steps: &mut Steps<L>) -> bool
+    requires { count ≤ 6 }
+{
+    let keyed = Sha2_192f::keyed(&NBytes::exact(&SEED[..24]));
+    let mut bytes = counted();
+    let values = &mut bytes[..count * 24];
+    Sha2_192f::f_each(&keyed, &chains(), &NUMBERS[..count], values, steps);
+    bytes[..count * 24] == WIDE_F_ROW[..count * 24]
+}
+
+fn all_wide_steps_alike<L: Ledger>(blank: Blank) -> bool
     requires fresh { IsFresh blank L.name L.parts }
 {
     let mut steps = Steps::<L>::new(blank);
-    let keyed = Sha2_192f::keyed(&NBytes::exact(&SEED[..24]));
-    let mut values = counted();
-    Sha2_192f::f_each(&keyed, &chains(), &NUMBERS[..6], &mut values, &mut steps);
-    values
+    wide_steps_alike(6, &mut steps)
+}
+
+#[test]
+fn wide_steps_of_a_row(rt: HostRuntime) {
+    assert!(rt; all_wide_steps_alike::<Brand>(Blank::new(1)));
 }
 
 // A whole group of four pairs and two of the next.
@@ -238,43 +252,38 @@ const WIDE_H_ROW: [u8; 32 * WIDE_PAIRS] = [
     0xff, 0x8c, 0x1d, 0x5c, 0x72, 0x52, 0x37, 0x6a, 0xde, 0x4c, 0x70, 0xdf, 0xec, 0x44, 0x2a, 0xa8,
 ];
 
-// The first parents, and zeros after them.
-fn wide_parents<L: Ledger>(blank: Blank, count: usize) -> [u8; 32 * WIDE_PAIRS]
-    requires fresh { IsFresh blank L.name L.parts }
-    requires short { count ≤ WIDE_PAIRS }
+fn wide_parents_alike<L: Ledger>(
+    count: usize,
+    keyed: &Sha2Keyed512<U32>,
+    steps: &mut Steps<L>,
+) -> bool
+    requires { count ≤ WIDE_PAIRS }
 {
-    let mut steps = Steps::<L>::new(blank);
-    let keyed = Sha2_256f::keyed(&NBytes::exact(&SEED));
     let adrs = HashTree {
         layer_adrs: 1,
         tree_adrs_low: 0x0203,
         tree_height: 6,
         tree_index: 0,
     };
-    let bytes = counted::<384>();
-    let pairs = &bytes[..count * 64];
-    let mut out = [0; 32 * WIDE_PAIRS];
-    let parents = &mut out[..count * 32];
-    Sha2_256f::h_each(&keyed, &adrs, &NUMBERS[..count], pairs, parents, &mut steps);
-    out
+    let pairs = &counted()[..count * 64];
+    let mut bytes = [0; 32 * WIDE_PAIRS];
+    let parents = &mut bytes[..count * 32];
+    Sha2_256f::h_each(keyed, &adrs, &NUMBERS[..count], pairs, parents, steps);
+    bytes[..count * 32] == WIDE_H_ROW[..count * 32]
 }
 
-fn wide_parents_alike(count: usize) -> bool
-    requires { count ≤ WIDE_PAIRS }
+fn all_wide_parents_alike<L: Ledger>(blank: Blank) -> bool
+    requires fresh { IsFresh blank L.name L.parts }
 {
-    let parents = wide_parents::<Brand>(Blank::new(1), count);
-    parents[..count * 32] == WIDE_H_ROW[..count * 32]
-}
-
-#[test]
-fn wide_steps_of_a_row(rt: HostRuntime) {
-    assert_eq!(rt; wide_steps::<Brand>(Blank::new(1)), WIDE_F_ROW);
+    let mut steps = Steps::<L>::new(blank);
+    let keyed = Sha2_256f::keyed(&NBytes::exact(&SEED));
+    wide_parents_alike(1, &keyed, &mut steps)
+        && wide_parents_alike(3, &keyed, &mut steps)
+        && wide_parents_alike(4, &keyed, &mut steps)
+        && wide_parents_alike(6, &keyed, &mut steps)
 }
 
 #[test]
 fn wide_parents_of_rows(rt: HostRuntime) {
-    assert!(rt; wide_parents_alike(1));
-    assert!(rt; wide_parents_alike(3));
-    assert!(rt; wide_parents_alike(4));
-    assert!(rt; wide_parents_alike(6));
+    assert!(rt; all_wide_parents_alike::<Brand>(Blank::new(1)));
 }

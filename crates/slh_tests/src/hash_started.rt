@@ -5,7 +5,6 @@ ghost use Rattle.slh_core.specs.Steps.{IsFresh};
 
 use digest_core::{FixedOutput, Update};
 use hmac_sha256::WrappedHash;
-use hybrid_array::sizes::{U16, U32};
 use slh_core::address::{Address, WotsHash};
 use slh_core::nbytes::NBytes;
 use slh_core::steps::Steps;
@@ -35,30 +34,26 @@ fn by_hand(started: &WrappedHash, value: &[u8]) -> [u8; 32]
     digest
 }
 
-fn f_of_128f<L: Ledger>(blank: Blank) -> ([u8; 32], NBytes<U16>)
-    requires fresh { IsFresh blank L.name L.parts }
-{
-    let mut steps = Steps::<L>::new(blank);
+fn is_f_of_128f<L: Ledger>(steps: &mut Steps<L>) -> bool {
     let keyed = Sha2_128f::keyed(&NBytes::exact(&[3; 16]));
-    let value = NBytes::exact(&[7; 16]);
-    let hand = by_hand(keyed.started(), value.as_slice());
-    (hand, Sha2_128f::f(&keyed, &ADRS, &value, &mut steps))
+    let f = Sha2_128f::f(&keyed, &ADRS, &NBytes::exact(&[7; 16]), steps);
+    &by_hand(keyed.started(), &[7; 16])[..16] == f.as_slice()
 }
 
-fn f_of_256f<L: Ledger>(blank: Blank) -> ([u8; 32], NBytes<U32>)
+fn is_f_of_256f<L: Ledger>(steps: &mut Steps<L>) -> bool {
+    let keyed = Sha2_256f::keyed(&NBytes::exact(&[3; 32]));
+    let f = Sha2_256f::f(&keyed, &ADRS, &NBytes::exact(&[7; 32]), steps);
+    by_hand(keyed.started(), &[7; 32]).as_slice() == f.as_slice()
+}
+
+fn is_f<L: Ledger>(blank: Blank) -> bool
     requires fresh { IsFresh blank L.name L.parts }
 {
     let mut steps = Steps::<L>::new(blank);
-    let keyed = Sha2_256f::keyed(&NBytes::exact(&[3; 32]));
-    let value = NBytes::exact(&[7; 32]);
-    let hand = by_hand(keyed.started(), value.as_slice());
-    (hand, Sha2_256f::f(&keyed, &ADRS, &value, &mut steps))
+    is_f_of_128f(&mut steps) && is_f_of_256f(&mut steps)
 }
 
 #[test]
 fn the_kept_hash_gives_f(rt: HostRuntime) {
-    let (hand, f) = f_of_128f::<Brand>(Blank::new(1));
-    assert_eq!(rt; hand[..16], *f.as_slice());
-    let (hand, f) = f_of_256f::<Brand>(Blank::new(1));
-    assert_eq!(rt; hand[..], *f.as_slice());
+    assert!(rt; is_f::<Brand>(Blank::new(1)));
 }

@@ -1,22 +1,15 @@
 //! The example of the page of `slh_trees`.
-ghost use Rattle.slh_core.specs.Steps.{IsFresh};
-
 use slh_trees::sizes::frame_head;
 use slh_trees::toy::Toy;
-use slh_trees::{NBytes, SigView, Steps, check_root};
-use std::marker::Brand;
-use std::sync::ledger::{Blank, Ledger};
+use slh_trees::uncounted::check_root;
+use slh_trees::{NBytes, SigView};
 
-fn accepts<L: Ledger>(signature: &[u8], blank: Blank) -> bool
-    requires fresh { IsFresh blank L.name L.parts }
-{
+fn accepts(signature: &[u8]) -> bool {
     let Some(view) = SigView::<Toy>::new(signature) else {
         return false;
     };
-    let mut steps = Steps::<L>::new(blank);
     let (seed, root) = (NBytes::exact(&[3]), NBytes::exact(&[0xe1]));
-    let head = frame_head(&[]);
-    let found = check_root::<Toy, L>(&seed, &root, &head, &[], &[0x48], &view, &mut steps);
+    let found = check_root::<Toy>(&seed, &root, &frame_head(&[]), &[], &[0x48], &view);
     found == root
 }
 
@@ -29,10 +22,8 @@ const SIGNATURE: [u8; 21] = [
 
 #[test]
 fn example_of_the_page_of_trees(rt: HostRuntime) {
-    assert!(rt; accepts::<Brand>(&SIGNATURE, Blank::new(1)));
-    assert!(rt; !accepts::<Brand>(&SIGNATURE[..20], Blank::new(1)));
     // The root is 228 then.
     let mut changed = SIGNATURE;
     changed[18] = 0x21;
-    assert!(rt; !accepts::<Brand>(&changed, Blank::new(1)));
+    assert!(rt; accepts(&SIGNATURE) && !accepts(&SIGNATURE[..20]) && !accepts(&changed));
 }

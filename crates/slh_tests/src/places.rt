@@ -1,90 +1,99 @@
 // The places of the toy suite's signatures: none shows against a key's own bytes, and none that
 // isn't there shows at all.
-use crate::audits::{chain_step, early, fors_node, leaf, tree_node};
-use crate::worked::{KEY, MESSAGE, SIGNATURE};
-use slh_audit::{Evidence, check_evidence};
-use slh_trees::toy::Toy;
-use std::alloc::{AllocError, Global};
-use std::test::Fail;
+use crate::audits::{chain_step, checked, early, fors_node, leaf, tree_node};
+use crate::worked::{SIGNATURE, changed};
+use slh_audit::Evidence;
 
-fn put_chain(layer: u32, chain: u32, places: &mut Vec<Evidence>) -> Result<(), AllocError> {
-    for step in 0..15 {
-        places.push(chain_step(layer, chain, step))?;
-    }
-    places.push(early(layer, chain))?;
-    Ok(())
+// Whether a place doesn't show against bytes.
+fn is_quiet(sig: &[u8; 21], evidence: Evidence) -> bool {
+    checked(sig, evidence) == Ok(false)
 }
 
-fn put_layer(layer: u32, places: &mut Vec<Evidence>) -> Result<(), AllocError> {
-    places.push(tree_node(layer, 1))?;
-    places.push(tree_node(layer, 2))?;
-    places.push(leaf(layer))?;
-    for chain in 0..5 {
-        put_chain(layer, chain, places)?;
+// The places of a layer: 15 steps and an early value of each of five chains, a leaf and two nodes.
+const PLACES_OF_LAYER: u32 = 5 * 16 + 1 + 2;
+
+fn place_of_chain(layer: u32, chain: u32, k: u32) -> Evidence {
+    match k {
+        15 => early(layer, chain),
+        _ => chain_step(layer, chain, k),
     }
-    Ok(())
 }
 
-fn put_forest(places: &mut Vec<Evidence>) -> Result<(), AllocError> {
-    places.push(Evidence::ForsRoots)?;
-    for tree in 0..2 {
-        for height in 0..3 {
-            places.push(fors_node(tree, height))?;
+fn place_of_layer(layer: u32, k: u32) -> Evidence {
+    match k {
+        80 => leaf(layer),
+        81 => tree_node(layer, 1),
+        82 => tree_node(layer, 2),
+        _ => place_of_chain(layer, k / 16, k % 16),
+    }
+}
+
+fn is_layer_quiet(layer: u32) -> bool {
+    for k in 0..PLACES_OF_LAYER {
+        if !is_quiet(&SIGNATURE, place_of_layer(layer, k)) {
+            return false;
         }
     }
-    Ok(())
+    true
 }
 
-fn all_places(alloc: Global) -> Result<Vec<Evidence>, AllocError> {
-    let mut places = Vec::new(alloc);
-    put_layer(0, &mut places)?;
-    put_layer(1, &mut places)?;
-    put_forest(&mut places)?;
-    Ok(places)
-}
+// The places of the forest: three nodes in each of two trees, and the roots.
+const PLACES_OF_FOREST: u32 = 2 * 3 + 1;
 
-// On each of two layers two tree nodes, a leaf, 75 chain steps and five early values; the forest's
-// roots, and three nodes in each of two trees.
-#[test]
-fn none_of_173_places_shows_against_own_bytes(rt: HostRuntime) -> Result<(), Fail> {
-    let places = all_places(rt.alloc())?;
-    assert_eq!(rt; places.len(), 2 * (2 + 1 + 75 + 5) + 1 + 6);
-    assert_eq!(rt; places.len(), 173);
-    for evidence in places.as_slice() {
-        let shown = check_evidence::<Toy>(&KEY, &[], &MESSAGE, &SIGNATURE, evidence);
-        assert!(rt; shown == Ok(false));
+fn place_of_forest(k: u32) -> Evidence {
+    match k {
+        6 => Evidence::ForsRoots,
+        _ => fors_node(k / 3, k % 3),
     }
-    Ok(())
+}
+
+fn is_forest_quiet() -> bool {
+    for k in 0..PLACES_OF_FOREST {
+        if !is_quiet(&SIGNATURE, place_of_forest(k)) {
+            return false;
+        }
+    }
+    true
+}
+
+#[test]
+fn none_of_173_places_shows_against_own_bytes(rt: HostRuntime) {
+    assert!(rt; 2 * PLACES_OF_LAYER + PLACES_OF_FOREST == 173);
+    assert!(rt; is_layer_quiet(0) && is_layer_quiet(1) && is_forest_quiet());
+}
+
+// Whether a place shows neither against the key's own bytes nor against other accepted ones.
+fn shows_nothing(evidence: Evidence) -> bool {
+    is_quiet(&SIGNATURE, evidence) && is_quiet(&changed(&[(20, 0x3f)]), evidence)
+}
+
+fn no_tree_of_the_forest_shows() -> bool {
+    shows_nothing(fors_node(2, 0))
+        && shows_nothing(fors_node(0, 3))
+        && shows_nothing(fors_node(u32::MAX, 0))
+        && shows_nothing(fors_node(0, u32::MAX))
+}
+
+fn no_chain_shows() -> bool {
+    shows_nothing(chain_step(2, 0, 0))
+        && shows_nothing(chain_step(0, 5, 0))
+        && shows_nothing(chain_step(0, 0, 15))
+        && shows_nothing(chain_step(0, 0, u32::MAX))
+        && shows_nothing(early(2, 0))
+        && shows_nothing(early(0, 5))
+        && shows_nothing(early(u32::MAX, u32::MAX))
+}
+
+fn no_tree_shows() -> bool {
+    shows_nothing(leaf(2))
+        && shows_nothing(leaf(u32::MAX))
+        && shows_nothing(tree_node(2, 1))
+        && shows_nothing(tree_node(0, 0))
+        && shows_nothing(tree_node(0, 3))
+        && shows_nothing(tree_node(0, u32::MAX))
 }
 
 #[test]
 fn a_place_that_is_not_there_shows_nothing(rt: HostRuntime) {
-    let last = u32::MAX;
-    let places = [
-        fors_node(2, 0),
-        fors_node(0, 3),
-        fors_node(last, 0),
-        fors_node(0, last),
-        chain_step(2, 0, 0),
-        chain_step(0, 5, 0),
-        chain_step(0, 0, 15),
-        chain_step(0, 0, last),
-        leaf(2),
-        leaf(last),
-        tree_node(2, 1),
-        tree_node(0, 0),
-        tree_node(0, 3),
-        tree_node(0, last),
-        early(2, 0),
-        early(0, 5),
-        early(last, last),
-    ];
-    let mut changed = SIGNATURE;
-    changed[20] = 0x3f;
-    for evidence in places {
-        for sig in [SIGNATURE, changed] {
-            let shown = check_evidence::<Toy>(&KEY, &[], &MESSAGE, &sig, &evidence);
-            assert!(rt; shown == Ok(false));
-        }
-    }
+    assert!(rt; no_tree_of_the_forest_shows() && no_chain_shows() && no_tree_shows());
 }

@@ -1,6 +1,11 @@
 // A key of the toy suite with secret seed 5, PRF key 7 and public seed 3, and its signature of the
 // message 48 under an empty context without a randomizer. The values were worked by hand from the
 // definitions.
+// Each operation on keys of the suite stands here once: a call that names a set is dear to prove.
+
+use slh_dsa::{Error, Signature, SigningKey, VerifyingKey};
+use slh_trees::toy::Toy;
+use std::alloc::Global;
 
 pub(crate) const KEY: [u8; 4] = [5, 7, 3, 0xe1];
 
@@ -13,3 +18,37 @@ pub(crate) const SIGNATURE: [u8; 21] = [
 ];
 
 pub(crate) const LONG_CONTEXT: [u8; 256] = [0; 256];
+
+// The signature with some of its bytes changed, and zeros where it has no such place.
+pub(crate) fn changed(changes: &[(usize, u8)]) -> [u8; 21] {
+    let mut sig = SIGNATURE;
+    for (place, value) in changes {
+        if *place >= 21 {
+            return [0; 21];
+        }
+        sig[*place] = *value;
+    }
+    sig
+}
+
+pub(crate) fn signing_key(bytes: &[u8]) -> Result<SigningKey<Toy>, Error> {
+    SigningKey::try_from(bytes)
+}
+
+pub(crate) fn verifying_key(bytes: &[u8]) -> Result<VerifyingKey<Toy>, Error> {
+    VerifyingKey::try_from(bytes)
+}
+
+pub(crate) fn signed(
+    alloc: Global,
+    key: &SigningKey<Toy>,
+    message: &[u8],
+    ctx: &[u8],
+    opt_rand: Option<&[u8]>,
+) -> Result<Signature<Toy>, Error> {
+    key.try_sign_with_context(alloc, message, ctx, opt_rand)
+}
+
+pub(crate) fn are_equal(one: &Signature<Toy>, other: &Signature<Toy>) -> bool {
+    one == other
+}

@@ -1,4 +1,4 @@
 use Rattle.slh_tests.proofs.counting.key_pairs_make_the_calls_of_their_algorithms.Given as goal
 
-abbrev pub ghosts-key_pair_calls : goal.ghosts-key_pair_calls
-ghosts-key_pair_calls g a = record { name = a.blank.name; parts = a.blank.parts }
+abbrev pub ghosts-are_calls_of_key_pairs : goal.ghosts-are_calls_of_key_pairs
+ghosts-are_calls_of_key_pairs g a = record { name = a.blank.name; parts = a.blank.parts }
