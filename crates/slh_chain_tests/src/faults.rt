@@ -1,6 +1,7 @@
 //! Chains of SLH-DSA-SHA2-128f: their ends, and a fault in the first, the second and the last link.
-use crate::links::{BODY_LEN, FIRST, LINK_LEN, Link, key, write_link};
-use slh_chain::{ChainError, walk};
+use crate::links::{BODY_LEN, FIRST, LINK_LEN, Link, public, write_link};
+use slh_chain::{ChainError, End, walk};
+use slh_dsa::Sha2_128f;
 use std::alloc::Global;
 
 // From key 2 to key 3, and from there to key 4.
@@ -27,41 +28,57 @@ fn two_links(alloc: Global, first: Link, second: Link) -> Option<Two> {
     if is_made { Some(chain) } else { None }
 }
 
-// The end of the two links: whether it is key 3, the budget, and the number of links.
-fn end_of_two(alloc: Global) -> Option<(bool, u8, u32)> {
+// Whether the two links end with key 3, budget 2 and two links.
+fn ends_with_last(alloc: Global) -> Option<bool> {
     let chain = two_links(alloc, FIRST, SECOND)?;
-    let end = walk(&key(1)?.verifying_key(), &chain).ok()?;
-    Some((end.key == key(3)?.verifying_key(), end.budget, end.links))
+    let end = walk(&public(1)?, &chain).ok()?;
+    Some(end.key == public(3)? && end.budget == 2 && end.links == 2)
 }
 
 #[test]
 fn two_links_of_falling_depths_end_with_the_last_subject(rt: HostRuntime) {
-    assert!(rt; end_of_two(rt.alloc()) == Some((true, 2, 2)));
+    assert!(rt; ends_with_last(rt.alloc()) == Some(true));
 }
 
-fn fault(chain: &[u8]) -> Option<ChainError> {
-    walk(&key(1)?.verifying_key(), chain).err()
+fn is_error(end: Result<End<Sha2_128f>, ChainError>, fault: ChainError) -> bool {
+    match end {
+        Ok(_) => false,
+        Err(found) => found == fault,
+    }
 }
 
-fn fault_of_two(alloc: Global, first: Link, second: Link) -> Option<ChainError> {
-    fault(&two_links(alloc, first, second)?)
+fn has_fault(chain: &[u8], fault: ChainError) -> bool {
+    match public(1) {
+        Some(root) => is_error(walk(&root, chain), fault),
+        None => false,
+    }
+}
+
+fn have_fault(alloc: Global, first: Link, second: Link, fault: ChainError) -> bool {
+    match two_links(alloc, first, second) {
+        Some(chain) => has_fault(&chain, fault),
+        None => false,
+    }
 }
 
 #[test]
 fn two_links_of_depth_3_are_a_fault_of_budget_in_the_second(rt: HostRuntime) {
     let second = Link { depth: 3, ..SECOND };
-    assert!(rt; fault_of_two(rt.alloc(), FIRST, second) == Some(ChainError::Budget(1)));
+    assert!(rt; have_fault(rt.alloc(), FIRST, second, ChainError::Budget(1)));
 }
 
-#[test]
-fn a_link_of_a_key_that_is_not_asked_is_invalid(rt: HostRuntime) {
-    let alloc = rt.alloc();
+fn are_of_keys_asked(alloc: Global) -> bool {
     let other = Link {
         signer: 3,
         ..SECOND
     };
-    assert!(rt; fault_of_two(alloc, SECOND, THIRD) == Some(ChainError::Invalid(0)));
-    assert!(rt; fault_of_two(alloc, FIRST, other) == Some(ChainError::Invalid(1)));
+    have_fault(alloc, SECOND, THIRD, ChainError::Invalid(0))
+        && have_fault(alloc, FIRST, other, ChainError::Invalid(1))
+}
+
+#[test]
+fn a_link_of_a_key_that_is_not_asked_is_invalid(rt: HostRuntime) {
+    assert!(rt; are_of_keys_asked(rt.alloc()));
 }
 
 fn three_links(alloc: Global) -> Option<Three> {
@@ -74,23 +91,24 @@ fn three_links(alloc: Global) -> Option<Three> {
     }
 }
 
-// The fault of three links where a bit of a byte of one is another, which is put back.
-fn bent(chain: &mut Three, link: u32, place: usize) -> Option<ChainError> {
+// Whether a bit of a byte of one link is signed: changed, it is an invalid signature. It is put
+// back.
+fn is_signed(chain: &mut Three, link: u32, place: usize) -> bool {
     let at = LINK_LEN * (link % 3) as usize + place % LINK_LEN;
     chain[at] ^= 1;
-    let fault = fault(chain);
+    let is_signed = has_fault(chain, ChainError::Invalid(link));
     chain[at] ^= 1;
-    fault
+    is_signed
 }
 
-// Whether each of these places in each link is signed: a changed bit is an invalid signature.
+// Whether each of these places in each link is signed.
 fn are_signed(alloc: Global, places: &[usize]) -> bool {
     let Some(mut chain) = three_links(alloc) else {
         return false;
     };
     for link in 0..3 {
         for place in places {
-            if bent(&mut chain, link, *place) != Some(ChainError::Invalid(link)) {
+            if !is_signed(&mut chain, link, *place) {
                 return false;
             }
         }

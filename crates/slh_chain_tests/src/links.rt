@@ -1,6 +1,6 @@
 //! Links of SLH-DSA-SHA2-128f, and the refusals of making one.
 use slh_chain::{LinkError, delegate};
-use slh_dsa::{Sha2_128f, Signature, SigningKey};
+use slh_dsa::{Sha2_128f, Signature, SigningKey, VerifyingKey};
 use std::alloc::Global;
 
 // A link of a name of four bytes: depth and length, name, subject, signature.
@@ -12,6 +12,10 @@ pub(crate) const BODY_LEN: usize = 2 + 4 + 32;
 pub(crate) fn key(number: u8) -> Option<SigningKey<Sha2_128f>> {
     let seed = [number; 16];
     SigningKey::slh_keygen_internal(&seed, &seed, &seed).ok()
+}
+
+pub(crate) fn public(number: u8) -> Option<VerifyingKey<Sha2_128f>> {
+    Some(key(number)?.verifying_key())
 }
 
 // What a link says: by which key, for which, how deep.
@@ -28,11 +32,21 @@ pub(crate) const FIRST: Link = Link {
     depth: 3,
 };
 
-// The link by which one key lets another act under the name `name`.
-fn made(alloc: Global, link: Link) -> Option<Vec<u8>> {
+// The link, or why there is none.
+fn delegated(
+    alloc: Global,
+    link: Link,
+    name: &[u8],
+    opt_rand: Option<&[u8]>,
+) -> Option<Result<Vec<u8>, LinkError>> {
     let signer = key(link.signer)?;
-    let subject = key(link.subject)?.verifying_key();
-    delegate(alloc, &signer, b"name", link.depth, &subject, None).ok()
+    let subject = public(link.subject)?;
+    Some(delegate(alloc, &signer, name, link.depth, &subject, opt_rand))
+}
+
+// The link under the name `name`.
+fn made(alloc: Global, link: Link) -> Option<Vec<u8>> {
+    delegated(alloc, link, b"name", None)?.ok()
 }
 
 // Writes that link. The answer is whether it was made and has its length.
@@ -59,7 +73,7 @@ fn a_link_with_a_name_of_four_bytes_has_17126_bytes(rt: HostRuntime) {
 fn body() -> Option<[u8; BODY_LEN]> {
     let mut body = [0u8; BODY_LEN];
     body[..6].copy_from_slice(b"\x03\x04name");
-    key(2)?.verifying_key().write_to(&mut body[6..]);
+    public(2)?.write_to(&mut body[6..]);
     Some(body)
 }
 
@@ -67,8 +81,7 @@ fn body() -> Option<[u8; BODY_LEN]> {
 fn is_signed(alloc: Global, sig: &[u8]) -> Option<bool> {
     let body = body()?;
     let signature = Signature::try_from(alloc, sig).ok()?;
-    let public = key(1)?.verifying_key();
-    let verdict = public.try_verify_with_context(&body, b"slh-chain", &signature);
+    let verdict = public(1)?.try_verify_with_context(&body, b"slh-chain", &signature);
     Some(verdict == Ok(()))
 }
 
@@ -86,31 +99,50 @@ fn a_link_is_a_body_and_its_signature(rt: HostRuntime) {
     assert!(rt; has_body_and_signature(rt.alloc()) == Some(true));
 }
 
-// Why a link with this name, depth and randomizer isn't made.
-fn refusal(alloc: Global, name: &[u8], depth: u8, opt_rand: &[u8]) -> Option<LinkError> {
-    let key = key(1)?;
-    let subject = key.verifying_key();
-    delegate(alloc, &key, name, depth, &subject, Some(opt_rand)).err()
+// A name, a depth and a randomizer, and why a link with them isn't made.
+const REFUSED: [(&[u8], u8, &[u8], Option<LinkError>); 8] = [
+    (b"", 16, &[0; 15], Some(LinkError::Name)),
+    (&[0x61; 65], 15, &[0; 16], Some(LinkError::Name)),
+    (b"a", 16, &[0; 15], Some(LinkError::Depth)),
+    (b"a", 255, &[0; 16], Some(LinkError::Depth)),
+    (b"a", 15, &[0; 15], Some(LinkError::Randomizer)),
+    (b"a", 15, &[], Some(LinkError::Randomizer)),
+    (&[0x61; 64], 15, &[0; 16], None),
+    (b"a", 0, &[0; 16], None),
+];
+
+fn is_refused(
+    alloc: Global,
+    name: &[u8],
+    depth: u8,
+    opt_rand: &[u8],
+    error: Option<LinkError>,
+) -> bool {
+    let link = Link {
+        signer: 1,
+        subject: 1,
+        depth,
+    };
+    match delegated(alloc, link, name, Some(opt_rand)) {
+        Some(Ok(_)) => error.is_none(),
+        Some(Err(found)) => error == Some(found),
+        None => false,
+    }
 }
 
 #[test]
 fn the_first_refusal_is_answered(rt: HostRuntime) {
-    let alloc = rt.alloc();
-    assert!(rt; refusal(alloc, b"", 16, &[0; 15]) == Some(LinkError::Name));
-    assert!(rt; refusal(alloc, &[0x61; 65], 15, &[0; 16]) == Some(LinkError::Name));
-    assert!(rt; refusal(alloc, b"a", 16, &[0; 15]) == Some(LinkError::Depth));
-    assert!(rt; refusal(alloc, b"a", 255, &[0; 16]) == Some(LinkError::Depth));
-    assert!(rt; refusal(alloc, b"a", 15, &[0; 15]) == Some(LinkError::Randomizer));
-    assert!(rt; refusal(alloc, b"a", 15, &[]) == Some(LinkError::Randomizer));
-    assert!(rt; refusal(alloc, &[0x61; 64], 15, &[0; 16]).is_none());
-    assert!(rt; refusal(alloc, b"a", 0, &[0; 16]).is_none());
+    for (name, depth, opt_rand, error) in &REFUSED {
+        assert!(rt;
+            is_refused(rt.alloc(), name, *depth, opt_rand, *error),
+            "{error:?}"
+        );
+    }
 }
 
 // Whether a link is made, or there was no memory.
 fn is_made_or_tells_memory(alloc: Global) -> Option<bool> {
-    let key = key(1)?;
-    let subject = key.verifying_key();
-    match delegate(alloc, &key, b"name", 3, &subject, None) {
+    match delegated(alloc, FIRST, b"name", None)? {
         Ok(link) => Some(link.len() == LINK_LEN),
         Err(error) => Some(error == LinkError::Memory),
     }
