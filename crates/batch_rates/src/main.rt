@@ -7,7 +7,7 @@ ghost use Rattle.std.specs.Prelude.{◌<◌, IfSome};
 use line_serve::decimal_value;
 use line_stdio::words_of;
 use slh_batch::{Batch, BatchError, MAX_MESSAGES, Sealed, accept};
-use slh_dsa::{Sha2_128f, SigningKey, VerifyingKey};
+use slh_dsa::{ParameterSet, Sha2_128f, SigningKey, VerifyingKey};
 use std::alloc::Global;
 use std::process::ExitCode;
 
@@ -32,7 +32,11 @@ fn scattered(k: u32, count: u32) -> u32
 }
 
 // Takes receipts here and there in the batch.
-fn take_receipts(alloc: Global, sealed: &Sealed<Sha2_128f>, count: u32) -> Result<(), BatchError>
+fn take_receipts<P: ParameterSet>(
+    alloc: Global,
+    sealed: &Sealed<P>,
+    count: u32,
+) -> Result<(), BatchError>
     requires { 0 < count }
 {
     for k in 0..RECEIPTS {
@@ -42,10 +46,10 @@ fn take_receipts(alloc: Global, sealed: &Sealed<Sha2_128f>, count: u32) -> Resul
 }
 
 // Whether some receipts are accepted.
-fn are_accepted(
+fn are_accepted<P: ParameterSet>(
     alloc: Global,
-    sealed: &Sealed<Sha2_128f>,
-    key: &VerifyingKey<Sha2_128f>,
+    sealed: &Sealed<P>,
+    key: &VerifyingKey<P>,
     count: u32,
 ) -> Result<bool, BatchError>
     requires { 0 < count }
@@ -60,12 +64,12 @@ fn are_accepted(
     Ok(true)
 }
 
-// Whether each step was done.
-fn run(rt: &HostRuntime, count: u32) -> Option<bool>
+// Whether each step was done, in a set whose seeds have 16 bytes.
+fn run<P: ParameterSet>(rt: &HostRuntime, count: u32) -> Option<bool>
     requires { 0 < count }
 {
     let alloc = rt.alloc();
-    let key = SigningKey::<Sha2_128f>::slh_keygen_internal(&[1; 16], &[2; 16], &[3; 16]).ok()?;
+    let key = SigningKey::<P>::slh_keygen_internal(&[1; 16], &[2; 16], &[3; 16]).ok()?;
     println!(rt; "begun").ok()?;
     let batch = pushed(alloc, count).ok()?;
     println!(rt; "pushed {count}").ok()?;
@@ -91,7 +95,7 @@ fn main(rt: HostRuntime) -> ExitCode {
     let Some(count) = count_of(&rt) else {
         return ExitCode::from(2);
     };
-    match run(&rt, count) {
+    match run::<Sha2_128f>(&rt, count) {
         Some(true) => ExitCode::SUCCESS,
         _ => ExitCode::from(1),
     }
