@@ -1,45 +1,14 @@
 -- How the hash value and the bytes that are held follow a message as it grows.
-use Rattle.std.proofs.Common.{◌≡◌, ℕ, zero, suc, ◌+◌, ◌-◌, ◌*◌, ◌/◌, ◌%◌, ◌^◌, ◌<◌, ◌≤◌, List, [], ◌∷◌, ◌++◌, length, take, drop, replicate, refl, sym, ap, ◌∙◌, arith, length-append, length-drop}
+use Rattle.std.proofs.Common.{◌≡◌, ℕ, suc, ◌+◌, ◌-◌, ◌*◌, ◌/◌, ◌%◌, ◌^◌, ◌<◌, ◌≤◌, List, [], ◌∷◌, ◌++◌, length, take, drop, replicate, refl, sym, ap, ◌∙◌, arith, length-append, length-drop}
 use Rattle.std.proofs.lemmas.List.{append_assoc, append-nil, drop-append-le, drop-drop, drop_all, take_all, take-append-le, take-append-drop, length-replicate, replicate-append-replicate, length-take-le}
 use Rattle.std.proofs.lemmas.Slice.{take-put_mid}
 use Rattle.std.specs.Int.{to_be_bytes, w64}
 use borrow.Rule.Slice.PartMut.{put_mid, post_of}
 use Rattle.hmac_sha256.specs.Hash.{HasAbsorbed, StandsFor}
-use Rattle.hmac_sha256.specs.Sha256.{compress, fold_blocks, initial_words, padding, sha256, word_bytes, zero_count}
+use Rattle.sha256_lanes.specs.Sha256.{compress, fold_blocks, initial_words, padding, sha256, word_bytes, zero_count}
 use Rattle.hmac_sha256.specs.declared.hashing.Hash.{Hash}
-use Rattle.word_lanes.proofs.Blocks.{take_ended}
-
-fold_blocks_first : (h p : List ℕ) (n : ℕ) → fold_blocks h p (suc n) ≡ fold_blocks (compress h (take 64 p)) (drop 64 p) n
-unfolding fold_blocks
-fold_blocks_first h p n = refl
-
--- one block more, at the end
-pub fold_blocks_next : (h p : List ℕ) (n : ℕ) → fold_blocks h p (n + 1) ≡ compress (fold_blocks h p n) (take 64 (drop (64 * n) p))
-unfolding fold_blocks
-fold_blocks_next h p zero = refl
-fold_blocks_next h p (suc n) =
-    let up : suc n + 1 ≡ suc (n + 1) = omega arith in
-    let place : 64 + 64 * n ≡ 64 * suc n = omega arith in
-    rw up (fold_blocks_next (compress h (take 64 p)) (drop 64 p) n
-    ∙ ap (λ (x : List ℕ). compress (fold_blocks h p (suc n)) (take 64 x)) (drop-drop (64 * n) 64 p ∙ ap (λ (k : ℕ). drop k p) place))
-
--- only the blocks that are counted matter
-pub fold_blocks-append : (h p x : List ℕ) (n : ℕ) → 64 * n ≤ length p → fold_blocks h (p ++ x) n ≡ fold_blocks h p n
-unfolding fold_blocks
-fold_blocks-append h p x zero fits = refl
-fold_blocks-append h p x (suc n) fits =
-    rw (take-append-le 64 p x (omega arith), drop-append-le 64 p x (omega arith))
-    (fold_blocks-append (compress h (take 64 p)) (drop 64 p) x n (omega (arith, length-drop 64 p)))
-
--- the first blocks, and then the others
-pub fold_blocks-add : (h p : List ℕ) (k n : ℕ) → fold_blocks h p (k + n) ≡ fold_blocks (fold_blocks h p k) (drop (64 * k) p) n
-unfolding fold_blocks
-fold_blocks-add h p zero n = let none : zero + n ≡ n = omega arith in rw none refl
-fold_blocks-add h p (suc k) n =
-    let count : suc k + n ≡ suc (k + n) = omega arith in
-    let place : 64 + 64 * k ≡ 64 * suc k = omega arith in
-    rw count (fold_blocks-add (compress h (take 64 p)) (drop 64 p) k n
-    ∙ ap (λ (x : List ℕ). fold_blocks (fold_blocks h p (suc k)) x n) (drop-drop (64 * k) 64 p ∙ ap (λ (j : ℕ). drop j p) place))
+use Rattle.sha256_lanes.proofs.Ending.{length-ended}
+use Rattle.sha256_lanes.proofs.Folding.{fold_blocks-add, fold_blocks-append, fold_blocks_first}
 
 length-rest : (words bytes : List ℕ) (count : ℕ) (m : List ℕ) → HasAbsorbed words bytes count m → length bytes ≡ length m % 64
 length-rest words bytes count m held = omega (arith, ap length held.rest, length-drop (64 * (length m / 64)) m)
@@ -106,26 +75,14 @@ sha256-HasAbsorbed words bytes count m x held whole =
 
 -- ---- the padding
 
-length-ended : (bytes ending : List ℕ) (k : ℕ) → length ((bytes ++ 0x80 ∷ replicate k 0) ++ ending) ≡ length bytes + (suc k + length ending)
-length-ended bytes ending k =
-    omega (arith, length-append (bytes ++ 0x80 ∷ replicate k 0) ending, length-append bytes (0x80 ∷ replicate k 0), length-replicate {A = ℕ} k 0)
-
 -- the digest where the padding fits one block
-pub sha256_in_one_block : (words bytes : List ℕ) (count : ℕ) (m block : List ℕ) → HasAbsorbed words bytes count m → length bytes < 56
-    → block ≡ take 56 (bytes ++ 0x80 ∷ replicate (63 - length bytes) 0) ++ to_be_bytes w64 (8 * count % 2 ^ 64)
+pub sha256_in_one_block : (words bytes : List ℕ) (count : ℕ) (m block : List ℕ) → HasAbsorbed words bytes count m
+    → length bytes < 56 → count % 64 ≡ length bytes → block ≡ bytes ++ padding count
     → word_bytes (compress words block) ≡ sha256 m
 unfolding fold_blocks
-sha256_in_one_block words bytes count m block held short is =
-    let r : ℕ = length bytes in
-    let held_len = length-rest words bytes count m held in
-    let zeros : zero_count (length m) ≡ 55 - r = omega arith in
-    let ending : List ℕ = to_be_bytes w64 (8 * length m % 2 ^ 64) in
-    let front : take 56 (bytes ++ 0x80 ∷ replicate (63 - r) 0) ≡ bytes ++ 0x80 ∷ replicate (55 - r) 0 =
-    take_ended 56 (63 - r) bytes 0x80 (omega arith) (omega arith) in
-    let same : block ≡ (bytes ++ 0x80 ∷ replicate (55 - r) 0) ++ ending = is ∙ rw (front, held.counted) refl in
-    let whole : block ≡ bytes ++ padding (length m) = same ∙ append_assoc bytes (0x80 ∷ replicate (55 - r) 0) ending ∙ rw zeros refl in
-    let eight : length ending ≡ 8 = refl in
-    let size : length block ≡ 64 = omega (arith, ap length same, length-ended bytes ending (55 - r)) in
+sha256_in_one_block words bytes count m block held short left is =
+    let whole : block ≡ bytes ++ padding (length m) = is ∙ rw held.counted refl in
+    let size : length block ≡ 64 = ap length is ∙ length-ended bytes count short left in
     let one : length block / 64 ≡ 1 = omega arith in
     sym (sha256-HasAbsorbed words bytes count m block held whole ∙ rw (one, take_all 64 block (omega arith)) refl)
 

@@ -6,7 +6,7 @@ use Rattle.std.proofs.lemmas.Slice.{take-put_mid}
 use Rattle.std.proofs.Math.Seq.{take-append-add, drop-append-add}
 use Rattle.hmac_sha256.specs.Hkdf.{output_block, output_blocks}
 use Rattle.hmac_sha256.specs.Hmac.{hmac_sha256}
-use Rattle.hmac_sha256.proofs.Digest.{length-hmac_sha256}
+use Rattle.hmac_sha256.proofs.Codes.{length-hmac_sha256}
 use borrow.Rule.Slice.PartMut.{put_mid}
 
 module _ (prk info : List ℕ) where

@@ -3,7 +3,7 @@ use Rattle.std.proofs.Common.{◌≡◌, ℕ, ◌-◌, ◌≤◌, List, length, 
 use Rattle.std.proofs.lemmas.Bool.{cases_lt, le-ltb, lt-ltb}
 use Rattle.std.proofs.lemmas.List.{length-map, length-replicate}
 use Rattle.hmac_sha256.specs.Hmac.{inner_block, key_block, short_key}
-use Rattle.hmac_sha256.proofs.Digest.{length-sha256}
+use Rattle.sha256_lanes.proofs.Digest.{length-sha256}
 
 length-short_key : (key : List ℕ) → length (short_key key) ≤ 64
 length-short_key key = elim (cases_lt 64 (length key)) [

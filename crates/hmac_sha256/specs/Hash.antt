@@ -2,8 +2,8 @@
 use Rattle.std.specs.Prelude.{◌≡◌, refl, ℕ, ◌*◌, ◌/◌, ◌%◌, List, [], length, take, drop}
 use Rattle.std.specs.Prelude.{replicate}
 use Rattle.std.specs.Coded.{Coded-set, coded_list, coded_ℕ}
-use Rattle.hmac_sha256.specs.Sha256.{compress, fold_blocks, initial_words, sha256, word_bytes}
 use Rattle.hmac_sha256.specs.declared.hashing.Hash.{Hash}
+use Rattle.sha256_lanes.specs.Sha256.{fold_blocks, initial_words}
 
 -- the words are the hash value after m's whole blocks, the bytes are the rest of m, and the count
 -- is m's length
@@ -11,14 +11,6 @@ pub record HasAbsorbed (words bytes : List ℕ) (count : ℕ) (m : List ℕ) : T
   pub folded : words ≡ fold_blocks initial_words m (length m / 64)
   pub rest : bytes ≡ drop (64 * (length m / 64)) m
   pub counted : count ≡ length m
-
--- The block ends each message of so many bytes of which the bytes before it are held: the digest is
--- what follows it.
-abbrev pub IsLastBlock : List ℕ → ℕ → List ℕ → Type 0
-IsLastBlock bytes count block =
-    (words m : List ℕ)
-    → HasAbsorbed words bytes count m
-    → word_bytes (compress words block) ≡ sha256 m
 
 -- the hash that has absorbed nothing
 unfoldable pub new_hash : Hash

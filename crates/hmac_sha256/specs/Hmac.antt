@@ -2,7 +2,7 @@
 -- list of 32 bytes.
 use Rattle.std.specs.Prelude.{ℕ, ◌-◌, List, ◌++◌, bit_xor, length, map, nat_lt, replicate}
 use Rattle.std.specs.Prelude.{if◌then◌else◌}
-use Rattle.hmac_sha256.specs.Sha256.{sha256}
+use Rattle.sha256_lanes.specs.Sha256.{sha256}
 
 -- the key itself, or the digest of one that is longer than a block (RFC 2104, section 2)
 abbrev pub short_key : List ℕ → List ℕ

@@ -1,7 +1,7 @@
 //! What holds of the hashes together, as contracts.
 
 ghost use Rattle.std.specs.Prelude.{◌≡◌, ◌+◌, ◌≤◌, ◌++◌, length};
-ghost use Rattle.hmac_sha256.specs.Sha256.{sha256};
+ghost use Rattle.sha256_lanes.specs.Sha256.{sha256};
 
 use crate::hashing::{Hash, MAX_BYTES};
 use crate::wrapped::WrappedHash;

@@ -20,25 +20,18 @@
 //! let digest = Hash::hash(b"a message in two pieces");
 //! ```
 //!
-//! A port of the Rust crate `hmac-sha256` 1.1.15.
+//! A port of the Rust crate `hmac-sha256` 1.1.15. What is hashed block by block, and many messages
+//! side by side, stand in `sha256_lanes`.
 #![tactic(auto)]
 
-mod chained;
 mod comparison;
-mod compression;
-mod eight;
 mod hashing;
 mod hkdf;
-mod lanes;
 pub mod laws;
 mod mac;
-mod rows;
-mod word;
 mod wrapped;
 
-pub use eight::Begun;
-pub use hashing::{BLOCK_BYTES, Hash, MAX_BYTES, MAX_TAIL};
+pub use hashing::{Hash, MAX_BYTES};
 pub use hkdf::HKDF;
-pub use lanes::{Eight, Heads};
 pub use mac::HMAC;
 pub use wrapped::WrappedHash;

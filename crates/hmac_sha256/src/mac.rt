@@ -5,7 +5,9 @@ ghost use Rattle.hmac_sha256.specs.Hash.{StandsFor, absorbed_bytes};
 ghost use Rattle.hmac_sha256.specs.Hmac.{hmac_sha256, key_block, masked};
 
 use crate::comparison::is_same;
-use crate::hashing::{BLOCK_BYTES, Hash, MAX_BYTES, zero_padded};
+use crate::hashing::{Hash, MAX_BYTES};
+use sha256_lanes::BLOCK_BYTES;
+use sha256_lanes::blocks::zero_padded;
 use std::alloc::AllocError;
 
 const INNER_MASK: u8 = 0x36;

@@ -19,7 +19,7 @@ impl Absorb for Hash {
     ghost use Rattle.std.specs.Prelude.{◌-◌, ◌^◌};
     ghost use Rattle.hmac_sha256.specs.Hash.{StandsFor, absorbed_bytes, new_hash};
     ghost use Rattle.hmac_sha256.specs.Hash.{new_hash-StandsFor, new_hash-counts};
-    ghost use Rattle.hmac_sha256.specs.Sha256.{sha256};
+    ghost use Rattle.sha256_lanes.specs.Sha256.{sha256};
 
     const MAX_BYTES: u64 = MAX_BYTES;
 

@@ -5,11 +5,11 @@ use Rattle.std.specs.Int.{to_be_bytes, w32}
 use Rattle.std.proofs.lemmas.Bool.{le-ltb, lt-ltb}
 use Rattle.std.proofs.lemmas.List.{append-nil, take_all, take_more}
 use Rattle.std.proofs.lemmas.Grind.{flat_map-append}
-use Rattle.hmac_sha256.specs.Sha256.{block_word, compress, fold_blocks, initial_words, pad, padding, schedule, sha256, word_bytes, zero_count}
-use Rattle.hmac_sha256.specs.Rounds.{rounds_until}
-use Rattle.hmac_sha256.proofs.Absorbing.{fold_blocks_next}
-use Rattle.hmac_sha256.proofs.Digest.{length-fold_blocks}
-use Rattle.hmac_sha256.proofs.Schedule.{compress-rounds_until, length-schedule, rounds_until_next, rounds_until_none}
+use Rattle.sha256_lanes.specs.Sha256.{block_word, compress, fold_blocks, initial_words, pad, padding, schedule, sha256, word_bytes, zero_count}
+use Rattle.sha256_lanes.specs.Rounds.{rounds_until}
+use Rattle.sha256_lanes.proofs.Folding.{fold_blocks_next}
+use Rattle.sha256_lanes.proofs.Digest.{length-fold_blocks}
+use Rattle.sha256_lanes.proofs.Schedule.{compress-rounds_until, length-schedule, rounds_until_next, rounds_until_none}
 use Rattle.sha2.specs.Sha256.{compress as their_compress, digest_bytes, first_words, hash_after, padded_message, padding as their_padding, rounds as their_rounds, schedule as their_schedule, sha256 as their_sha256, word_at}
 
 -- a word of a block

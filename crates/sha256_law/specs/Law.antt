@@ -16,7 +16,7 @@
 --
 -- Both stand on the same words of the library for shifts, rotations and the bytes of a number.
 use Rattle.std.specs.Prelude.{◌≡◌, ℕ, List}
-use Rattle.hmac_sha256.specs.Sha256.{sha256 as our_sha256}
+use Rattle.sha256_lanes.specs.Sha256.{sha256 as our_sha256}
 use Rattle.sha2.specs.Sha256.{sha256 as their_sha256}
 
 -- every message has one digest under both definitions, of any length and of any numbers

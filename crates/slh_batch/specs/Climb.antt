@@ -2,7 +2,7 @@
 use Rattle.std.specs.Prelude.{ℕ, zero, suc, ◌-◌, ◌^◌, List, [], ◌∷◌, ◌++◌, length, take, Bool}
 use Rattle.std.specs.Prelude.{true, false, nat_lt, slice_index_or, if◌then◌else◌}
 use Rattle.slh_batch.specs.Tree.{batch_node, batch_leaf}
-use Rattle.hmac_sha256.specs.Sha256.{sha256}
+use Rattle.sha256_lanes.specs.Sha256.{sha256}
 
 -- the root above digest i of n, which is x, for an n of at most 2 ^ z
 unfoldable pub climb_within : ℕ → List ℕ → ℕ → ℕ → List (List ℕ) → List ℕ

@@ -2,7 +2,7 @@
 -- a front and a rest; the front has as many as the largest power of two below their number.
 use Rattle.std.specs.Prelude.{ℕ, zero, suc, ◌-◌, ◌^◌, List, [], ◌∷◌, ◌++◌, length, take, drop}
 use Rattle.std.specs.Prelude.{nat_lt, slice_index_or, if◌then◌else◌}
-use Rattle.hmac_sha256.specs.Sha256.{sha256}
+use Rattle.sha256_lanes.specs.Sha256.{sha256}
 
 -- the digest of a message
 abbrev pub batch_leaf : List ℕ → List ℕ

@@ -1,7 +1,7 @@
 -- What a frame tells of its mode, its context and what follows it.
 use Rattle.std.proofs.Common.{◌≡◌, ℕ, List, [], ◌∷◌, ◌++◌, length, take, drop, arith, ap, sym, refl, ◌∙◌}
 use Rattle.std.proofs.lemmas.List.{append_cancel_left}
-use Rattle.hmac_sha256.specs.Sha256.{sha256}
+use Rattle.sha256_lanes.specs.Sha256.{sha256}
 use Rattle.sha2.specs.Sha512.{sha512}
 use Rattle.slh_core.proofs.Joins.{take_front, drop_front}
 use Rattle.slh_dsa.specs.Frames.{mode_frame, tail_of, sha256_identifier, sha512_identifier}

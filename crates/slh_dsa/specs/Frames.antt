@@ -1,7 +1,7 @@
 -- What is signed for a message with a context: the message as it is (FIPS 205, algorithm 22), or
 -- its digest with the identifier of the hash function (algorithm 23).
 use Rattle.std.specs.Prelude.{ℕ, List, [], ◌∷◌, ◌++◌, length, take}
-use Rattle.hmac_sha256.specs.Sha256.{sha256}
+use Rattle.sha256_lanes.specs.Sha256.{sha256}
 use Rattle.sha2.specs.Sha512.{sha512}
 use Rattle.slh_trees.specs.Frame.{frame_head}
 use Rattle.slh_dsa.specs.declared.frame.Mode.{Mode}

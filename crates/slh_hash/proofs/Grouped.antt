@@ -5,7 +5,7 @@ use Rattle.std.proofs.lemmas.List.{drop-take, drop-drop, get_or-map, take-take}
 use Rattle.std.proofs.lemmas.Nat.{mul-le}
 use Rattle.std.proofs.lemmas.Slice.{take-put_mid}
 use borrow.Rule.Slice.PartMut.{put_mid}
-use Rattle.hmac_sha256.specs.Sha256.{sha256}
+use Rattle.sha256_lanes.specs.Sha256.{sha256}
 use Rattle.sha2.specs.Sha512.{sha512}
 use Rattle.slh_core.specs.Address.{compressed_address}
 use Rattle.slh_core.specs.Bytes.{joined, part}

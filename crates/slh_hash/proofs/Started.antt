@@ -1,10 +1,9 @@
--- A hash that has absorbed a seed and zeros stands for the seed's block.
+-- A wrapped hash and its core, where nothing is held.
 use Rattle.std.proofs.Common.{◌≡◌, ℕ, ◌+◌, ◌-◌, ◌%◌, ◌<◌, List, [], ◌∷◌, ◌++◌, length, replicate, arith, refl, sym, ap, ◌∙◌, subst}
 use Rattle.std.proofs.lemmas.List.{append-nil}
 use Rattle.digest_core.specs.Wrapped.{StandsFor as WrappedStandsFor}
 use Rattle.hmac_sha256.specs.Hash.{StandsFor}
 use Rattle.hmac_sha256.specs.declared.hashing.Hash.{Hash}
-use Rattle.slh_hash.specs.Sha2.{seed_block}
 
 no_items : (xs : List ℕ) → length xs ≡ 0 → xs ≡ []
 no_items [] none = refl
@@ -23,9 +22,3 @@ core_stands hash held m none wrapped =
 pub wrapped_stands : (hash : Hash) (held m : List ℕ) → held ≡ [] → StandsFor hash m → WrappedStandsFor (StandsFor hash) held m
 wrapped_stands hash held m none stood =
     record { absorbed = m; stood = stood; joined = sym (ap (λ h. m ++ h) none ∙ append-nil m) }
-
-pub stands_for_block : (hash : Hash) (n : ℕ) (seed zeros s copy : List ℕ) → seed ≡ s → copy ≡ s → length seed ≡ n
-    → zeros ≡ replicate (64 - length seed) 0 → StandsFor hash (seed ++ zeros) → StandsFor hash (seed_block 64 n copy)
-stands_for_block hash n seed zeros s copy is_seed is_copy len all_zero stood =
-    let same : seed ++ zeros ≡ seed_block 64 n copy = rw (all_zero, len, is_copy, is_seed) refl in
-    subst (λ (m : List ℕ). StandsFor hash m) same stood

@@ -1,6 +1,6 @@
 -- The hashes of a seed and a counter of four bytes, from 0 on, as a generator gives them.
 use Rattle.std.specs.Prelude.{◌≡◌, ℕ, List, ◌∷◌, ◌++◌, length}
-use Rattle.hmac_sha256.specs.Sha256.{sha256}
+use Rattle.sha256_lanes.specs.Sha256.{sha256}
 use Rattle.slh_core.specs.Bytes.{big_endian, joined}
 
 -- The first so many hashes of a seed for which a hash stands. The seed and its length come before

@@ -6,9 +6,10 @@ use Rattle.std.proofs.lemmas.Grind.{div_ceil_times}
 use Rattle.std.proofs.lemmas.List.{length-take-le}
 use Rattle.std.proofs.Math.Nat.{le_trans}
 use Rattle.std.specs.Int.{div_ceil}
-use Rattle.hmac_sha256.specs.Sha256.{sha256}
+use Rattle.sha256_lanes.specs.Sha256.{sha256}
 use Rattle.hmac_sha256.specs.Hmac.{hmac_sha256, masked}
-use Rattle.hmac_sha256.proofs.Digest.{length-sha256, length-hmac_sha256}
+use Rattle.hmac_sha256.proofs.Codes.{length-hmac_sha256}
+use Rattle.sha256_lanes.proofs.Digest.{length-sha256}
 use Rattle.sha2.specs.Sha512.{sha512}
 use Rattle.sha2.proofs.Facts512.{length-sha512}
 use Rattle.slh_core.proofs.Joins.{length-joined}

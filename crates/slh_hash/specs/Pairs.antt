@@ -1,6 +1,6 @@
 -- Eight key pairs of a tree, side by side.
 use Rattle.std.specs.Prelude.{◌≡◌, ℕ, ◌+◌, ◌<◌, List, take}
-use Rattle.hmac_sha256.specs.Eight.{head_bytes, lane_bytes}
+use Rattle.sha256_lanes.specs.Eight.{head_bytes, lane_bytes}
 use Rattle.slh_core.specs.Address.{address_bytes, compressed_address}
 use Rattle.slh_core.specs.Address.{wots_hash_type, wots_prf_type}
 use Rattle.slh_core.specs.Suite.{Seeded, seeded}

@@ -1,7 +1,7 @@
 -- The functions of the SHA-2 parameter sets (FIPS 205, sections 11.2.1 and 11.2.2).
 use Rattle.std.specs.Int.{div_ceil}
 use Rattle.std.specs.Prelude.{ℕ, ◌-◌, List, ◌++◌, take, replicate}
-use Rattle.hmac_sha256.specs.Sha256.{sha256}
+use Rattle.sha256_lanes.specs.Sha256.{sha256}
 use Rattle.hmac_sha256.specs.Hmac.{hmac_sha256}
 use Rattle.sha2.specs.Sha512.{sha512}
 use Rattle.slh_core.specs.Bytes.{big_endian, joined}

@@ -7,7 +7,7 @@ use Rattle.std.proofs.lemmas.List.{get_or_append_left, get_or-append_right}
 use Rattle.std.proofs.lemmas.Nat.{mod_below}
 use Rattle.std.specs.Int.{byte_at, bytes_high_first, to_be_bytes, w32, w64}
 use Rattle.std.specs.Prelude.{slice_index}
-use Rattle.hmac_sha256.specs.Sha256.{fold_blocks, initial_words, pad, sha256, word_bytes}
+use Rattle.sha256_lanes.specs.Sha256.{fold_blocks, initial_words, pad, sha256, word_bytes}
 use Rattle.sha2.specs.Sha512.{digest_bytes, final_hash, initial_hash_512, sha512}
 use Rattle.slh_core.specs.Address.{compressed_address}
 use Rattle.slh_core.specs.Suite.{HasBytes}

@@ -3,8 +3,8 @@
 ghost use Rattle.std.specs.Prelude.{◌≡◌, ℕ, ◌+◌, ◌*◌, ◌/◌, ◌%◌, ◌^◌, ◌≤◌, ◌<◌, List, ◌++◌, length};
 ghost use Rattle.std.specs.Prelude.{nat_lt, slice_index, take, if◌then◌else◌};
 ghost use Rattle.std.specs.Int.{to_be_bytes, w32};
-ghost use Rattle.hmac_sha256.specs.Begun.{HasBegun};
-ghost use Rattle.hmac_sha256.specs.Eight.{head_bytes, lane_bytes};
+ghost use Rattle.sha256_lanes.specs.Begun.{HasBegun};
+ghost use Rattle.sha256_lanes.specs.Eight.{head_bytes, lane_bytes};
 ghost use Rattle.slh_core.specs.Address.{address_bytes, compressed_address, wots_pk_type};
 ghost use Rattle.slh_core.specs.Address.{fors_prf_type, fors_tree_type};
 ghost use Rattle.slh_core.specs.Bytes.{joined, part};
@@ -15,8 +15,8 @@ ghost use Rattle.slh_hash.specs.Sha2.{seed_block, tweaked_hash_256};
 use crate::keyed::Sha2Keyed;
 use crate::messages::{MAX_MESSAGE_LEN, put_messages};
 use crate::rows::{ADDRESS_LEN, put_hashes};
-use hmac_sha256::{Begun, Eight, Heads};
 use hybrid_array::ArraySize;
+use sha256_lanes::{Begun, Eight, Heads};
 use slh_core::address::{Address, ForsTree, WotsHash};
 use slh_core::nbytes::NBytes;
 use slh_core::params::{MAX_CHAINS, MAX_ENDS_LEN};
@@ -67,7 +67,7 @@ pub(crate) fn hash_eight<N: ArraySize>(keyed: &Sha2Keyed<N>, heads: &Heads, valu
         ≡ tweaked_hash_256 N.USIZE keyed.now.pk_seed a
         (take N.USIZE (lane_bytes values.now k)) }
 {
-    keyed.started.core().finalize_words(heads, values, N::USIZE)
+    keyed.midstate.finalize_words(heads, values, N::USIZE)
 }
 
 /// Begins the hashes of heads but for their last fields, with which a chain goes on step by step.
@@ -76,7 +76,7 @@ pub(crate) fn begin_eight<N: ArraySize>(keyed: &Sha2Keyed<N>, heads: &Heads) -> 
     ensures { (k : ℕ) → k < 8 → HasBegun result k (seed_block 64 N.USIZE keyed.now.pk_seed)
         (take 18 (head_bytes heads.now k)) }
 {
-    keyed.started.core().begin(heads)
+    keyed.midstate.begin(heads)
 }
 
 /// The hashes of eight values that take their chains one step on.
@@ -220,7 +220,7 @@ pub(crate) fn keys_of_ends<N: ArraySize, L: Ledger>(
     let mut store = [0u8; 8 * MAX_MESSAGE_LEN];
     let messages = &mut store[..8 * len];
     put_messages::<8>(adrs, 0, ends, n, count, messages);
-    let digests = keyed.started.core().finalize_rows(messages, len);
+    let digests = keyed.midstate.finalize_rows(messages, len);
     put_hashes::<N, L, 8, 32>(&digests, 8, out, steps);
 }
 

@@ -1,7 +1,7 @@
 //! The hashes of many values at once, whose addresses stand in a row.
 ghost use Rattle.std.specs.Prelude.{◌≡◌, ℕ, ◌+◌, ◌-◌, ◌*◌, ◌≤◌, ◌<◌, List, [], ◌++◌, length, min};
 ghost use Rattle.std.specs.Prelude.{slice_index, slice_index_or, take};
-ghost use Rattle.hmac_sha256.specs.Sha256.{sha256};
+ghost use Rattle.sha256_lanes.specs.Sha256.{sha256};
 ghost use Rattle.slh_core.specs.Address.{compressed_address};
 ghost use Rattle.slh_core.specs.Bytes.{joined, part};
 ghost use Rattle.slh_hash.specs.Sha2.{seed_block, tweaked_hash_256};
@@ -9,8 +9,8 @@ ghost use Rattle.slh_hash.specs.Sha2.{seed_block, tweaked_hash_256};
 use crate::join::put_two;
 use crate::keyed::Sha2Keyed;
 use crate::tweaked::short_hash;
-use hmac_sha256::{BLOCK_BYTES, MAX_TAIL};
 use hybrid_array::ArraySize;
+use sha256_lanes::{BLOCK_BYTES, MAX_TAIL};
 use slh_core::address::{Address, RowAddress};
 use slh_core::nbytes::NBytes;
 use slh_core::parts::put_part;
@@ -87,18 +87,17 @@ fn digests_of<N: ArraySize, A: RowAddress + Drop>(
         ++ part width inputs.now k)) }
 {
     let len = ADDRESS_LEN + width;
-    let started = keyed.started.core();
     if numbers.len() > 4 {
         let tails = tails_of::<A, 8, BLOCK_BYTES>(adrs, numbers, inputs, width);
-        return started.finalize_eight(&tails, len);
+        return keyed.midstate.finalize_eight(&tails, len);
     }
     let mut digests = [[0u8; 32]; WIDEST];
     if numbers.len() > 1 {
         let tails = tails_of::<A, 4, BLOCK_BYTES>(adrs, numbers, inputs, width);
-        digests[..4].copy_from_slice(&started.finalize_four(&tails, len));
+        digests[..4].copy_from_slice(&keyed.midstate.finalize_four(&tails, len));
     } else {
-        let [tail] = tails_of::<A, 1, BLOCK_BYTES>(adrs, numbers, inputs, width);
-        digests[0] = started.finalize_with(&tail[..len]);
+        let tails = tails_of::<A, 1, BLOCK_BYTES>(adrs, numbers, inputs, width);
+        digests[..1].copy_from_slice(&keyed.midstate.finalize_one(&tails, len));
     }
     digests
 }

@@ -1,6 +1,6 @@
 //! The suite of security category 1 (FIPS 205, section 11.2.1).
 ghost use Rattle.std.specs.Prelude.{◌≡◌, ◌+◌, ◌≤◌, ◌++◌, length, refl};
-ghost use Rattle.hmac_sha256.specs.Sha256.{sha256};
+ghost use Rattle.sha256_lanes.specs.Sha256.{sha256};
 ghost use Rattle.slh_core.specs.Suite.{seeded};
 ghost use Rattle.slh_hash.specs.Sha2.{sha2_category_1};
 ghost use Rattle.slh_hash.specs.Lengths.{sha2_category_1_lengths, sha2_category_1_digest_length};

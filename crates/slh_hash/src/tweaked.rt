@@ -1,5 +1,5 @@
 //! The hashes of an address and an input.
-ghost use Rattle.std.specs.Prelude.{◌≡◌, ℕ, ◌≤◌, List, length, replicate};
+ghost use Rattle.std.specs.Prelude.{◌≡◌, ℕ, ◌≤◌, List, length};
 ghost use Rattle.slh_hash.specs.Sha2.{seed_block, tweaked_hash_256, tweaked_hash_512};
 
 use crate::join::put_two;
@@ -8,7 +8,8 @@ use digest_core::{FixedOutput, Update};
 use hmac_sha256::{Hash, WrappedHash};
 use hybrid_array::ArraySize;
 use sha2::{Digest, Sha512};
-use sha512_lanes::Midstate;
+use sha256_lanes::Midstate;
+use sha512_lanes::Midstate as Midstate512;
 use slh_core::address::Address;
 use slh_core::nbytes::NBytes;
 use slh_core::params::MAX_ENDS_LEN;
@@ -17,53 +18,44 @@ const SHA256_BLOCK_LEN: usize = 64;
 
 const SHA512_BLOCK_LEN: usize = 128;
 
-const ZEROS: [u8; SHA256_BLOCK_LEN] = [0; SHA256_BLOCK_LEN];
-
 // A compressed address and two values of 32 bytes.
 const SHORT_LEN: usize = 86;
 
-// So many zeros.
-fn zeros(count: usize) -> &'static [u8]
-    requires { count ≤ 64 }
-    ensures { result.now ≡ replicate count 0 }
+// The public seed, and zeros after it.
+fn block_of<N: ArraySize, const B: usize>(pk_seed: &NBytes<N>) -> [u8; B]
+    requires { 32 ≤ B }
+    ensures { result ≡ seed_block B N.USIZE pk_seed.now }
 {
-    &ZEROS[..count]
+    let seed = pk_seed.as_slice();
+    let mut block = [0u8; B];
+    block[..seed.len()].copy_from_slice(seed);
+    block
 }
 
 /// The state for a public seed.
 pub(crate) fn start<N: ArraySize>(pk_seed: &NBytes<N>) -> Sha2Keyed<N>
     ensures { result.pk_seed ≡ pk_seed.now }
 {
-    let seed = pk_seed.as_slice();
+    let block = block_of::<N, SHA256_BLOCK_LEN>(pk_seed);
     let mut started = WrappedHash::from_core(Hash::new());
-    started.update(seed);
-    started.update(zeros(SHA256_BLOCK_LEN - seed.len()));
+    started.update(&block);
     let _core = started.core();
     Sha2Keyed {
         pk_seed: pk_seed.copy(),
         started,
+        midstate: Midstate::new(&block),
     }
-}
-
-// The public seed, and zeros after it.
-fn wide_seed_block<N: ArraySize>(pk_seed: &NBytes<N>) -> [u8; SHA512_BLOCK_LEN]
-    ensures { result ≡ seed_block 128 N.USIZE pk_seed.now }
-{
-    let seed = pk_seed.as_slice();
-    let mut block = [0u8; SHA512_BLOCK_LEN];
-    block[..seed.len()].copy_from_slice(seed);
-    block
 }
 
 /// The state for a public seed in the categories 3 and 5.
 pub(crate) fn start_35<N: ArraySize>(pk_seed: &NBytes<N>) -> Sha2Keyed512<N>
     ensures { result.keyed.pk_seed ≡ pk_seed.now }
 {
-    let block = wide_seed_block(pk_seed);
+    let block = block_of::<N, SHA512_BLOCK_LEN>(pk_seed);
     Sha2Keyed512 {
         keyed: start(pk_seed),
         started: Sha512::new_with_prefix(block),
-        midstate: Midstate::new(&block),
+        midstate: Midstate512::new(&block),
     }
 }
 

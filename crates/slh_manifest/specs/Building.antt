@@ -2,7 +2,7 @@
 use Rattle.std.specs.Prelude.{◌≡◌, ◌≤◌, ◌^◌, ℕ, List, [], ◌∷◌, ◌++◌, length, nat_lt}
 use Rattle.std.specs.Prelude.{Option, None, Some, Result, MatchResult, if◌then◌else◌, unwrap_or}
 use Rattle.std.specs.Prelude.{◌⊎◌, ◌==◌}
-use Rattle.hmac_sha256.specs.Sha256.{sha256}
+use Rattle.sha256_lanes.specs.Sha256.{sha256}
 use Rattle.slh_core.specs.Parameters.{Scheme}
 use Rattle.slh_trees.specs.Frame.{frame}
 use Rattle.slh_trees.specs.Signing.{signature_of}

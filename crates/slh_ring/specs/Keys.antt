@@ -2,7 +2,7 @@
 -- the parameter set's name.
 use Rattle.std.specs.Prelude.{ℕ, ◌*◌, List, ◌∷◌, ◌++◌, length, take, drop, map, codes}
 use Rattle.hmac_sha256.specs.Hkdf.{hkdf_expand, hkdf_extract}
-use Rattle.hmac_sha256.specs.Sha256.{sha256}
+use Rattle.sha256_lanes.specs.Sha256.{sha256}
 use Rattle.slh_core.specs.Bytes.{part}
 use Rattle.slh_core.specs.Parameters.{Scheme}
 use Rattle.slh_trees.specs.Keys.{signing_key_bytes}

@@ -6,7 +6,7 @@ use Rattle.std.specs.Io.KnownBytes.{Appends}
 use Rattle.std.specs.Str.{bytes_eq}
 use Rattle.hex.specs.Hex.{encode_lower}
 use Rattle.hmac_sha256.specs.Hkdf.{hkdf_expand, hkdf_extract}
-use Rattle.hmac_sha256.specs.Sha256.{sha256}
+use Rattle.sha256_lanes.specs.Sha256.{sha256}
 use Rattle.line_serve.specs.Decimals.{decimal_value}
 use Rattle.line_serve.specs.Engine.{TakesFront}
 use Rattle.line_serve.specs.Fields.{field_at, for_some}

@@ -1,7 +1,7 @@
 //! The words of a bench, and its report (docs/LINES.md).
 ghost use Rattle.std.specs.Prelude.{◌≡◌, ◌+◌, ◌*◌, ◌^◌, ◌++◌, ◌<◌, ◌≤◌, length, decimal};
 ghost use Rattle.std.specs.Prelude.{IfOk, IfSome, OnOk, IsErrOf};
-ghost use Rattle.hmac_sha256.specs.Sha256.{sha256};
+ghost use Rattle.sha256_lanes.specs.Sha256.{sha256};
 ghost use Rattle.line_serve.specs.Causes.{Rose};
 ghost use Rattle.line_serve.specs.Engine.{Takes};
 ghost use Rattle.line_serve.specs.Fields.{field_at};

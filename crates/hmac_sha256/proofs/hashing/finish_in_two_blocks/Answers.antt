@@ -1,5 +1,5 @@
 use Rattle.std.proofs.Common.{List, ℕ, ap, refl, ◌∙◌}
-use Rattle.hmac_sha256.specs.Sha256.{compress, word_bytes}
+use Rattle.sha256_lanes.specs.Sha256.{compress, word_bytes}
 use Rattle.hmac_sha256.proofs.Absorbing.{sha256_in_two_blocks}
 use Rattle.hmac_sha256.proofs.hashing.finish_in_two_blocks.Goals as goal
 

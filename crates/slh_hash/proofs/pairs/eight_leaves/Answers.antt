@@ -1,5 +1,5 @@
 use Rattle.std.proofs.Common.{◌≡◌, ℕ, ◌+◌, ◌∙◌, List, ap, take}
-use Rattle.hmac_sha256.specs.Eight.{head_bytes, lane_bytes}
+use Rattle.sha256_lanes.specs.Eight.{head_bytes, lane_bytes}
 use Rattle.slh_core.specs.Address.{address_bytes, fors_prf_type, fors_tree_type}
 use Rattle.slh_core.proofs.Joins.{joined_same, take_front}
 use Rattle.slh_hash.specs.Sha2.{tweaked_hash_256}

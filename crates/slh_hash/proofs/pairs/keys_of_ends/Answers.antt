@@ -1,5 +1,5 @@
 use Rattle.std.proofs.Common.{◌≡◌, ◌+◌, ◌∙◌, ℕ, List, ap, arith}
-use Rattle.hmac_sha256.specs.Sha256.{sha256}
+use Rattle.sha256_lanes.specs.Sha256.{sha256}
 use Rattle.slh_core.proofs.Joins.{joined_same}
 use Rattle.slh_hash.specs.Sha2.{seed_block, tweaked_hash_256}
 use Rattle.slh_hash.proofs.KeyMessages.{ends_of, keys_hashed, pk_at}
@@ -17,6 +17,6 @@ returns-clause-keys g c =
     let none : (k : ℕ) → 0 + k ≡ k = λ k. omega arith in
     keys_hashed n c.args.count c.args.ends.now a.layer_adrs a.tree_adrs_low a.key_pair_adrs sha256 8 0 block _ _ c.finalize_rows-digests.result
     c.requires.whole (omega arith) (rw c.USIZE-n.ensures at c.put_messages.ensures)
-    (λ k low. rw c.USIZE-n.ensures at (c.finalize_rows-digests.ensures block k (rw c.core.ensures.core keyed.stands) low))
+    (λ k low. rw c.USIZE-n.ensures at (c.finalize_rows-digests.ensures block k keyed.begins low))
     c.put_hashes.ensures.value
     ∙ joined_same (λ k. key (0 + k)) key 8 (λ k low. ap key (none k))

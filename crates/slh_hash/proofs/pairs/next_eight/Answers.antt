@@ -1,6 +1,6 @@
 use Rattle.std.proofs.Common.{List, ℕ, ◌++◌, ◌∙◌, ap, take}
-use Rattle.hmac_sha256.specs.Eight.{lane_bytes}
-use Rattle.hmac_sha256.specs.Sha256.{sha256}
+use Rattle.sha256_lanes.specs.Eight.{lane_bytes}
+use Rattle.sha256_lanes.specs.Sha256.{sha256}
 use Rattle.slh_hash.specs.Sha2.{seed_block, tweaked_hash_256}
 use Rattle.slh_hash.proofs.pairs.next_eight.Goals as goal
 

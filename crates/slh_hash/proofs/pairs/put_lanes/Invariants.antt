@@ -1,5 +1,5 @@
 use Rattle.std.proofs.Common.{◌≡◌, ◌*◌, take}
-use Rattle.hmac_sha256.specs.Eight.{lane_bytes}
+use Rattle.sha256_lanes.specs.Eight.{lane_bytes}
 use Rattle.slh_core.specs.Bytes.{joined}
 use Rattle.slh_hash.proofs.pairs.put_lanes.Given as goal
 

@@ -1,7 +1,7 @@
 use Rattle.std.proofs.Common.{◌≡◌, ℕ, List, ◌+◌, ◌++◌, ◌∙◌, ap, length, refl, take}
 use Rattle.std.specs.Int.{to_be_bytes, w32}
 use Rattle.std.proofs.lemmas.List.{get_or-replicate}
-use Rattle.hmac_sha256.specs.Eight.{head_bytes, lane_bytes}
+use Rattle.sha256_lanes.specs.Eight.{head_bytes, lane_bytes}
 use Rattle.slh_core.specs.Address.{address_bytes, wots_hash_type, wots_prf_type}
 use Rattle.slh_hash.specs.Sha2.{tweaked_hash_256}
 use Rattle.slh_hash.proofs.PairRows.{head_of_chain, head_of_step, left_first, left_here, left_other, value_first, value_next}

@@ -1,5 +1,5 @@
 use Rattle.std.proofs.Common.{◌≡◌, ℕ, ◌+◌, ◌<◌, List, take}
-use Rattle.hmac_sha256.specs.Eight.{lane_bytes}
+use Rattle.sha256_lanes.specs.Eight.{lane_bytes}
 use Rattle.slh_hash.specs.Pairs.{IsRow}
 use Rattle.slh_hash.proofs.PairRows.{left_at, value}
 use Rattle.slh_hash.proofs.pairs.run_chain.Given as goal

@@ -1,6 +1,6 @@
 use Rattle.std.proofs.Common.{◌≡◌, ℕ, ◌+◌, ◌*◌, ◌∙◌, List, length, nat_lt, slice_index, if◌then◌else◌, ap, arith, refl, sym, take}
 use Rattle.std.proofs.lemmas.List.{take_all}
-use Rattle.hmac_sha256.specs.Eight.{lane_bytes}
+use Rattle.sha256_lanes.specs.Eight.{lane_bytes}
 use Rattle.slh_core.specs.Wots.{chain_value, value_or}
 use Rattle.slh_core.proofs.Joins.{part_later}
 use Rattle.slh_hash.specs.Pairs.{short_suite}

@@ -1,5 +1,5 @@
 use Rattle.std.proofs.Common.{[], ◌∙◌, ap}
-use Rattle.hmac_sha256.specs.Sha256.{sha256}
+use Rattle.sha256_lanes.specs.Sha256.{sha256}
 use Rattle.slh_hash.proofs.Pieces.{six_pieces}
 use Rattle.slh_hash.proofs.sha2_l1.message_hash.Goals as goal
 

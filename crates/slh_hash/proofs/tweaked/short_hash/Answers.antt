@@ -1,5 +1,5 @@
 use Rattle.std.proofs.Common.{ℕ, List, ◌++◌, ◌∙◌, ap, take}
-use Rattle.hmac_sha256.specs.Sha256.{sha256}
+use Rattle.sha256_lanes.specs.Sha256.{sha256}
 use Rattle.slh_hash.specs.Sha2.{seed_block, tweaked_hash_256}
 use Rattle.slh_hash.proofs.tweaked.short_hash.Goals as goal
 

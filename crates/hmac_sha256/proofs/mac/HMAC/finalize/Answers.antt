@@ -1,6 +1,6 @@
 use Rattle.std.proofs.Common.{ℕ, List, ◌++◌, ap, ◌∙◌}
 use Rattle.hmac_sha256.specs.Hmac.{hmac_sha256, outer_block}
-use Rattle.hmac_sha256.specs.Sha256.{sha256}
+use Rattle.sha256_lanes.specs.Sha256.{sha256}
 use Rattle.hmac_sha256.proofs.mac.HMAC.finalize.Goals as goal
 
 pub returns : goal.returns

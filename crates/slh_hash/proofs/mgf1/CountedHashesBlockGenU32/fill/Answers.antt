@@ -1,7 +1,7 @@
 use Rattle.std.proofs.Common.{ℕ, List, ◌++◌, ◌∙◌, ap, arith, Some}
 use Rattle.digest_core.specs.Wrapped.{StandsFor as WrappedStandsFor}
 use Rattle.hmac_sha256.specs.Hash.{StandsFor}
-use Rattle.hmac_sha256.specs.Sha256.{sha256}
+use Rattle.sha256_lanes.specs.Sha256.{sha256}
 use Rattle.slh_hash.proofs.CountedHashes.{hashes_grow}
 use Rattle.slh_hash.proofs.mgf1.CountedHashesBlockGenU32.fill.Goals as goal
 

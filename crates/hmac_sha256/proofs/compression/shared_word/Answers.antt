@@ -1,7 +1,0 @@
-use Rattle.hmac_sha256.specs.Sha256.{lower_sigma0}
-use Rattle.hmac_sha256.proofs.Schedule.{sum_shared}
-use Rattle.hmac_sha256.proofs.compression.shared_word.Goals as goal
-
-pub returns : goal.returns
-returns g c j h = λ w0 w1 is.
-    rw (c.sum-2.ensures j h, c.sum.ensures j h, c.lower_sigma1.ensures j h, is) (sum_shared _ (lower_sigma0 w1) w0)

@@ -1,6 +1,0 @@
-use Rattle.std.specs.Int.{w32}
-use Rattle.word_lanes.proofs.Vectors.{lane-and}
-use Rattle.hmac_sha256.proofs.word.U32x4Word.and.Goals as goal
-
-pub returns : goal.returns
-returns c j h = lane-and w32 4 c.args.self c.args.other j c.fits-self c.fits-other h

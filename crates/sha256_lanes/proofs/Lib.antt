@@ -1,0 +1,10 @@
+mod Words
+pub mod Schedule
+pub mod Folding
+pub mod Ending
+mod Vectors
+mod EightWords
+mod Windows
+mod EightHashes
+mod LongRows
+pub mod Digest

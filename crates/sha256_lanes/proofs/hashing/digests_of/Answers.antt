@@ -1,0 +1,10 @@
+use Rattle.std.proofs.Common.{[], ◌∙◌, arith, sym}
+use Rattle.std.proofs.lemmas.List.{ext_get_or, get_or-map, length-map}
+use Rattle.sha256_lanes.specs.Sha256.{word_bytes}
+use Rattle.sha256_lanes.proofs.hashing.digests_of.Goals as goal
+
+pub returns : goal.returns
+returns g c =
+    let words = c.args.words.now in
+    ext_get_or [] c.each_digest.digests _ (omega (arith, length-map words word_bytes)) (λ k low.
+    c.each_digest.invariant.1 k (omega arith) ∙ sym (get_or-map word_bytes words k [] [] (omega arith)))

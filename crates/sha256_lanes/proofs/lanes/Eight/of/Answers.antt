@@ -1,0 +1,11 @@
+use Rattle.std.proofs.Common.{[], ◌∙◌, ap, arith, slice_index_or, take}
+use Rattle.sha256_lanes.proofs.EightWords.{take_padded_all}
+use Rattle.sha256_lanes.proofs.lanes.Eight.of.Goals as goal
+
+pub of_blocks-requires : goal.of_blocks-requires
+of_blocks-requires c = λ j h. c.each_value.invariant.1 j (omega arith)
+
+pub returns : goal.returns
+returns c j h =
+    c.of_blocks.ensures j h ∙ ap (take 32) (c.each_value.invariant.2 j (omega arith))
+    ∙ take_padded_all 32 (slice_index_or c.args.values.now j []) (omega arith) (c.each_value.invariant.3 j (omega arith))

@@ -1,0 +1,6 @@
+pub mod Sha256
+pub mod Rounds
+pub mod Lanes
+pub mod Eight
+pub mod Midstate
+pub mod Begun
