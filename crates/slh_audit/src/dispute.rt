@@ -7,16 +7,15 @@ ghost use Rattle.slh_trees.specs.Checking.{fors_pk_from_sig};
 ghost use Rattle.slh_trees.specs.Fors.{fors_pk, fors_node as spec_fors_node};
 ghost use Rattle.slh_trees.specs.Hypertree.{layer_size, leaf_at, tree_at};
 
-use crate::sizes::piece;
 use hybrid_array::ArraySize;
 use slh_core::address::{ForsTree, WotsHash};
 use slh_core::nbytes::NBytes;
 use slh_core::params::{ForsParams, MAX_ROOTS_LEN, forest_sizes, layer_sizes};
-use slh_core::parts::put_part;
+use slh_core::parts::{piece, put_part};
 use slh_core::steps::Steps;
 use slh_trees::fors::{fors_node, fors_pk_from_sig, roots_len};
 use slh_trees::hypertree::{layer_len, next_place, tree_adrs_of};
-use slh_trees::xmss::{at_leaf, xmss_node, xmss_pk_from_sig};
+use slh_trees::xmss::{xmss_node, xmss_pk_from_sig};
 use std::marker::Model;
 use std::sync::ledger::Ledger;
 
@@ -110,7 +109,7 @@ impl<'a, P: ForsParams> Dispute<'a, P> {
         for _ in 0..layer {
             (tree, leaf) = next_place(tree, height);
         }
-        at_leaf(&tree_adrs_of(layer, tree), leaf)
+        tree_adrs_of(layer, tree).at_key_pair(leaf)
     }
 
     /// The message that the signature leads to below a layer.

@@ -13,7 +13,6 @@ ghost use Rattle.slh_core.specs.Parameters.{chain_count, scheme_of};
 ghost use Rattle.slh_trees.specs.Hypertree.{layer_size, leaf_at, tree_at};
 
 use crate::dispute::{Dispute, Sizes};
-use crate::sizes::ends_len;
 use hybrid_array::ArraySize;
 use slh_core::address::{Address, HashTree, WotsHash, WotsPk};
 use slh_core::digits::message_digits;
@@ -22,7 +21,7 @@ use slh_core::params::{ForsParams, MAX_ENDS_LEN, WotsParams, XmssParams, chain_s
 use slh_core::parts::{part_of, put_part};
 use slh_core::steps::Steps;
 use slh_core::suite::HashSuite;
-use slh_core::wots::{finish_chains, own_chain, wots_chain, wots_pk_from_sig};
+use slh_core::wots::{ends_len, own_chain, wots_chain, wots_pk_from_sig};
 use slh_trees::climb::root_from_auth_path;
 use slh_trees::node::sibling;
 use slh_trees::xmss::xmss_node;
@@ -227,7 +226,7 @@ impl<'s, 'a, P: ForsParams> LayerCheck<'s, 'a, P> {
         let mut store = [0u8; MAX_ENDS_LEN];
         let ends = &mut store[..size];
         let (chains, _) = layer_parts::<P>(self.sig);
-        finish_chains::<P, L>(&all[..len], chains, keyed, adrs, ends, steps);
+        P::finish_each(keyed, &all[..len], chains, adrs, ends, steps);
         let mut own_store = [0u8; MAX_ENDS_LEN];
         let own = &mut own_store[..size];
         own_ends::<P, L>(sk_seed, keyed, adrs, own, steps);

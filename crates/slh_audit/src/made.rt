@@ -6,13 +6,12 @@ ghost use Rattle.slh_trees.specs.Fors.{fors_pk, fors_sig};
 
 use crate::dispute::{Dispute, Sizes};
 use crate::layer::same;
-use crate::sizes::{MAX_FOREST_LEN, forest_len};
 use hybrid_array::ArraySize;
 use slh_core::address::ForsTree;
 use slh_core::nbytes::NBytes;
-use slh_core::params::{ForsParams, layer_sizes};
+use slh_core::params::{ForsParams, MAX_FORS_TREES, MAX_OPENED_LEN, layer_sizes};
 use slh_core::steps::Steps;
-use slh_trees::fors::fors_sign_root;
+use slh_trees::fors::{forest_len, fors_sign_root};
 use slh_trees::hypertree::layer_len;
 use slh_trees::xmss::{xmss_pk_from_sig, xmss_sign_root};
 use std::sync::ledger::Ledger;
@@ -38,7 +37,7 @@ impl<'a, P: ForsParams> Dispute<'a, P> {
             let D = dispute_on Z self.now in
             result.1 ≡ fors_pk D.K D.sk D.t D.l D.k D.a }
     {
-        let mut store = [0u8; MAX_FOREST_LEN];
+        let mut store = [0u8; MAX_FORS_TREES * MAX_OPENED_LEN];
         let own = &mut store[..forest_len::<P>()];
         let sk_seed = &self.sk_seed;
         let keyed = &self.keyed;

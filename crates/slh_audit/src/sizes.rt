@@ -1,49 +1,14 @@
 //! The checks of sizes that come before anything is hashed.
 ghost use Rattle.std.specs.Prelude.{◌≡◌, ◌≤◌, ◌+◌, ◌*◌, ◌^◌, length, IfOk, OnOk};
 ghost use Rattle.slh_audit.specs.Verdicts.{length_refusals, size_refusal};
-ghost use Rattle.slh_core.specs.Bytes.{part};
 ghost use Rattle.slh_trees.specs.Checking.{signature_size};
 ghost use Rattle.slh_trees.specs.Sizes.{RefusedExactly};
 
 use crate::evidence::AuditError;
 use hybrid_array::ArraySize;
-use slh_core::params::{
-    ForsParams, MAX_ENDS_LEN, MAX_FORS_TREES, MAX_OPENED_LEN, WotsParams, chain_sizes, forest_sizes,
-};
+use slh_core::params::{ForsParams, forest_sizes};
 use slh_trees::SigView;
-use slh_trees::fors::opened_len;
 use slh_trees::sizes::{MAX_CONTEXT, MAX_MESSAGE};
-
-/// The most bytes of a forest's part of a signature.
-pub(crate) const MAX_FOREST_LEN: usize = MAX_FORS_TREES * MAX_OPENED_LEN;
-
-/// How many bytes the ends of all chains of a key pair have.
-pub(crate) fn ends_len<P: WotsParams>() -> usize
-    ensures value { result ≡ P.WotsSigLen.USIZE * P.N.USIZE }
-    ensures small { result ≤ MAX_ENDS_LEN }
-{
-    chain_sizes::<P>();
-    P::WotsSigLen::USIZE * P::N::USIZE
-}
-
-/// How many bytes the forest's part of a signature has.
-pub(crate) fn forest_len<P: ForsParams>() -> usize
-    ensures value { result ≡ P.K.USIZE * ((1 + P.A.USIZE) * P.N.USIZE) }
-    ensures small { result ≤ MAX_FOREST_LEN }
-{
-    forest_sizes::<P>();
-    P::K::USIZE * opened_len::<P>()
-}
-
-/// The piece with a number, of pieces of `len` bytes.
-#[inline]
-pub(crate) fn piece(bytes: &[u8], len: usize, i: usize) -> &[u8]
-    requires { (i + 1) * len ≤ length bytes.now }
-    ensures value { result.now ≡ part len bytes.now i }
-    ensures len { length result.now ≡ len }
-{
-    &bytes[i * len..i * len + len]
-}
 
 /// A view of the signature, where the key and the signature have their lengths.
 pub(crate) fn check_lengths<'a, P: ForsParams>(

@@ -1,7 +1,6 @@
 //! Checking receipts.
 ghost use Rattle.std.specs.Prelude.{◌≡◌, ◌≤◌, ◌++◌, length, if◌then◌else◌, None, Some};
 ghost use Rattle.slh_core.specs.Bytes.{big_endian};
-ghost use Rattle.slh_core.specs.Steps.{IsFresh};
 ghost use Rattle.slh_dsa.specs.Calls.{is_valid};
 ghost use Rattle.slh_dsa.specs.declared.frame.Mode.TheVariants.{Pure};
 ghost use Rattle.slh_trees.specs.Checking.{signature_size};
@@ -14,11 +13,8 @@ use crate::climb::climb;
 use crate::error::ReceiptError;
 use crate::hashing::{DIGEST_LEN, leaf_digest};
 use crate::parts::parts_of;
-use slh_core::steps::Steps;
-use slh_dsa::{ParameterSet, VerifyingKey};
+use slh_dsa::{Mode, ParameterSet, VerifyingKey};
 use slh_trees::sizes::MAX_MESSAGE;
-use std::marker::Brand;
-use std::sync::ledger::{Blank, Ledger};
 
 /// The context under which the root of a batch is signed.
 pub(crate) const CONTEXT: &[u8] = b"slh-batch";
@@ -36,24 +32,21 @@ pub(crate) fn root_message(count: u32, root: &[u8; DIGEST_LEN]) -> [u8; ROOT_MES
     message
 }
 
-// Whether a signature of a batch's root is the key's, on a counter that is made here. `Invalid`.
-fn verify_root<P: ParameterSet, L: Ledger>(
+// Whether a signature of a batch's root is the key's. `Invalid`.
+fn verify_root<P: ParameterSet>(
     vk: &VerifyingKey<P>,
     message: &[u8; ROOT_MESSAGE_LEN],
     sig: &[u8],
-    blank: Blank,
 ) -> Result<(), ReceiptError>
-    requires sig { length sig.now ≡ signature_size P.scheme }
-    requires fresh { IsFresh blank L.name L.parts }
+    requires { length sig.now ≡ signature_size P.scheme }
     ensures { RefusedExactly result
         (if is_valid P.scheme Pure vk.now batch_context message.now sig.now then None
         else Some Invalid) }
 {
-    let mut steps = Steps::<L>::new(blank);
-    match vk.slh_verify_counted(message, CONTEXT, sig, &mut steps) {
-        Ok(()) => Ok(()),
-        Err(_) => Err(ReceiptError::Invalid),
+    if !vk.is_valid(Mode::Pure, CONTEXT, message, sig) {
+        return Err(ReceiptError::Invalid);
     }
+    Ok(())
 }
 
 /// Checks the receipt of a message under the key of its batch. `Form`; `Message`; `Invalid`: the
@@ -73,5 +66,5 @@ pub fn accept<P: ParameterSet>(
     }
     let root = climb(&leaf_digest(msg), &parts.sides, parts.path);
     let message = root_message(parts.count, &root);
-    verify_root::<P, Brand>(vk, &message, parts.sig, Blank::new(1))
+    verify_root(vk, &message, parts.sig)
 }

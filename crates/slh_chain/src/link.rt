@@ -2,14 +2,9 @@
 ghost use Rattle.std.specs.Prelude.{◌≡◌, ◌↔◌, ◌+◌, ◌*◌, ◌^◌, ◌≤◌, ◌++◌, length};
 ghost use Rattle.std.specs.Prelude.{IfOk, IfSome, IsSome, IsTrue};
 ghost use Rattle.std.specs.Option.{option_copied, ForSome};
-ghost use Rattle.slh_core.specs.Steps.{IsFresh};
 ghost use Rattle.slh_trees.specs.Checking.{signature_size};
-ghost use Rattle.slh_trees.specs.Frame.{frame};
-ghost use Rattle.slh_trees.specs.Signing.{signature_of};
 ghost use Rattle.slh_trees.specs.Sizes.{RefusedExactly, RefusedOrNoMemory};
-ghost use Rattle.slh_dsa.specs.Calls.{IsSignable};
 ghost use Rattle.slh_chain.specs.Links.{after_link, body_of, body_size};
-ghost use Rattle.slh_chain.specs.Links.{chain_context};
 ghost use Rattle.slh_chain.specs.Links.{delegate_refusal, has_form, link_body, link_depth};
 ghost use Rattle.slh_chain.specs.Links.{link_signature, link_subject, signed_link};
 ghost use Rattle.slh_chain.specs.declared.error.LinkError.TheVariants.{Memory};
@@ -17,11 +12,8 @@ ghost use Rattle.slh_chain.specs.declared.error.LinkError.TheVariants.{Memory};
 use crate::error::LinkError;
 use hybrid_array::ArraySize;
 use slh_core::params::{chain_sizes, forest_sizes, layer_sizes};
-use slh_core::steps::Steps;
 use slh_dsa::{Mode, ParameterSet, SigningKey, VerifyingKey};
 use std::alloc::Global;
-use std::marker::Brand;
-use std::sync::ledger::{Blank, Ledger};
 
 /// The context that bodies are signed with.
 pub(crate) const CONTEXT: &[u8] = b"slh-chain";
@@ -81,24 +73,6 @@ fn write_body<P: ParameterSet>(name: &[u8], depth: u8, subject: &VerifyingKey<P>
     subject.write_to(back);
 }
 
-// Writes a link's signature after its body, on a counter that is made here.
-fn sign_body<P: ParameterSet, L: Ledger>(
-    key: &SigningKey<P>,
-    body: &[u8],
-    opt_rand: Option<&[u8]>,
-    out: &mut [u8],
-    blank: Blank,
-)
-    requires fits { IsSignable P.N.USIZE chain_context (option_copied opt_rand) body.now }
-    requires room { length out.old ≡ signature_size P.scheme }
-    requires fresh { IsFresh blank L.name L.parts }
-    ensures { let opt_rand = option_copied opt_rand.entry in
-        out.new ≡ signature_of P.scheme key.now opt_rand (frame chain_context body.now) }
-{
-    let mut steps = Steps::<L>::new(blank);
-    key.hash_sign_checked(Mode::Pure, body, CONTEXT, opt_rand, out, &mut steps);
-}
-
 // Writes a whole link.
 fn write_link<P: ParameterSet>(
     key: &SigningKey<P>,
@@ -119,7 +93,7 @@ fn write_link<P: ParameterSet>(
     link_bound::<P>();
     let (body, signature) = out.split_at_mut(2 + name.len() + 2 * P::N::USIZE);
     write_body(name, depth, subject, body);
-    sign_body::<P, Brand>(key, body, opt_rand, signature, Blank::new(1));
+    key.sign_checked_into(Mode::Pure, CONTEXT, body, opt_rand, signature);
 }
 
 /// The link by which a key lets the subject act under a name of 1 to 64 bytes, and delegate with

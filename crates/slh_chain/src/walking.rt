@@ -1,20 +1,13 @@
 //! Walking a chain from its root key to its end.
-ghost use Rattle.std.specs.Prelude.{◌≡◌, ◌+◌, ◌^◌, ◌≤◌, ◌<◌, length};
+ghost use Rattle.std.specs.Prelude.{◌≡◌, ◌+◌, ◌≤◌, ◌<◌, length};
 ghost use Rattle.std.specs.Prelude.{IfOk, IfErr, OnOk, Ok, Err};
-ghost use Rattle.slh_core.specs.Steps.{IsFresh};
-ghost use Rattle.slh_trees.specs.Checking.{signature_size};
 ghost use Rattle.slh_trees.specs.Sizes.{RefusedExactly};
-ghost use Rattle.slh_dsa.specs.Calls.{is_valid};
-ghost use Rattle.slh_dsa.specs.declared.frame.Mode.TheVariants.{Pure};
-ghost use Rattle.slh_chain.specs.Links.{after_link, chain_context, link_depth, link_subject};
+ghost use Rattle.slh_chain.specs.Links.{after_link, link_depth, link_subject};
 ghost use Rattle.slh_chain.specs.Walks.{Place, link_fault, walk_answer};
 
 use crate::error::ChainError;
-use crate::link::{CONTEXT, Link, read_link};
-use slh_core::steps::Steps;
-use slh_dsa::{ParameterSet, VerifyingKey};
-use std::marker::Brand;
-use std::sync::ledger::{Blank, Ledger};
+use crate::link::{CONTEXT, read_link};
+use slh_dsa::{Mode, ParameterSet, VerifyingKey};
 
 /// The budget of the first link.
 const FIRST_BUDGET: u8 = 16;
@@ -29,21 +22,6 @@ pub struct End<P: ParameterSet> {
     pub budget: u8,
     /// How many links there are, at most 16.
     pub links: u32,
-}
-
-// Whether a link's signature is one of its body under a key.
-fn is_signed<P: ParameterSet, L: Ledger>(
-    key: &VerifyingKey<P>,
-    link: &Link<'_>,
-    steps: &mut Steps<L>,
-) -> bool
-    requires body { length link.now.body.now ≤ 2 ^ 60 }
-    requires signature { length link.now.signature.now ≡ signature_size P.scheme }
-    ensures { result ≡ is_valid P.scheme Pure key.now chain_context
-        link.now.body.now link.now.signature.now }
-{
-    let verdict = key.slh_verify_counted(link.body, CONTEXT, link.signature, steps);
-    verdict.is_ok()
 }
 
 impl<P: ParameterSet> End<P> {
@@ -61,11 +39,7 @@ impl<P: ParameterSet> End<P> {
     }
 
     // Takes the link that the bytes begin with, and answers the bytes after it.
-    fn follow<'a, L: Ledger>(
-        &mut self,
-        bytes: &'a [u8],
-        steps: &mut Steps<L>,
-    ) -> Result<&'a [u8], ChainError>
+    fn follow<'a>(&mut self, bytes: &'a [u8]) -> Result<&'a [u8], ChainError>
         requires { self.old.links + self.old.budget ≤ 16 }
         ensures refusal { let at : Place = record {
           key = self.old.key;
@@ -86,7 +60,7 @@ impl<P: ParameterSet> End<P> {
         if link.depth >= self.budget {
             return Err(ChainError::Budget(self.links));
         }
-        if !is_signed(&self.key, &link, steps) {
+        if !self.key.is_valid(Mode::Pure, CONTEXT, link.body, link.signature) {
             return Err(ChainError::Invalid(self.links));
         }
         self.key = VerifyingKey::try_from(link.subject).unwrap();
@@ -94,26 +68,6 @@ impl<P: ParameterSet> End<P> {
         self.links += 1;
         Ok(link.rest)
     }
-}
-
-// Walks on a counter that is made here.
-fn walk_on<P: ParameterSet, L: Ledger>(
-    root: &VerifyingKey<P>,
-    chain: &[u8],
-    blank: Blank,
-) -> Result<End<P>, ChainError>
-    requires fresh { IsFresh blank L.name L.parts }
-    ensures end { IfOk result (λ end. walk_answer P.scheme root.now chain.now
-        ≡ Ok (record { key = end.key; budget = end.budget; links = end.links })) }
-    ensures fault { IfErr result (λ e. walk_answer P.scheme root.now chain.now ≡ Err e) }
-{
-    let mut steps = Steps::<L>::new(blank);
-    let mut end = End::start(root);
-    let mut rest = chain;
-    while !rest.is_empty() {
-        rest = end.follow(rest, &mut steps)?;
-    }
-    Ok(end)
 }
 
 /// The end of a chain whose first link is signed by a root key; the empty chain ends with that
@@ -124,5 +78,10 @@ pub fn walk<P: ParameterSet>(root: &VerifyingKey<P>, chain: &[u8]) -> Result<End
         ≡ Ok (record { key = end.key; budget = end.budget; links = end.links })) }
     ensures fault { IfErr result (λ e. walk_answer P.scheme root.now chain.now ≡ Err e) }
 {
-    walk_on::<P, Brand>(root, chain, Blank::new(1))
+    let mut end = End::start(root);
+    let mut rest = chain;
+    while !rest.is_empty() {
+        rest = end.follow(rest)?;
+    }
+    Ok(end)
 }

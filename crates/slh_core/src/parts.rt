@@ -26,3 +26,13 @@ pub fn part_of<N: ArraySize>(bytes: &[u8], c: usize) -> NBytes<N>
     let n = N::USIZE;
     NBytes::exact(&bytes[c * n..c * n + n])
 }
+
+/// The bytes of part number `i`, of parts of `len` bytes.
+#[inline]
+pub fn piece(bytes: &[u8], len: usize, i: usize) -> &[u8]
+    requires { (i + 1) * len ≤ length bytes.now }
+    ensures value { result.now ≡ spec_part len bytes.now i }
+    ensures len { length result.now ≡ len }
+{
+    &bytes[i * len..i * len + len]
+}

@@ -1,11 +1,11 @@
 //! WOTS+: chains and key pairs (FIPS 205, section 5).
-ghost use Rattle.std.specs.Prelude.{◌≡◌, ℕ, ◌+◌, ◌*◌, ◌≤◌, ◌<◌, List, length, sum, EachIndex};
+ghost use Rattle.std.specs.Prelude.{◌≡◌, ℕ, ◌+◌, ◌*◌, ◌≤◌, ◌<◌, List, length, EachIndex};
 ghost use Rattle.std.specs.Prelude.{slice_index, nat_lt, if◌then◌else◌};
 ghost use Rattle.slh_core.specs.Bytes.{joined, part};
 ghost use Rattle.slh_core.specs.Costs.{wots_pk_cost, wots_sign_cost, wots_sign_bound};
 ghost use Rattle.slh_core.specs.Costs.{wots_pk_from_sig_cost, wots_pk_from_sig_bound};
 ghost use Rattle.slh_core.specs.Wots.{chain, chain_value, wots_pk, chain_values, wots_sig};
-ghost use Rattle.slh_core.specs.Wots.{checked_ends, wots_pk_from_sig as spec_wots_pk_from_sig};
+ghost use Rattle.slh_core.specs.Wots.{wots_pk_from_sig as spec_wots_pk_from_sig};
 ghost use Rattle.slh_core.specs.Digits.{wots_digits};
 ghost use Rattle.slh_core.specs.Parameters.{chain_count};
 
@@ -93,9 +93,9 @@ fn write_ends<P: WotsParams, L: Ledger>(
     }
 }
 
-/// How many bytes the ends of all chains of a key pair have.
+/// How many bytes the values of all chains of a key pair have.
 #[inline]
-fn ends_len<P: WotsParams>() -> usize
+pub fn ends_len<P: WotsParams>() -> usize
     ensures value { result ≡ P.WotsSigLen.USIZE * P.N.USIZE }
     ensures small { result ≤ MAX_ENDS_LEN }
 {
@@ -226,26 +226,4 @@ pub fn wots_pk_from_sig<P: WotsParams, L: Ledger>(
     let ends = &mut store[..ends_len::<P>()];
     P::finish_each(keyed, &all[..len], sig, adrs, ends, steps);
     P::t(keyed, &adrs.pk_adrs(), ends, steps)
-}
-
-/// Takes the chain values that belong to digits to their ends.
-pub fn finish_chains<P: WotsParams, L: Ledger>(
-    digits: &[u16],
-    sig: &[u8],
-    keyed: &P::Keyed,
-    adrs: &WotsHash,
-    out: &mut [u8],
-    steps: &mut Steps<L>,
-)
-    requires n { P.N.USIZE ≤ 32 }
-    requires count { length digits.now ≡ chain_count P.N.USIZE }
-    requires below { EachIndex digits.now (λ k. slice_index digits.now k < 16) }
-    requires whole { length sig.now ≡ length digits.now * P.N.USIZE }
-    requires room { length out.old ≡ length digits.now * P.N.USIZE }
-    ensures value { let K = P.keyed_suite keyed.now in
-        let a = adrs.now in
-        out.new ≡ checked_ends K a.layer_adrs a.tree_adrs_low a.key_pair_adrs sig.now digits.now }
-    ensures cost { steps.new + sum digits.now ≡ steps.old + 15 * length digits.now }
-{
-    P::finish_each(keyed, digits, sig, adrs, out, steps);
 }

@@ -195,6 +195,71 @@ impl<P: ParameterSet> SigningKey<P> {
         );
     }
 
+    /// As `hash_sign_counted`, without a counter. `Length`: `out` doesn't have the bytes of a
+    /// signature; `ContextTooLong`, `RandomizerLength`, `MessageTooLong`. After a refusal `out` is
+    /// as it was. Takes no memory.
+    pub fn sign_into(
+        &self,
+        mode: Mode,
+        ctx: &[u8],
+        msg: &[u8],
+        opt_rand: Option<&[u8]>,
+        out: &mut [u8],
+    ) -> Result<(), Error>
+        ensures refusal { let opt_rand = option_copied opt_rand.entry in
+            RefusedExactly result
+            (sign_refusal P.scheme ctx.now opt_rand msg.now (length out.old)) }
+        ensures value { let opt_rand = option_copied opt_rand.entry in
+            let message = mode_frame mode ctx.now msg.now in
+            OnOk result (out.new ≡ signature_of P.scheme self.now opt_rand message) }
+        ensures same { OnErr result (out.new ≡ out.old) }
+    {
+        check_signature::<P>(out.len())?;
+        Self::check_sign(msg, ctx, opt_rand)?;
+        self.sign_checked_into(mode, ctx, msg, opt_rand, out);
+        Ok(())
+    }
+
+    /// As `hash_sign_checked`, without a counter: what [`SigningKey::check_sign`] doesn't refuse is
+    /// signed into the bytes of a signature.
+    pub fn sign_checked_into(
+        &self,
+        mode: Mode,
+        ctx: &[u8],
+        msg: &[u8],
+        opt_rand: Option<&[u8]>,
+        out: &mut [u8],
+    )
+        requires fits { IsSignable P.N.USIZE ctx.now (option_copied opt_rand) msg.now }
+        requires room { length out.old ≡ signature_size P.scheme }
+        ensures { let opt_rand = option_copied opt_rand.entry in
+            let message = mode_frame mode ctx.now msg.now in
+            out.new ≡ signature_of P.scheme self.now opt_rand message }
+    {
+        self.sign_on::<Brand>(mode, ctx, msg, opt_rand, out, Blank::new(1));
+    }
+
+    // The same, on a counter that is made here.
+    fn sign_on<L: Ledger>(
+        &self,
+        mode: Mode,
+        ctx: &[u8],
+        msg: &[u8],
+        opt_rand: Option<&[u8]>,
+        out: &mut [u8],
+        blank: Blank,
+    )
+        requires fits { IsSignable P.N.USIZE ctx.now (option_copied opt_rand) msg.now }
+        requires room { length out.old ≡ signature_size P.scheme }
+        requires fresh { IsFresh blank L.name L.parts }
+        ensures { let opt_rand = option_copied opt_rand.entry in
+            let message = mode_frame mode ctx.now msg.now in
+            out.new ≡ signature_of P.scheme self.now opt_rand message }
+    {
+        let mut steps = Steps::<L>::new(blank);
+        self.hash_sign_checked(mode, msg, ctx, opt_rand, out, &mut steps);
+    }
+
     // Writes the signature of the message that the three slices joined are.
     fn sign_slices<L: Ledger>(
         &self,
@@ -308,9 +373,9 @@ impl<P: ParameterSet> SigningKey<P> {
             IfOk result (λ sig. sig ≡ signature_of P.scheme self.now opt_rand message) }
     {
         Self::check_sign(msg, ctx, opt_rand)?;
-        let frame = Frame::new(mode, ctx, msg);
-        let (head, ctx, tail) = (frame.head(), frame.ctx(), frame.tail());
-        self.sign_new::<Brand>(alloc, head, ctx, tail, opt_rand, Blank::new(1))
+        let mut bytes = zeros::<P::SigLen>(alloc)?;
+        self.sign_checked_into(mode, ctx, msg, opt_rand, bytes.as_mut_slice());
+        Ok(Signature::from_array(bytes))
     }
 
     // The bytes of `opt_rand`, or the public seed where none are given (FIPS 205, algorithm 19).

@@ -3,7 +3,8 @@ ghost use Rattle.std.specs.Prelude.{◌≡◌, ◌≢◌, ◌≤◌, ◌+◌, �
 ghost use Rattle.std.specs.Prelude.{◌&&◌};
 ghost use Rattle.slh_core.specs.Costs.{slh_verify_bound};
 ghost use Rattle.slh_core.specs.Steps.{IsFresh};
-ghost use Rattle.slh_dsa.specs.Calls.{hash_verify_error, root_refusal, verify_error};
+ghost use Rattle.slh_dsa.specs.Calls.{hash_verify_error, is_valid as spec_is_valid};
+ghost use Rattle.slh_dsa.specs.Calls.{root_refusal, verify_error};
 ghost use Rattle.slh_dsa.specs.Calls.{verify_internal_error, verify_refusal};
 ghost use Rattle.slh_dsa.specs.Calls.{verifying_key_refusal};
 ghost use Rattle.slh_trees.specs.Checking.{signature_size};
@@ -192,10 +193,51 @@ impl<P: ParameterSet> VerifyingKey<P> {
         ensures { RefusedExactly result
             (hash_verify_error P.scheme mode self.now ctx.now msg.now signature.now) }
     {
-        Self::check_verify(msg, ctx, signature.as_slice())?;
-        let frame = Frame::new(mode, ctx, msg);
-        let (head, ctx, tail) = (frame.head(), frame.ctx(), frame.tail());
-        self.verify_new::<Brand>(head, ctx, tail, signature, Blank::new(1))
+        self.verify_bytes(mode, ctx, msg, signature.as_slice())
+    }
+
+    /// As `hash_verify_counted`, without a counter. `Length`: `sig` doesn't have the bytes of a
+    /// signature; `ContextTooLong`, `MessageTooLong`; `Invalid`: it doesn't lead to the key's root.
+    /// Takes no memory.
+    pub fn verify_bytes(
+        &self,
+        mode: Mode,
+        ctx: &[u8],
+        msg: &[u8],
+        sig: &[u8],
+    ) -> Result<(), Error>
+        ensures { RefusedExactly result
+            (hash_verify_error P.scheme mode self.now ctx.now msg.now sig.now) }
+    {
+        self.verify_bytes_on::<Brand>(mode, ctx, msg, sig, Blank::new(1))
+    }
+
+    /// Whether the bytes of a signature lead to the key's root, for a message and a context of sizes
+    /// that no call refuses.
+    pub fn is_valid(&self, mode: Mode, ctx: &[u8], msg: &[u8], sig: &[u8]) -> bool
+        requires ctx { length ctx.now ≤ 255 }
+        requires msg { length msg.now ≤ 2 ^ 60 }
+        requires sig { length sig.now ≡ signature_size P.scheme }
+        ensures { result ≡ spec_is_valid P.scheme mode self.now ctx.now msg.now sig.now }
+    {
+        self.verify_bytes(mode, ctx, msg, sig).is_ok()
+    }
+
+    // As `verify_bytes`, on a counter that is made here.
+    fn verify_bytes_on<L: Ledger>(
+        &self,
+        mode: Mode,
+        ctx: &[u8],
+        msg: &[u8],
+        sig: &[u8],
+        blank: Blank,
+    ) -> Result<(), Error>
+        requires fresh { IsFresh blank L.name L.parts }
+        ensures { RefusedExactly result
+            (hash_verify_error P.scheme mode self.now ctx.now msg.now sig.now) }
+    {
+        let mut steps = Steps::<L>::new(blank);
+        self.hash_verify_counted(mode, msg, ctx, sig, &mut steps)
     }
 
     /// The key of the 2n bytes of an array.

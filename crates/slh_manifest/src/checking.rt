@@ -1,16 +1,11 @@
 //! Manifests checked against what a store has.
 ghost use Rattle.std.specs.Prelude.{◌≡◌, ◌↔◌, ◌≤◌, ◌^◌, [], None, Some, IsErrOf, IfSome};
-ghost use Rattle.std.specs.Prelude.{IsTrue, IsSome, length};
+ghost use Rattle.std.specs.Prelude.{IsTrue, IsSome};
 ghost use Rattle.line_serve.specs.Causes.{Rose};
-ghost use Rattle.slh_core.specs.Steps.{IsFresh};
-ghost use Rattle.slh_dsa.specs.Calls.{is_valid};
-ghost use Rattle.slh_dsa.specs.declared.frame.Mode.TheVariants.{Pure};
-ghost use Rattle.slh_trees.specs.Checking.{signature_size};
 ghost use Rattle.slh_trees.specs.Sizes.{RefusedExactly};
 ghost use Rattle.slh_manifest.specs.Checking.{RefusedOrFault, SpeaksOfEntries, bytes_error};
 ghost use Rattle.slh_manifest.specs.Checking.{check_error, entries_error, manifest_refusal};
 ghost use Rattle.slh_manifest.specs.Files.{bytes_of};
-ghost use Rattle.slh_manifest.specs.Manifest.{manifest_context};
 ghost use Rattle.slh_manifest.specs.Reading.{are_entries, entries_in};
 ghost use Rattle.slh_manifest.specs.declared.error.CheckError.TheVariants.{Form, Invalid, Fault};
 
@@ -20,10 +15,7 @@ use crate::error::CheckError;
 use crate::measure::{Found, measure};
 use crate::parts::parts_of;
 use crate::store::Store;
-use slh_core::steps::Steps;
-use slh_dsa::{ParameterSet, VerifyingKey};
-use std::marker::Brand;
-use std::sync::ledger::{Blank, Ledger};
+use slh_dsa::{Mode, ParameterSet, VerifyingKey};
 
 /// Checks a manifest, and then each of its entries in turn against what the store has. `Form`;
 /// `Invalid`; `Missing` and `Differs`: the number of the first entry that isn't right; `Fault`: a
@@ -52,27 +44,10 @@ pub fn check<P: ParameterSet, T: Store>(
     let Some(parts) = parts_of::<P>(manifest) else {
         return Err(CheckError::Form);
     };
-    if !is_signed::<P, Brand>(vk, parts.body, parts.signature, Blank::new(1)) {
+    if !vk.is_valid(Mode::Pure, CONTEXT, parts.body, parts.signature) {
         return Err(CheckError::Invalid);
     }
     check_entries(parts.count, parts.entries, store)
-}
-
-// Whether a signature is one of a body under a key, on a counter that is made here.
-fn is_signed<P: ParameterSet, L: Ledger>(
-    vk: &VerifyingKey<P>,
-    body: &[u8],
-    signature: &[u8],
-    blank: Blank,
-) -> bool
-    requires body { length body.now ≤ 2 ^ 60 }
-    requires signature { length signature.now ≡ signature_size P.scheme }
-    requires fresh { IsFresh blank L.name L.parts }
-    ensures { result ≡ is_valid P.scheme Pure vk.now manifest_context body.now signature.now }
-{
-    let mut steps = Steps::<L>::new(blank);
-    let verdict = vk.slh_verify_counted(body, CONTEXT, signature, &mut steps);
-    verdict.is_ok()
 }
 
 // Checks entries that stand at the front of bytes, so many, in turn.

@@ -5,7 +5,6 @@ ghost use Rattle.sha256_lanes.specs.Sha256.{sha256};
 ghost use Rattle.line_serve.specs.Causes.{Rose};
 ghost use Rattle.line_serve.specs.Engine.{Takes};
 ghost use Rattle.line_serve.specs.Fields.{field_at};
-ghost use Rattle.slh_core.specs.Steps.{IsFresh};
 ghost use Rattle.slh_run.specs.Bench.{TellsBench, accepted_count, bench_accepts, bench_count};
 ghost use Rattle.slh_run.specs.Bench.{bench_key as spec_bench_key, bench_message};
 ghost use Rattle.slh_run.specs.Bench.{bench_of, bench_prk as spec_bench_prk, bench_signature};
@@ -22,12 +21,9 @@ use line_serve::{
     write_all,
 };
 use slh_core::params::{chain_sizes, forest_sizes, layer_sizes};
-use slh_core::steps::Steps;
 use slh_dsa::{Mode, ParameterSet, SigningKey};
 use slh_line::{OnSet, Set};
 use std::alloc::{AllocError, Global};
-use std::marker::Brand;
-use std::sync::ledger::{Blank, Ledger};
 
 // How many bytes the longest message has.
 const MAX_MESSAGE: usize = 128;
@@ -109,7 +105,7 @@ fn bench_prk(number: u64) -> [u8; 32]
     HKDF::extract(b"slh-bench", &number.to_be_bytes())
 }
 
-fn bench_key<P: ParameterSet, L: Ledger>(prk: &[u8; 32], steps: &mut Steps<L>) -> SigningKey<P>
+fn bench_key<P: ParameterSet>(prk: &[u8; 32]) -> SigningKey<P>
     ensures { result ≡ spec_bench_key P.scheme prk.now }
 {
     chain_sizes::<P>();
@@ -119,7 +115,7 @@ fn bench_key<P: ParameterSet, L: Ledger>(prk: &[u8; 32], steps: &mut Steps<L>) -
     HKDF::expand(seeds, prk, b"seeds");
     let (sk_seed, rest) = seeds.split_at(n);
     let (sk_prf, pk_seed) = rest.split_at(n);
-    SigningKey::slh_keygen_counted(sk_seed, sk_prf, pk_seed, steps).unwrap()
+    SigningKey::slh_keygen_internal(sk_seed, sk_prf, pk_seed).unwrap()
 }
 
 // Writes message i.
@@ -133,12 +129,11 @@ fn write_message(prk: &[u8; 32], i: u32, msg: &mut [u8])
 }
 
 // Writes the signature of message i, and says whether it is accepted.
-fn sign_one<P: ParameterSet, L: Ledger>(
+fn sign_one<P: ParameterSet>(
     key: &SigningKey<P>,
     prk: &[u8; 32],
     i: u32,
     signature: &mut [u8],
-    steps: &mut Steps<L>,
 ) -> bool
     requires few { i < 64 }
     requires key { key.now ≡ spec_bench_key P.scheme prk.now }
@@ -149,10 +144,8 @@ fn sign_one<P: ParameterSet, L: Ledger>(
     let mut store = [0u8; MAX_MESSAGE];
     let msg = &mut store[..32 + 61 * i as usize % 97];
     write_message(prk, i, msg);
-    key.hash_sign_checked(Mode::Pure, msg, b"", None, signature, steps);
-    let public = key.verifying_key();
-    let verdict = public.slh_verify_counted(msg, b"", signature, steps);
-    verdict.is_ok()
+    key.sign_checked_into(Mode::Pure, b"", msg, None, signature);
+    key.verifying_key().is_valid(Mode::Pure, b"", msg, signature)
 }
 
 // No signature has more bytes.
@@ -171,23 +164,18 @@ struct Outcome {
 }
 
 // Signs and verifies the messages, one after the other. The bytes of one signature are kept.
-fn sign_all<P: ParameterSet, L: Ledger>(
-    prk: &[u8; 32],
-    count: u32,
-    signature: &mut [u8],
-    steps: &mut Steps<L>,
-) -> Outcome
+fn sign_all<P: ParameterSet>(prk: &[u8; 32], count: u32, signature: &mut [u8]) -> Outcome
     requires few { count ≤ 64 }
     requires room { length signature.old ≡ signature_size P.scheme }
     ensures digest { result.digest ≡ sha256 (bench_signatures P.scheme prk.now count) }
     ensures accepted { result.accepted ≡ accepted_count P.scheme prk.now count }
 {
     signature_bound::<P>();
-    let key = bench_key::<P, L>(prk, steps);
+    let key = bench_key::<P>(prk);
     let mut hash = Hash::new();
     let mut accepted = 0u32;
     for i in 0..count {
-        if sign_one::<P, L>(&key, prk, i, signature, steps) {
+        if sign_one::<P>(&key, prk, i, signature) {
             accepted += 1;
         }
         hash.update(signature);
@@ -239,20 +227,14 @@ fn outcome_text(alloc: Global, count: u32, outcome: &Outcome) -> Result<ByteStri
 
 // Signs and verifies, and puts together the lines after the first.
 #[tactic(auto, unfolding(crate::specs::Bench::outcome_lines))]
-fn outcome_in<P: ParameterSet, L: Ledger>(
-    alloc: Global,
-    bench: Bench,
-    blank: Blank,
-) -> Result<ByteString, AllocError>
+fn outcome_in<P: ParameterSet>(alloc: Global, bench: Bench) -> Result<ByteString, AllocError>
     requires few { bench.count ≤ 64 }
-    requires fresh { IsFresh blank L.name L.parts }
     ensures { IfOk result (λ text. text
         ≡ outcome_lines P.scheme (spec_bench_prk bench.number) bench.count) }
 {
-    let mut steps = Steps::<L>::new(blank);
     let mut signature = ByteString::zeroed(alloc, P::SigLen::USIZE)?;
     let prk = bench_prk(bench.number);
-    let outcome = sign_all::<P, L>(&prk, bench.count, signature.as_mut_slice(), &mut steps);
+    let outcome = sign_all::<P>(&prk, bench.count, signature.as_mut_slice());
     outcome_text(alloc, bench.count, &outcome)
 }
 
@@ -271,7 +253,7 @@ impl OnSet for Signing {
         ≡ outcome_lines Z (spec_bench_prk task.bench.number) task.bench.count) };
 
     fn on<P: ParameterSet>(self) -> Result<ByteString, AllocError> {
-        outcome_in::<P, Brand>(self.alloc, self.bench, Blank::new(1))
+        outcome_in::<P>(self.alloc, self.bench)
     }
 }
 

@@ -1,6 +1,5 @@
 //! Answers single jobs.
 ghost use Rattle.std.specs.Prelude.{◌≡◌, ◌≤◌, ◌*◌, ◌^◌, length, OnOk};
-ghost use Rattle.slh_core.specs.Steps.{IsFresh};
 ghost use Rattle.slh_run.specs.Errors.{audit_error_of, error_of};
 ghost use Rattle.slh_run.specs.Judgement.{IsJudged, NeedsMemory, audit_refusal, judgement};
 ghost use Rattle.slh_line.specs.Sets.{scheme_for};
@@ -13,12 +12,9 @@ use hybrid_array::ArraySize;
 use line_serve::ByteString;
 use slh_audit::{AuditError, Evidence, audit_framed, check_evidence_framed};
 use slh_core::params::chain_sizes;
-use slh_core::steps::Steps;
 use slh_dsa::{Frame, Mode, ParameterSet, SigningKey, VerifyingKey};
 use slh_line::{OnSet, Set, as_bytes};
 use std::alloc::{AllocError, Global};
-use std::marker::Brand;
-use std::sync::ledger::{Blank, Ledger};
 
 impl From<slh_dsa::Error> for Error {
     ghost from_gives = { λ e f. f ≡ error_of e };
@@ -60,32 +56,30 @@ impl From<AllocError> for Error {
 }
 
 // A key of three seeds. Its bytes are taken once it is made, and nothing after that can fail.
-fn keygen<P: ParameterSet, L: Ledger>(
+fn keygen<P: ParameterSet>(
     alloc: Global,
     sk_seed: &ByteString,
     sk_prf: &ByteString,
     pk_seed: &ByteString,
-    steps: &mut Steps<L>,
 ) -> Result<Answer, Error>
     ensures { IsJudged P.scheme (Keygen sk_seed.now sk_prf.now pk_seed.now) result }
 {
     chain_sizes::<P>();
     let (sk_seed, sk_prf, pk_seed) = (sk_seed.as_slice(), sk_prf.as_slice(), pk_seed.as_slice());
-    let key = SigningKey::<P>::slh_keygen_counted(sk_seed, sk_prf, pk_seed, steps)?;
+    let key = SigningKey::<P>::slh_keygen_internal(sk_seed, sk_prf, pk_seed)?;
     let mut bytes = ByteString::zeroed(alloc, 4 * P::N::USIZE)?;
     key.write_to(bytes.as_mut_slice());
     Ok(Answer::Key(bytes))
 }
 
 // A signature. Its bytes are taken after all checks, and nothing after that can fail.
-fn sign<P: ParameterSet, L: Ledger>(
+fn sign<P: ParameterSet>(
     alloc: Global,
     mode: Mode,
     key: &ByteString,
     context: &ByteString,
     message: &ByteString,
     randomizer: &Option<ByteString>,
-    steps: &mut Steps<L>,
 ) -> Result<Answer, Error>
     ensures { IsJudged P.scheme (Sign mode key.now context.now message.now randomizer.now) result }
 {
@@ -93,25 +87,24 @@ fn sign<P: ParameterSet, L: Ledger>(
     let key = SigningKey::<P>::try_from(key.as_slice())?;
     SigningKey::<P>::check_sign(msg, ctx, opt_rand)?;
     let mut bytes = ByteString::zeroed(alloc, P::SigLen::USIZE)?;
-    key.hash_sign_checked(mode, msg, ctx, opt_rand, bytes.as_mut_slice(), steps);
+    key.sign_checked_into(mode, ctx, msg, opt_rand, bytes.as_mut_slice());
     Ok(Answer::Signature(bytes))
 }
 
 // Whether a signature is accepted.
-fn verify<P: ParameterSet, L: Ledger>(
+fn verify<P: ParameterSet>(
     mode: Mode,
     key: &ByteString,
     context: &ByteString,
     message: &ByteString,
     signature: &ByteString,
-    steps: &mut Steps<L>,
 ) -> Result<Answer, Error>
     ensures { result ≡ judgement P.scheme
         (Verify mode key.now context.now message.now signature.now) }
 {
     let (msg, ctx, sig) = (message.as_slice(), context.as_slice(), signature.as_slice());
     let key = VerifyingKey::<P>::try_from(key.as_slice())?;
-    key.hash_verify_counted(mode, msg, ctx, sig, steps)?;
+    key.verify_bytes(mode, ctx, msg, sig)?;
     Ok(Answer::Accepted)
 }
 
@@ -177,7 +170,7 @@ fn check<P: ParameterSet>(
 }
 
 // Answers a job whose answer needs no memory.
-fn judge<P: ParameterSet, L: Ledger>(job: &Job, steps: &mut Steps<L>) -> Result<Answer, Error>
+fn judge<P: ParameterSet>(job: &Job) -> Result<Answer, Error>
     requires { NeedsMemory job.now → ⊥ }
     ensures { result ≡ judgement P.scheme job.now }
 {
@@ -188,7 +181,7 @@ fn judge<P: ParameterSet, L: Ledger>(job: &Job, steps: &mut Steps<L>) -> Result<
             context,
             message,
             signature,
-        } => verify::<P, L>(*mode, key, context, message, signature, steps),
+        } => verify::<P>(*mode, key, context, message, signature),
         Job::Audit {
             mode,
             key,
@@ -208,38 +201,25 @@ fn judge<P: ParameterSet, L: Ledger>(job: &Job, steps: &mut Steps<L>) -> Result<
     }
 }
 
-// Answers a job, on a counter that is made here.
-fn run_in<P: ParameterSet, L: Ledger>(
-    alloc: Global,
-    job: &Job,
-    blank: Blank,
-) -> Result<Answer, Error>
-    requires fresh { IsFresh blank L.name L.parts }
+/// Answers a job in a parameter set.
+pub(crate) fn run_set<P: ParameterSet>(alloc: Global, job: &Job) -> Result<Answer, Error>
     ensures { IsJudged P.scheme job.now result }
 {
-    let mut steps = Steps::<L>::new(blank);
     match job {
         Job::Keygen {
             sk_seed,
             sk_prf,
             pk_seed,
-        } => keygen::<P, L>(alloc, sk_seed, sk_prf, pk_seed, &mut steps),
+        } => keygen::<P>(alloc, sk_seed, sk_prf, pk_seed),
         Job::Sign {
             mode,
             key,
             context,
             message,
             randomizer,
-        } => sign::<P, L>(alloc, *mode, key, context, message, randomizer, &mut steps),
-        _ => judge::<P, L>(job, &mut steps),
+        } => sign::<P>(alloc, *mode, key, context, message, randomizer),
+        _ => judge::<P>(job),
     }
-}
-
-/// Answers a job in a parameter set.
-pub(crate) fn run_set<P: ParameterSet>(alloc: Global, job: &Job) -> Result<Answer, Error>
-    ensures { IsJudged P.scheme job.now result }
-{
-    run_in::<P, Brand>(alloc, job, Blank::new(1))
 }
 
 // A job of which only the set isn't known.

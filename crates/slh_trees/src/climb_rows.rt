@@ -7,12 +7,11 @@ ghost use Rattle.slh_trees.specs.Merkle.{node_bytes};
 
 use crate::fors::{index_of, opened_len, roots_len};
 use crate::node::NodeAddress;
-use crate::sig_view::piece;
 use hybrid_array::ArraySize;
 use slh_core::address::ForsTree;
 use slh_core::nbytes::NBytes;
 use slh_core::params::{ForsParams, MAX_FORS_TREES, MAX_ROOTS_LEN, forest_sizes};
-use slh_core::parts::{part_of, put_part};
+use slh_core::parts::{part_of, piece, put_part};
 use slh_core::steps::Steps;
 use std::sync::ledger::Ledger;
 

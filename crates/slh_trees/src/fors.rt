@@ -186,7 +186,7 @@ pub fn opened_len<P: ForsParams>() -> usize
 
 /// How many bytes the forest's part of a signature has.
 #[inline]
-pub(crate) fn forest_len<P: ForsParams>() -> usize
+pub fn forest_len<P: ForsParams>() -> usize
     ensures value { result ≡ forest_size P.N.USIZE P.K.USIZE P.A.USIZE }
     ensures small { result ≤ MAX_FORS_TREES * MAX_OPENED_LEN }
 {

@@ -5,12 +5,12 @@ ghost use Rattle.slh_core.specs.Costs.{ht_sign_cost, ht_verify_bound};
 ghost use Rattle.slh_trees.specs.Checking.{checked_message};
 ghost use Rattle.slh_trees.specs.Hypertree.{ht_sig, layer_size};
 
-use crate::sig_view::piece;
 use crate::xmss::{xmss_pk_from_sig, xmss_sign_root};
 use hybrid_array::ArraySize;
 use slh_core::address::WotsHash;
 use slh_core::nbytes::NBytes;
 use slh_core::params::{HypertreeParams, XmssParams, layer_sizes, tree_sizes};
+use slh_core::parts::piece;
 use slh_core::steps::Steps;
 use std::sync::ledger::Ledger;
 

@@ -1,7 +1,7 @@
 //! XMSS trees, the hypertree and FORS (FIPS 205, sections 6 to 8), over any hash suite.
 //!
 //! The crate below, `slh_core`, has suites, addresses, sizes, digits and key pairs. Their names
-//! stand here too. [`uncounted`] has the calls of the scheme for callers that count no hash calls.
+//! stand here too. [`uncounted`] has the roots for callers that count no hash calls.
 //! [`toy::Toy`] is a suite of one byte for tests, whose values can be computed by hand; it hides
 //! nothing. No call takes memory.
 //!
@@ -48,7 +48,6 @@ mod subtree;
 pub mod toy;
 mod treehash;
 pub mod uncounted;
-mod uncounted_fors;
 pub mod xmss;
 
 pub use check::check_root;

@@ -12,9 +12,10 @@ ghost use Rattle.slh_trees.specs.SignatureParts.{sibling_node_of};
 use crate::fors::{forest_len, opened_len};
 use crate::hypertree::layer_len;
 use crate::sizes::signature_len;
-use crate::xmss::chains_len;
 use hybrid_array::{ArrayRef, ArraySize};
 use slh_core::params::{ForsParams, forest_sizes, layer_sizes};
+use slh_core::parts::piece;
+use slh_core::wots::ends_len;
 use std::marker::{Model, PhantomData};
 
 /// The bytes of a signature where they stand (FIPS 205, section 9.2). Contracts see it as these
@@ -34,16 +35,6 @@ impl<'a, P: ForsParams> Model for SigView<'a, P> {
     ghost view = { λ v. v.bytes.now };
 
     ghost invariant = { λ v. length v.bytes.now ≡ signature_size P.scheme };
-}
-
-// The part of a slice with a number, of parts of `len` bytes.
-#[inline]
-pub(crate) fn piece(bytes: &[u8], len: usize, i: usize) -> &[u8]
-    requires { (i + 1) * len ≤ length bytes.now }
-    ensures value { result.now ≡ part len bytes.now i }
-    ensures len { length result.now ≡ len }
-{
-    &bytes[i * len..i * len + len]
 }
 
 // A view of a slice that is known to have the length.
@@ -183,7 +174,7 @@ impl<'a, P: ForsParams> SigView<'a, P> {
         ensures siblings_len { length result.1.now ≡ P.HPrime.USIZE * P.N.USIZE }
     {
         layer_sizes::<P>();
-        self.xmss(j).split_at(chains_len::<P>())
+        self.xmss(j).split_at(ends_len::<P>())
     }
 
     /// The value of chain `c` of layer `j`.

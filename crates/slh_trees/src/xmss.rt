@@ -16,29 +16,11 @@ use hybrid_array::ArraySize;
 use slh_core::address::{HashTree, WotsHash};
 use slh_core::digits::{message_digits, no_digits};
 use slh_core::nbytes::NBytes;
-use slh_core::params::{MAX_ENDS_LEN, MAX_N, WotsParams, XmssParams, chain_sizes, tree_sizes};
+use slh_core::params::{MAX_ENDS_LEN, MAX_N, XmssParams, tree_sizes};
 use slh_core::parts::{part_of, put_part};
 use slh_core::steps::Steps;
-use slh_core::wots::{wots_pk_from_sig, wots_pk_gen, wots_sign, wots_sign_leaf};
+use slh_core::wots::{ends_len, wots_pk_from_sig, wots_pk_gen, wots_sign, wots_sign_leaf};
 use std::sync::ledger::Ledger;
-
-/// How many bytes the values of all chains of a key pair have.
-#[inline]
-pub(crate) fn chains_len<P: WotsParams>() -> usize
-    ensures value { result ≡ P.WotsSigLen.USIZE * P.N.USIZE }
-    ensures small { result ≤ MAX_ENDS_LEN }
-{
-    chain_sizes::<P>();
-    P::WotsSigLen::USIZE * P::N::USIZE
-}
-
-/// The address of another key pair of the same tree.
-#[inline]
-pub fn at_leaf(adrs: &WotsHash, key_pair: u32) -> WotsHash
-    ensures { result ≡ record adrs.now { key_pair_adrs = key_pair; chain_adrs = 0; hash_adrs = 0 } }
-{
-    adrs.at_key_pair(key_pair)
-}
 
 /// The address of a key pair whose public key is a leaf of a tree.
 #[inline]
@@ -150,7 +132,7 @@ impl<P: XmssParams> Leaves<P> for HashTree {
         let groups = count / 8;
         let (eights, rest) = out.split_at_mut(groups * (8 * P::N::USIZE));
         let mut store = [0u8; MAX_ENDS_LEN];
-        let sig = &mut store[..chains_len::<P>()];
+        let sig = &mut store[..ends_len::<P>()];
         let none = no_digits(P::WotsSigLen::USIZE);
         leaves_by_eight::<P, L>(
             sk_seed, first, groups, 0, none, keyed, self, sig, eights, steps,
@@ -206,8 +188,8 @@ pub fn xmss_sign<P: XmssParams, L: Ledger>(
 {
     tree_sizes::<P>();
     let height = P::HPrime::USIZE;
-    let (chains, path) = out.split_at_mut(chains_len::<P>());
-    wots_sign::<P, L>(m, sk_seed, keyed, &at_leaf(adrs, idx), chains, steps);
+    let (chains, path) = out.split_at_mut(ends_len::<P>());
+    wots_sign::<P, L>(m, sk_seed, keyed, &adrs.at_key_pair(idx), chains, steps);
     let place = adrs.tree_adrs();
     write_auth_path::<P, HashTree, L>(sk_seed, idx, height, keyed, &place, path, steps);
 }
@@ -234,8 +216,8 @@ pub fn xmss_pk_from_sig<P: XmssParams, L: Ledger>(
 {
     tree_sizes::<P>();
     let height = P::HPrime::USIZE;
-    let (chains, path) = sig.split_at(chains_len::<P>());
-    let leaf = wots_pk_from_sig::<P, L>(chains, m, keyed, &at_leaf(adrs, idx), steps);
+    let (chains, path) = sig.split_at(ends_len::<P>());
+    let leaf = wots_pk_from_sig::<P, L>(chains, m, keyed, &adrs.at_key_pair(idx), steps);
     root_from_auth_path::<P, HashTree, L>(&leaf, idx, height, path, keyed, &adrs.tree_adrs(), steps)
 }
 
@@ -266,7 +248,7 @@ fn sign_in_row<P: XmssParams, L: Ledger>(
     tree_sizes::<P>();
     let height = P::HPrime::USIZE;
     let len = P::WotsSigLen::USIZE;
-    let (chains, path) = out.split_at_mut(chains_len::<P>());
+    let (chains, path) = out.split_at_mut(ends_len::<P>());
     let all = message_digits(m);
     let digits = &all[..len];
     let place = adrs.tree_adrs();
@@ -317,8 +299,8 @@ pub fn xmss_sign_root<P: XmssParams, L: Ledger>(
     if 3 <= height && height <= ROW_HEIGHT as usize {
         return sign_in_row::<P, L>(m, sk_seed, keyed, idx, adrs, out, steps);
     }
-    let (chains, path) = out.split_at_mut(chains_len::<P>());
-    let leaf = wots_sign_leaf::<P, L>(m, sk_seed, keyed, &at_leaf(adrs, idx), chains, steps);
+    let (chains, path) = out.split_at_mut(ends_len::<P>());
+    let leaf = wots_sign_leaf::<P, L>(m, sk_seed, keyed, &adrs.at_key_pair(idx), chains, steps);
     let place = adrs.tree_adrs();
     write_auth_path::<P, HashTree, L>(sk_seed, idx, height, keyed, &place, path, steps);
     root_from_auth_path::<P, HashTree, L>(&leaf, idx, height, path, keyed, &place, steps)

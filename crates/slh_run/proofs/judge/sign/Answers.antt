@@ -4,9 +4,9 @@ use Rattle.slh_run.proofs.judge.sign.Goals as goal
 
 pub returns : goal.returns
 returns g c =
-    let size : length c.hash_sign_checked.new.out ≡ length c.in_ok-bytes.bytes = search rules in
-    rw (written c.hash_sign_checked.new.out c.in_ok-bytes.bytes size)
-    (signed_is_judged g.P.ForsParams.scheme c.args.mode c.args.key.now c.args.context.now c.args.message.now c.args.randomizer.now c.hash_sign_checked.new.out
+    let size : length c.sign_checked_into.new.out ≡ length c.in_ok-bytes.bytes = search rules in
+    rw (written c.sign_checked_into.new.out c.in_ok-bytes.bytes size)
+    (signed_is_judged g.P.ForsParams.scheme c.args.mode c.args.key.now c.args.context.now c.args.message.now c.args.randomizer.now c.sign_checked_into.new.out
     (rw c.as_slice.ensures at c.in_ok-key.ensures.refusal)
     (rw (c.as_slice-msg.ensures, c.as_slice-ctx.ensures, c.as_bytes-opt_rand.ensures) at c.in_ok-check_sign.ensures.refusal)
-    (rw (c.as_slice-msg.ensures, c.as_slice-ctx.ensures, c.as_bytes-opt_rand.ensures, c.in_ok-key.ensures.value, c.as_slice.ensures) at c.hash_sign_checked.ensures.value))
+    (rw (c.as_slice-msg.ensures, c.as_slice-ctx.ensures, c.as_bytes-opt_rand.ensures, c.in_ok-key.ensures.value, c.as_slice.ensures) at c.sign_checked_into.ensures))

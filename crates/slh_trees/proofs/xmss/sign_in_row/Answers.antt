@@ -48,7 +48,7 @@ hash_up_and_path-requires-clause-room g c =
 
 pub hash_up_and_path-requires-clause-path_room : goal.hash_up_and_path-requires-clause-path_room
 hash_up_and_path-requires-clause-path_room g c =
-    let back = rw c.chains_len.ensures.value at c.split_at_mut-chains.ensures.back_len in
+    let back = rw c.ends_len.ensures.value at c.split_at_mut-chains.ensures.back_len in
     rw c.USIZE-height.ensures (omega (arith, back, c.requires.room))
 
 pub returns-clause-root : goal.returns-clause-root

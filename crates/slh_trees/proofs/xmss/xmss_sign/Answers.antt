@@ -5,12 +5,12 @@ use Rattle.slh_trees.proofs.xmss.xmss_sign.Goals as goal
 
 pub write_auth_path-requires-clause-room : goal.write_auth_path-requires-clause-room
 write_auth_path-requires-clause-room g c =
-    let back = rw c.chains_len.ensures.value at c.split_at_mut-chains.ensures.back_len in
+    let back = rw c.ends_len.ensures.value at c.split_at_mut-chains.ensures.back_len in
     rw c.USIZE-height.ensures (omega (arith, back, c.requires.room))
 
 pub returns-clause-value : goal.returns-clause-value
 returns-clause-value g c =
-    rw (c.wots_sign.ensures.value, c.at_leaf.ensures, c.write_auth_path.ensures.value, c.tree_adrs-place.ensures, c.USIZE-height.ensures) refl
+    rw (c.wots_sign.ensures.value, c.at_key_pair.ensures, c.write_auth_path.ensures.value, c.tree_adrs-place.ensures, c.USIZE-height.ensures) refl
 
 pub returns-clause-cost : goal.returns-clause-cost
 returns-clause-cost g c =
