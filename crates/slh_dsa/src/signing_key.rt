@@ -146,8 +146,7 @@ impl<P: ParameterSet> SigningKey<P> {
         ensures cost { OnOk result (steps.new ≡ steps.old + slh_sign_cost P.scheme) }
         ensures free { OnErr result (steps.new ≡ steps.old) }
     {
-        check_signature::<P>(out.len())?;
-        Self::check_sign(msg, ctx, opt_rand)?;
+        Self::check_sign_into(msg, ctx, opt_rand, out.len())?;
         self.hash_sign_checked(mode, msg, ctx, opt_rand, out, steps);
         Ok(())
     }
@@ -164,6 +163,23 @@ impl<P: ParameterSet> SigningKey<P> {
         check_context(ctx)?;
         check_opt_rand::<P>(opt_rand)?;
         check_message(msg)
+    }
+
+    // The refusals of signing into so many bytes, in every mode.
+    fn check_sign_into(
+        msg: &[u8],
+        ctx: &[u8],
+        opt_rand: Option<&[u8]>,
+        len: usize,
+    ) -> Result<(), Error>
+        ensures refusal { let opt_rand = option_copied opt_rand.entry in
+            RefusedExactly result (sign_refusal P.scheme ctx.now opt_rand msg.now len) }
+        ensures fits { let opt_rand = option_copied opt_rand.entry in
+            OnOk result (IsSignable P.N.USIZE ctx.now opt_rand msg.now) }
+        ensures room { OnOk result (len ≡ signature_size P.scheme) }
+    {
+        check_signature::<P>(len)?;
+        Self::check_sign(msg, ctx, opt_rand)
     }
 
     /// As `hash_sign_counted`, of what [`SigningKey::check_sign`] doesn't refuse, into the bytes of
@@ -214,8 +230,7 @@ impl<P: ParameterSet> SigningKey<P> {
             OnOk result (out.new ≡ signature_of P.scheme self.now opt_rand message) }
         ensures same { OnErr result (out.new ≡ out.old) }
     {
-        check_signature::<P>(out.len())?;
-        Self::check_sign(msg, ctx, opt_rand)?;
+        Self::check_sign_into(msg, ctx, opt_rand, out.len())?;
         self.sign_checked_into(mode, ctx, msg, opt_rand, out);
         Ok(())
     }
