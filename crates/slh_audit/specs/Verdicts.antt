@@ -17,7 +17,7 @@ use Rattle.slh_trees.specs.Checking.{checked_root, signature_size}
 use Rattle.slh_trees.specs.Frame.{frame}
 use Rattle.slh_trees.specs.Keys.{top_root}
 use Rattle.slh_trees.specs.Signing.{digest_signature, signature_with}
-use Rattle.slh_trees.specs.Sizes.{context_refusal, first_refusal, length_refusal, message_refusal}
+use Rattle.slh_trees.specs.Refusals.{context_refusal, first_refusal, length_refusal, message_refusal}
 
 -- the first refusal by size, where there is one
 abbrev pub size_refusal : Scheme → List ℕ → List ℕ → List ℕ → List ℕ → Option AuditError

@@ -3,8 +3,8 @@ ghost use Rattle.std.specs.Prelude.{◌≡◌, ◌++◌, ◌∷◌, [], length, 
 ghost use Rattle.std.specs.Option.{option_copied, ForSome};
 ghost use Rattle.slh_trees.specs.Frame.{frame};
 ghost use Rattle.slh_trees.specs.Signing.{signature_of};
-ghost use Rattle.slh_trees.specs.Sizes.{RefusedExactly, RefusedOrNoMemory};
-ghost use Rattle.slh_batch.specs.Calls.{push_refusal, randomizer_refusal};
+ghost use Rattle.slh_trees.specs.Refusals.{RefusedExactly, RefusedOrNoMemory};
+ghost use Rattle.slh_batch.specs.Calls.{push_refusal};
 ghost use Rattle.slh_batch.specs.Calls.{seal_refusal};
 ghost use Rattle.slh_batch.specs.Receipts.{batch_context, batch_message};
 ghost use Rattle.slh_batch.specs.Tree.{batch_leaf};
@@ -17,7 +17,7 @@ use crate::levels::Levels;
 use crate::sealed::Sealed;
 use crate::sides::MAX_MESSAGES;
 use hybrid_array::ArraySize;
-use slh_dsa::{ParameterSet, Signature, SigningKey};
+use slh_dsa::{ParameterSet, Signature, SigningKey, check_opt_rand};
 use slh_trees::sizes::MAX_MESSAGE;
 use std::alloc::Global;
 use std::marker::Model;
@@ -88,27 +88,12 @@ impl Batch {
         if leaves.is_empty() {
             return Err(BatchError::Empty);
         }
-        check_opt_rand::<P>(opt_rand)?;
+        check_opt_rand::<P, BatchError>(opt_rand, BatchError::Randomizer)?;
         let levels = Levels::over(leaves)?;
         let message = root_message(levels.len(), levels.root());
         let signature = sign_root(alloc, key, &message, opt_rand)?;
         Ok(Sealed { levels, signature })
     }
-}
-
-// `Randomizer` for an `opt_rand` that is given and doesn't have n bytes.
-fn check_opt_rand<P: ParameterSet>(opt_rand: Option<&[u8]>) -> Result<(), BatchError>
-    ensures refusal { let opt_rand = option_copied opt_rand.entry in
-        RefusedExactly result (randomizer_refusal P.scheme opt_rand) }
-    ensures fits { OnOk result
-        (ForSome (option_copied opt_rand.entry) (λ bytes. length bytes ≡ P.N.USIZE)) }
-{
-    if let Some(bytes) = opt_rand
-        && bytes.len() != P::N::USIZE
-    {
-        return Err(BatchError::Randomizer);
-    }
-    Ok(())
 }
 
 // The signature of a batch's root. `Memory`.

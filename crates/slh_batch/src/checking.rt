@@ -4,7 +4,7 @@ ghost use Rattle.slh_core.specs.Bytes.{big_endian};
 ghost use Rattle.slh_dsa.specs.Calls.{is_valid};
 ghost use Rattle.slh_dsa.specs.declared.frame.Mode.TheVariants.{Pure};
 ghost use Rattle.slh_trees.specs.Checking.{signature_size};
-ghost use Rattle.slh_trees.specs.Sizes.{RefusedExactly};
+ghost use Rattle.slh_trees.specs.Refusals.{RefusedExactly};
 ghost use Rattle.slh_batch.specs.Calls.{accept_error};
 ghost use Rattle.slh_batch.specs.Receipts.{batch_context, root_message};
 ghost use Rattle.slh_batch.specs.declared.error.ReceiptError.TheVariants.{Invalid};

@@ -2,7 +2,7 @@
 ghost use Rattle.std.specs.Prelude.{◌≡◌, ◌<◌, length, IfOk};
 ghost use Rattle.slh_batch.specs.Calls.{index_refusal};
 ghost use Rattle.slh_batch.specs.Receipts.{receipt_of};
-ghost use Rattle.slh_trees.specs.Sizes.{RefusedOrNoMemory};
+ghost use Rattle.slh_trees.specs.Refusals.{RefusedOrNoMemory};
 ghost use Rattle.slh_batch.specs.declared.error.BatchError.TheVariants.{Memory};
 
 use crate::error::BatchError;

@@ -5,7 +5,7 @@ use Rattle.std.specs.List.{list_any}
 use Rattle.std.specs.Prelude.{Bool, None, Some, unwrap_or, if◌then◌else◌}
 use Rattle.std.proofs.lemmas.List.{map-append, take_more}
 use Rattle.std.proofs.lemmas.List.Folds.{list_any_more}
-use Rattle.slh_trees.specs.Sizes.{first_refusal}
+use Rattle.slh_trees.specs.Refusals.{first_refusal}
 use Rattle.slh_batch.specs.Calls.{push_refusal}
 use Rattle.slh_batch.specs.Tree.{batch_leaf}
 use Rattle.slh_batch.specs.declared.error.BatchError.TheVariants.{Full, Memory, Message}

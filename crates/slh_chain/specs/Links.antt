@@ -8,7 +8,7 @@ use Rattle.slh_core.specs.Parameters.{Scheme}
 use Rattle.slh_trees.specs.Checking.{signature_size}
 use Rattle.slh_trees.specs.Frame.{frame}
 use Rattle.slh_trees.specs.Signing.{signature_of}
-use Rattle.slh_trees.specs.Sizes.{first_refusal}
+use Rattle.slh_trees.specs.Refusals.{first_refusal, randomizer_refusal}
 use Rattle.slh_chain.specs.declared.error.LinkError.{LinkError}
 use Rattle.slh_chain.specs.declared.error.LinkError.TheVariants.{Name, Depth, Randomizer}
 
@@ -42,7 +42,7 @@ randomizer_refusal Z (Some bytes) = if length bytes == Z.n then None else Some R
 
 abbrev pub delegate_refusal : Scheme → List ℕ → ℕ → Option (List ℕ) → Option LinkError
 delegate_refusal Z name depth opt_rand = first_refusal
-    (name_refusal name ∷ depth_refusal depth ∷ randomizer_refusal Z opt_rand ∷ [])
+    (name_refusal name ∷ depth_refusal depth ∷ randomizer_refusal Randomizer Z.n opt_rand ∷ [])
 
 -- The parts of a link that some bytes begin with, by their places.
 abbrev pub link_depth : List ℕ → ℕ

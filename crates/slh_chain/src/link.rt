@@ -3,7 +3,7 @@ ghost use Rattle.std.specs.Prelude.{◌≡◌, ◌↔◌, ◌+◌, ◌*◌, ◌^
 ghost use Rattle.std.specs.Prelude.{IfOk, IfSome, IsSome, IsTrue};
 ghost use Rattle.std.specs.Option.{option_copied, ForSome};
 ghost use Rattle.slh_trees.specs.Checking.{signature_size};
-ghost use Rattle.slh_trees.specs.Sizes.{RefusedExactly, RefusedOrNoMemory};
+ghost use Rattle.slh_trees.specs.Refusals.{RefusedExactly, RefusedOrNoMemory};
 ghost use Rattle.slh_chain.specs.Links.{after_link, body_of, body_size};
 ghost use Rattle.slh_chain.specs.Links.{delegate_refusal, has_form, link_body, link_depth};
 ghost use Rattle.slh_chain.specs.Links.{link_signature, link_subject, signed_link};
@@ -12,7 +12,7 @@ ghost use Rattle.slh_chain.specs.declared.error.LinkError.TheVariants.{Memory};
 use crate::error::LinkError;
 use hybrid_array::ArraySize;
 use slh_core::params::{chain_sizes, forest_sizes, layer_sizes};
-use slh_dsa::{Mode, ParameterSet, SigningKey, VerifyingKey};
+use slh_dsa::{Mode, ParameterSet, SigningKey, VerifyingKey, check_opt_rand};
 use std::alloc::Global;
 
 /// The context that bodies are signed with.
@@ -50,12 +50,7 @@ fn check_link<P: ParameterSet>(
     if depth > MAX_DEPTH {
         return Err(LinkError::Depth);
     }
-    if let Some(bytes) = opt_rand
-        && bytes.len() != P::N::USIZE
-    {
-        return Err(LinkError::Randomizer);
-    }
-    Ok(())
+    check_opt_rand::<P, LinkError>(opt_rand, LinkError::Randomizer)
 }
 
 // Writes the body of a link.

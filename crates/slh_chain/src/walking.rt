@@ -1,7 +1,7 @@
 //! Walking a chain from its root key to its end.
 ghost use Rattle.std.specs.Prelude.{◌≡◌, ◌+◌, ◌≤◌, ◌<◌, length};
 ghost use Rattle.std.specs.Prelude.{IfOk, IfErr, OnOk, Ok, Err};
-ghost use Rattle.slh_trees.specs.Sizes.{RefusedExactly};
+ghost use Rattle.slh_trees.specs.Refusals.{RefusedExactly};
 ghost use Rattle.slh_chain.specs.Links.{after_link, link_depth, link_subject};
 ghost use Rattle.slh_chain.specs.Walks.{Place, link_fault, walk_answer};
 

@@ -1,6 +1,6 @@
 -- What the calls on keys answer (FIPS 205, sections 9 and 10). Z is the scheme, of values of n
 -- bytes.
-use Rattle.std.specs.Prelude.{◌≡◌, ◌==◌, ℕ, ◌*◌, ◌^◌, ◌≤◌, List, [], ◌∷◌, length, Bool}
+use Rattle.std.specs.Prelude.{◌≡◌, ℕ, ◌*◌, ◌^◌, ◌≤◌, List, [], ◌∷◌, length, Bool}
 use Rattle.std.specs.Prelude.{Option, None, Some, Result, IfOk, if◌then◌else◌}
 use Rattle.std.specs.Option.{ForSome}
 use Rattle.std.specs.Str.{bytes_eq}
@@ -8,8 +8,8 @@ use Rattle.slh_core.specs.Bytes.{part}
 use Rattle.slh_core.specs.Parameters.{Scheme}
 use Rattle.slh_trees.specs.Checking.{checked_root, signature_size}
 use Rattle.slh_trees.specs.Keys.{IsTrueKey, signing_key_bytes}
-use Rattle.slh_trees.specs.Sizes.{RefusedExactly, context_refusal, first_refusal, length_refusal}
-use Rattle.slh_trees.specs.Sizes.{message_refusal}
+use Rattle.slh_trees.specs.Refusals.{RefusedExactly, context_refusal, first_refusal, length_refusal}
+use Rattle.slh_trees.specs.Refusals.{message_refusal, randomizer_refusal}
 use Rattle.slh_dsa.specs.Frames.{mode_frame}
 use Rattle.slh_dsa.specs.declared.error.Error.{Error}
 use Rattle.slh_dsa.specs.declared.error.Error.TheVariants.{Length, ContextTooLong, RandomizerLength}
@@ -19,8 +19,7 @@ use Rattle.slh_dsa.specs.declared.frame.Mode.TheVariants.{Pure}
 
 -- opt_rand has n bytes where it is given
 abbrev pub opt_rand_refusal : Scheme → Option (List ℕ) → Option Error
-opt_rand_refusal Z None = None
-opt_rand_refusal Z (Some bytes) = if length bytes == Z.n then None else Some RandomizerLength
+opt_rand_refusal Z opt_rand = randomizer_refusal RandomizerLength Z.n opt_rand
 
 -- why no key is made of three seeds
 abbrev pub keygen_refusal : Scheme → List ℕ → List ℕ → List ℕ → Option Error

@@ -2,8 +2,9 @@
 ghost use Rattle.std.specs.Prelude.{◌≡◌, ◌≤◌, ◌^◌, length, OnOk};
 ghost use Rattle.std.specs.Option.{option_copied, ForSome};
 ghost use Rattle.slh_trees.specs.Checking.{signature_size};
-ghost use Rattle.slh_trees.specs.Sizes.{RefusedExactly, context_refusal, message_refusal};
-ghost use Rattle.slh_dsa.specs.Calls.{opt_rand_refusal, signature_refusal};
+ghost use Rattle.slh_trees.specs.Refusals.{RefusedExactly, context_refusal, message_refusal};
+ghost use Rattle.slh_trees.specs.Refusals.{randomizer_refusal};
+ghost use Rattle.slh_dsa.specs.Calls.{signature_refusal};
 ghost use Rattle.slh_dsa.specs.declared.error.Error.TheVariants.{ContextTooLong, MessageTooLong};
 
 use crate::error::Error;
@@ -46,17 +47,21 @@ pub(crate) fn check_signature<P: ParameterSet>(len: usize) -> Result<(), Error>
     Ok(())
 }
 
-/// `RandomizerLength` for an `opt_rand` that is given and doesn't have n bytes.
-pub(crate) fn check_opt_rand<P: ParameterSet>(opt_rand: Option<&[u8]>) -> Result<(), Error>
+/// The error for a randomizer that is given and doesn't have n bytes. Each call that signs has an
+/// error of its own for it.
+pub fn check_opt_rand<P: ParameterSet, E: Drop>(
+    opt_rand: Option<&[u8]>,
+    error: E,
+) -> Result<(), E>
     ensures refusal { let opt_rand = option_copied opt_rand.entry in
-        RefusedExactly result (opt_rand_refusal P.scheme opt_rand) }
+        RefusedExactly result (randomizer_refusal error P.N.USIZE opt_rand) }
     ensures fits { OnOk result
         (ForSome (option_copied opt_rand.entry) (λ bytes. length bytes ≡ P.N.USIZE)) }
 {
     if let Some(bytes) = opt_rand
         && bytes.len() != P::N::USIZE
     {
-        return Err(Error::RandomizerLength);
+        return Err(error);
     }
     Ok(())
 }

@@ -25,8 +25,9 @@
 //! }
 //! ```
 //!
-//! The calls whose names end in `_counted` do the same on slices of the caller, take no memory, and
-//! count the addressed hash calls on the caller's counter. Each refusal comes for the cause that
+//! [`SigningKey::sign_into`] and [`VerifyingKey::verify_bytes`] do the same on slices of the caller
+//! and take no memory; the calls whose names end in `_counted` besides count the addressed hash calls
+//! on the caller's counter. Each refusal comes for the cause that
 //! its variant of [`Error`] names, the first in the order of the variants.
 #![tactic(auto)]
 
@@ -40,6 +41,7 @@ mod signing_key;
 mod traits;
 mod verifying_key;
 
+pub use checks::check_opt_rand;
 pub use error::Error;
 pub use frame::{Frame, Mode};
 pub use parameter_set::ParameterSet;

@@ -8,7 +8,7 @@ ghost use Rattle.slh_core.specs.Steps.{IsFresh};
 ghost use Rattle.slh_trees.specs.Checking.{signature_size};
 ghost use Rattle.slh_trees.specs.Frame.{frame};
 ghost use Rattle.slh_trees.specs.Signing.{signature_of};
-ghost use Rattle.slh_trees.specs.Sizes.{RefusedExactly, RefusedOrNoMemory};
+ghost use Rattle.slh_trees.specs.Refusals.{RefusedExactly, RefusedOrNoMemory};
 ghost use Rattle.slh_dsa.specs.Calls.{IsKeygenAnswer, IsSignable};
 ghost use Rattle.slh_dsa.specs.Calls.{sign_input_refusal, sign_internal_refusal, sign_refusal};
 ghost use Rattle.slh_dsa.specs.Calls.{signing_key_refusal};
@@ -161,7 +161,7 @@ impl<P: ParameterSet> SigningKey<P> {
             OnOk result (IsSignable P.N.USIZE ctx.now opt_rand msg.now) }
     {
         check_context(ctx)?;
-        check_opt_rand::<P>(opt_rand)?;
+        check_opt_rand::<P, Error>(opt_rand, Error::RandomizerLength)?;
         check_message(msg)
     }
 
@@ -347,7 +347,7 @@ impl<P: ParameterSet> SigningKey<P> {
         ensures value { let opt_rand = option_copied opt_rand.entry in
             IfOk result (λ sig. sig ≡ signature_of P.scheme self.now opt_rand msg.now) }
     {
-        check_opt_rand::<P>(opt_rand)?;
+        check_opt_rand::<P, Error>(opt_rand, Error::RandomizerLength)?;
         check_message(msg)?;
         self.sign_new::<Brand>(alloc, &[], &[], msg, opt_rand, Blank::new(1))
     }

@@ -6,7 +6,7 @@ ghost use Rattle.slh_core.specs.Steps.{IsFresh};
 ghost use Rattle.slh_trees.specs.Frame.{frame};
 ghost use Rattle.slh_trees.specs.Keys.{IsTrueKey, signing_key_bytes};
 ghost use Rattle.slh_trees.specs.Signing.{signature_of};
-ghost use Rattle.slh_trees.specs.Sizes.{message_refusal};
+ghost use Rattle.slh_trees.specs.Refusals.{message_refusal};
 ghost use Rattle.slh_dsa.specs.Calls.{verify_error};
 ghost use Rattle.slh_dsa.specs.declared.error.Error.TheVariants.{Memory, MessageTooLong};
 

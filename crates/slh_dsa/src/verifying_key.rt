@@ -8,7 +8,7 @@ ghost use Rattle.slh_dsa.specs.Calls.{root_refusal, verify_error};
 ghost use Rattle.slh_dsa.specs.Calls.{verify_internal_error, verify_refusal};
 ghost use Rattle.slh_dsa.specs.Calls.{verifying_key_refusal};
 ghost use Rattle.slh_trees.specs.Checking.{signature_size};
-ghost use Rattle.slh_trees.specs.Sizes.{RefusedExactly};
+ghost use Rattle.slh_trees.specs.Refusals.{RefusedExactly};
 ghost use Rattle.slh_dsa.specs.declared.error.Error.TheVariants.{Invalid};
 
 use crate::checks::{check_context, check_message, check_signature, zeros};

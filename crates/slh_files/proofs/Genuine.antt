@@ -29,7 +29,7 @@ use Rattle.slh_trees.proofs.Signatures.{checked_root-signature, length-digest_si
 use Rattle.slh_trees.specs.Checking.{checked_root, signature_size}
 use Rattle.slh_trees.specs.Keys.{top_root}
 use Rattle.slh_trees.specs.Signing.{digest_signature, signature_of, signature_with}
-use Rattle.slh_trees.specs.Sizes.{context_refusal, first_refusal, message_refusal}
+use Rattle.slh_trees.specs.Refusals.{context_refusal, first_refusal, message_refusal}
 use Rattle.slh_dsa.specs.declared.error.Error.TheVariants.{ContextTooLong, MessageTooLong}
 use Rattle.slh_files.specs.Jobs.{MadeIsGenuine, audited_by, genuine_by, has_true_root, signature_by}
 use Rattle.slh_files.specs.declared.jobs.SignError.{SignError}

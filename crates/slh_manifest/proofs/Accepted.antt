@@ -17,7 +17,7 @@ use Rattle.slh_trees.specs.Checking.{signature_size}
 use Rattle.slh_trees.specs.Frame.{frame}
 use Rattle.slh_trees.specs.Keys.{IsTrueKey}
 use Rattle.slh_trees.specs.Signing.{signature_of}
-use Rattle.slh_trees.specs.Sizes.{first_refusal}
+use Rattle.slh_trees.specs.Refusals.{first_refusal}
 use Rattle.slh_manifest.specs.Building.{entry_of, manifest_of}
 use Rattle.slh_manifest.specs.Checking.{HasEntry, bytes_error, check_error, entries_error}
 use Rattle.slh_manifest.specs.Files.{Files, bytes_of}

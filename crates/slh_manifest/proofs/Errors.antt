@@ -1,6 +1,6 @@
 -- What the entries of a manifest are answered, one after another.
 use Rattle.std.proofs.Common.{◌≡◌, ℕ, ◌+◌, ◌-◌, ◌<◌, List, [], ◌∷◌, refl, sym, ◌∙◌, ap, Option, None, Some, ◌⊎◌, inl, inr}
-use Rattle.slh_trees.specs.Sizes.{first_refusal}
+use Rattle.slh_trees.specs.Refusals.{first_refusal}
 use Rattle.slh_manifest.specs.Checking.{bytes_error, entries_error}
 use Rattle.slh_manifest.specs.Files.{Files, bytes_of}
 use Rattle.slh_manifest.specs.Reading.{IsFrontView, entries_in, front_entry, after_front}

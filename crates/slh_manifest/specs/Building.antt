@@ -6,7 +6,7 @@ use Rattle.sha256_lanes.specs.Sha256.{sha256}
 use Rattle.slh_core.specs.Parameters.{Scheme}
 use Rattle.slh_trees.specs.Frame.{frame}
 use Rattle.slh_trees.specs.Signing.{signature_of}
-use Rattle.slh_trees.specs.Sizes.{first_refusal}
+use Rattle.slh_trees.specs.Refusals.{first_refusal, randomizer_refusal}
 use Rattle.slh_manifest.specs.Files.{Files, bytes_of}
 use Rattle.slh_manifest.specs.Manifest.{Rise, body_bytes, manifest_context, may_follow}
 use Rattle.slh_manifest.specs.declared.entry.Entry.{Entry}
@@ -61,15 +61,10 @@ RefusedOrFault result refusal = MatchResult result (λ _. refusal ≡ None)
 abbrev pub empty_refusal : List Entry → Option BuildError
 empty_refusal entries = if length entries == 0 then Some Empty else None
 
--- opt_rand has n bytes where it is given
-abbrev pub randomizer_refusal : Scheme → Option (List ℕ) → Option BuildError
-randomizer_refusal Z None = None
-randomizer_refusal Z (Some bytes) = if length bytes == Z.n then None else Some Randomizer
-
 -- why no manifest is made of these entries
 abbrev pub seal_refusal : Scheme → List Entry → Option (List ℕ) → Option BuildError
 seal_refusal Z entries opt_rand =
-    first_refusal (empty_refusal entries ∷ randomizer_refusal Z opt_rand ∷ [])
+    first_refusal (empty_refusal entries ∷ randomizer_refusal Randomizer Z.n opt_rand ∷ [])
 
 -- a manifest: the body of these entries, and its signature
 abbrev pub manifest_of : Scheme → List ℕ → Option (List ℕ) → List Entry → List ℕ

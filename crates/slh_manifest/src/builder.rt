@@ -5,10 +5,10 @@ ghost use Rattle.std.specs.Option.{option_copied, ForSome};
 ghost use Rattle.line_serve.specs.Causes.{Rose};
 ghost use Rattle.slh_trees.specs.Frame.{frame};
 ghost use Rattle.slh_trees.specs.Signing.{signature_of};
-ghost use Rattle.slh_trees.specs.Sizes.{RefusedExactly, RefusedOrNoMemory};
+ghost use Rattle.slh_trees.specs.Refusals.{RefusedExactly, RefusedOrNoMemory};
 ghost use Rattle.slh_manifest.specs.Building.{IsAdded, IsBuilt, RefusedOrFault};
 ghost use Rattle.slh_manifest.specs.Building.{add_refusal, entry_of, manifest_of, name_refusal};
-ghost use Rattle.slh_manifest.specs.Building.{last_name as spec_last_name, randomizer_refusal};
+ghost use Rattle.slh_manifest.specs.Building.{last_name as spec_last_name};
 ghost use Rattle.slh_manifest.specs.Building.{seal_refusal};
 ghost use Rattle.slh_manifest.specs.Files.{bytes_of};
 ghost use Rattle.slh_manifest.specs.Manifest.{HasForm, body_bytes, entry_bytes, manifest_context};
@@ -23,7 +23,7 @@ use crate::measure::{Found, measure};
 use crate::store::Store;
 use hybrid_array::ArraySize;
 use line_serve::ByteString;
-use slh_dsa::{ParameterSet, Signature, SigningKey};
+use slh_dsa::{ParameterSet, Signature, SigningKey, check_opt_rand};
 use std::alloc::{AllocError, Global};
 use std::marker::Model;
 
@@ -113,7 +113,7 @@ impl Builder {
         if self.entries.is_empty() {
             return Err(BuildError::Empty);
         }
-        check_opt_rand::<P>(opt_rand)?;
+        check_opt_rand::<P, BuildError>(opt_rand, BuildError::Randomizer)?;
         let mut manifest = body(alloc, &self.entries)?;
         let signature = sign_body(alloc, key, &manifest, opt_rand)?;
         manifest.extend_from_slice(signature.as_slice())?;
@@ -134,21 +134,6 @@ impl Builder {
         self.entries.push(Entry { name, len, digest })?;
         Ok(())
     }
-}
-
-// `Randomizer` for an `opt_rand` that is given and doesn't have n bytes.
-fn check_opt_rand<P: ParameterSet>(opt_rand: Option<&[u8]>) -> Result<(), BuildError>
-    ensures refusal { let opt_rand = option_copied opt_rand.entry in
-        RefusedExactly result (randomizer_refusal P.scheme opt_rand) }
-    ensures fits { OnOk result
-        (ForSome (option_copied opt_rand.entry) (λ bytes. length bytes ≡ P.N.USIZE)) }
-{
-    if let Some(bytes) = opt_rand
-        && bytes.len() != P::N::USIZE
-    {
-        return Err(BuildError::Randomizer);
-    }
-    Ok(())
 }
 
 // The signature of a body. `Memory`.

@@ -2,7 +2,7 @@
 ghost use Rattle.std.specs.Prelude.{◌≡◌, ◌↔◌, ◌≤◌, ◌^◌, [], None, Some, IsErrOf, IfSome};
 ghost use Rattle.std.specs.Prelude.{IsTrue, IsSome};
 ghost use Rattle.line_serve.specs.Causes.{Rose};
-ghost use Rattle.slh_trees.specs.Sizes.{RefusedExactly};
+ghost use Rattle.slh_trees.specs.Refusals.{RefusedExactly};
 ghost use Rattle.slh_manifest.specs.Checking.{RefusedOrFault, SpeaksOfEntries, bytes_error};
 ghost use Rattle.slh_manifest.specs.Checking.{check_error, entries_error, manifest_refusal};
 ghost use Rattle.slh_manifest.specs.Files.{bytes_of};

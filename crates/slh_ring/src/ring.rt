@@ -2,7 +2,7 @@
 ghost use Rattle.std.specs.Prelude.{◌≡◌, ◌+◌, ◌<◌, ◌≤◌, [], length, slice_get, OnOk, OnErr};
 ghost use Rattle.std.specs.Option.{option_copied};
 ghost use Rattle.slh_ring.specs.Rings.{IsRing, add_refusal, with_path};
-ghost use Rattle.slh_trees.specs.Sizes.{RefusedOrNoMemory};
+ghost use Rattle.slh_trees.specs.Refusals.{RefusedOrNoMemory};
 ghost use Rattle.slh_ring.specs.declared.error.RingError.TheVariants.{Memory};
 
 use crate::error::RingError;

@@ -2,7 +2,7 @@
 use Rattle.std.proofs.Common.{◌≡◌, ℕ, ◌+◌, ◌<◌, ◌≤◌, List, [], ◌∷◌, length, drop, get_or, Bool, true, false, None, Some, refl, arith}
 use Rattle.std.specs.Prelude.{unwrap_or, if◌then◌else◌}
 use Rattle.std.proofs.lemmas.List.{drop_all, drop_more}
-use Rattle.slh_trees.specs.Sizes.{first_refusal}
+use Rattle.slh_trees.specs.Refusals.{first_refusal}
 use Rattle.slh_ring.specs.Rings.{add_refusal, has_path, with_path}
 use Rattle.slh_ring.specs.declared.error.RingError.TheVariants.{Present, Full, Memory}
 use Rattle.slh_ring_cli.specs.Replies.{all_added}

@@ -14,7 +14,7 @@ use Rattle.slh_trees.proofs.Climbs.{length-merkle}
 use Rattle.slh_trees.specs.Frame.{frame}
 use Rattle.slh_trees.specs.Keys.{IsTrueKey, signing_key_bytes, top_root}
 use Rattle.slh_trees.specs.Signing.{signature_of}
-use Rattle.slh_trees.specs.Sizes.{first_refusal}
+use Rattle.slh_trees.specs.Refusals.{first_refusal}
 use Rattle.slh_trees.specs.Xmss.{tree_place}
 use Rattle.slh_dsa.specs.Calls.{verify_error}
 use Rattle.slh_dsa.specs.declared.error.Error.{Error}

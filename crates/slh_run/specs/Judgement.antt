@@ -4,7 +4,7 @@ use Rattle.std.specs.Prelude.{if◌then◌else◌}
 use Rattle.slh_core.specs.Parameters.{Scheme}
 use Rattle.slh_trees.specs.Keys.{signing_key_bytes}
 use Rattle.slh_trees.specs.Signing.{signature_of}
-use Rattle.slh_trees.specs.Sizes.{first_refusal}
+use Rattle.slh_trees.specs.Refusals.{first_refusal}
 use Rattle.slh_dsa.specs.Frames.{mode_frame}
 use Rattle.slh_dsa.specs.Calls.{is_valid, keygen_refusal, sign_input_refusal}
 use Rattle.slh_dsa.specs.Calls.{signing_key_refusal, verify_refusal, verifying_key_refusal}

@@ -4,7 +4,7 @@ ghost use Rattle.slh_run.specs.Errors.{audit_error_of, error_of};
 ghost use Rattle.slh_run.specs.Judgement.{IsJudged, NeedsMemory, audit_refusal, judgement};
 ghost use Rattle.slh_line.specs.Sets.{scheme_for};
 ghost use Rattle.slh_trees.specs.Checking.{signature_size};
-ghost use Rattle.slh_trees.specs.Sizes.{RefusedExactly};
+ghost use Rattle.slh_trees.specs.Refusals.{RefusedExactly};
 ghost use Rattle.slh_run.specs.declared.job.Job.TheVariants.{Keygen, Sign, Verify, Audit, Check};
 
 use crate::job::{Answer, Error, Job};

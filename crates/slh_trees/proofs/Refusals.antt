@@ -2,7 +2,7 @@
 use Rattle.std.proofs.Common.{◌≡◌, ℕ, ◌≤◌, List, ◌∷◌, Bool, true, false, Option, None, Some, refl, ap, inl, inr, if◌then◌else◌}
 use Rattle.std.specs.Prelude.{nat_lt}
 use Rattle.std.proofs.lemmas.Bool.{cases_lt, lt-ltb}
-use Rattle.slh_trees.specs.Sizes.{first_refusal}
+use Rattle.slh_trees.specs.Refusals.{first_refusal}
 
 -- the first is none only where each is
 pub first_none : {E : Type 0} (r : Option E) (later : List (Option E)) → first_refusal (r ∷ later) ≡ None → (r ≡ None) × (first_refusal later ≡ None)

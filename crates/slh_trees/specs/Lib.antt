@@ -10,4 +10,4 @@ pub mod ToySuite
 pub mod Keys
 pub mod Signing
 pub mod Frame
-pub mod Sizes
+pub mod Refusals

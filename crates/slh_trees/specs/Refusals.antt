@@ -21,6 +21,11 @@ RefusedOrNoMemory memory result refusal =
 abbrev pub length_refusal : {E : Type 0} → E → ℕ → ℕ → Option E
 length_refusal refusal wanted len = if len == wanted then None else Some refusal
 
+-- a randomizer has n bytes, where one is given
+abbrev pub randomizer_refusal : {E : Type 0} → E → ℕ → Option (List ℕ) → Option E
+randomizer_refusal refusal n None = None
+randomizer_refusal refusal n (Some bytes) = length_refusal refusal n (length bytes)
+
 -- a context has at most 255 bytes (FIPS 205, algorithm 22)
 abbrev pub context_refusal : {E : Type 0} → E → List ℕ → Option E
 context_refusal refusal context = if nat_lt 255 (length context) then Some refusal else None
