@@ -6,6 +6,8 @@
 #[cfg(test)]
 mod audits;
 #[cfg(test)]
+mod bytes;
+#[cfg(test)]
 mod changed;
 #[cfg(test)]
 mod core_values;
