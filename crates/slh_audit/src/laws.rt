@@ -1,7 +1,6 @@
 //! Laws of evidence, each the contract of a function that does nothing but make the calls that it
 //! speaks of.
-ghost use Rattle.std.specs.Prelude.{◌≡◌, ◌↔◌, ◌⊎◌, ℕ, List, length, take, Some, Ok, true, false};
-ghost use Rattle.std.specs.Prelude.{IsTrue};
+ghost use Rattle.std.specs.Prelude.{◌≡◌, ◌⊎◌, ℕ, List, length, take, Some, Ok, true, false};
 ghost use Rattle.std.specs.List.{Contains};
 ghost use Rattle.slh_audit.specs.Evidence.{Dispute, dispute_of, shows};
 ghost use Rattle.slh_audit.specs.Places.{IsFirst, first_evidence, places};
@@ -13,7 +12,7 @@ ghost use Rattle.slh_trees.specs.Checking.{checked_root, signature_size};
 ghost use Rattle.slh_trees.specs.Keys.{top_root};
 ghost use Rattle.slh_trees.specs.Signing.{signature_with};
 
-use crate::evidence::{AuditError, Evidence, Verdict};
+use crate::evidence::{Evidence, Verdict};
 use slh_core::params::ForsParams;
 
 /// Bytes that lead to the root of a key's seeds are those that the key makes with their own
@@ -55,28 +54,3 @@ pub fn first_evidence_is_first()
 pub fn shown_has_a_place()
     ensures { (D : Dispute) (e : Evidence) → shows D e ≡ true → Contains (places D) e }
 {}
-
-/// A clone of evidence is that evidence, and `==` holds exactly where kind and numbers are equal.
-pub fn clone_and_equality_of_evidence(a: &Evidence, b: &Evidence) -> (Evidence, bool)
-    ensures clone { result.0 ≡ a.now }
-    ensures equal { IsTrue result.1 ↔ (a.now ≡ b.now) }
-{
-    (a.clone().unwrap(), a == b)
-}
-
-/// A clone of a verdict is that verdict, and `==` holds exactly where both are the same, with equal
-/// evidence.
-pub fn clone_and_equality_of_verdicts(a: &Verdict, b: &Verdict) -> (Verdict, bool)
-    ensures clone { result.0 ≡ a.now }
-    ensures equal { IsTrue result.1 ↔ (a.now ≡ b.now) }
-{
-    (a.clone().unwrap(), a == b)
-}
-
-/// A clone of a refusal is that refusal, and `==` holds exactly where both are the same.
-pub fn clone_and_equality_of_errors(a: &AuditError, b: &AuditError) -> (AuditError, bool)
-    ensures clone { result.0 ≡ a.now }
-    ensures equal { IsTrue result.1 ↔ (a.now ≡ b.now) }
-{
-    (a.clone().unwrap(), a == b)
-}

@@ -34,6 +34,7 @@
 #![tactic(auto)]
 
 mod calls;
+pub mod clones;
 mod dispute;
 pub mod evidence;
 mod forest;

@@ -2,7 +2,7 @@
 //! functions that do nothing.
 ghost use Rattle.std.specs.Prelude.{◌≡◌, ◌≢◌, ℕ, ◌+◌, ◌-◌, ◌*◌, ◌^◌, ◌<◌, ◌≤◌, List, [], ◌∷◌, ◌++◌};
 ghost use Rattle.std.specs.Prelude.{length, take, drop, map, slice_index_or, true, false};
-ghost use Rattle.std.specs.Prelude.{Option, None, Some, IsTrue, ◌↔◌};
+ghost use Rattle.std.specs.Prelude.{Option, None, Some};
 ghost use Rattle.slh_core.specs.Parameters.{Scheme};
 ghost use Rattle.slh_trees.specs.Frame.{frame};
 ghost use Rattle.slh_trees.specs.Keys.{IsTrueKey};
@@ -15,8 +15,6 @@ ghost use Rattle.slh_batch.specs.Receipts.{has_right_form, path_len, receipt_cou
 ghost use Rattle.slh_batch.specs.Receipts.{receipt_of};
 ghost use Rattle.slh_batch.specs.Tree.{batch_leaf, batch_node, batch_path, batch_tree};
 
-use crate::error::{BatchError, ReceiptError};
-use hybrid_array::ArraySize;
 use slh_dsa::ParameterSet;
 use slh_dsa::laws::signed_is_accepted;
 
@@ -98,22 +96,3 @@ pub fn clash_is_least()
         → k < length xs → k < length ys
         → clashes (slice_index_or xs k []) (slice_index_or ys k []) ≡ false }
 {}
-
-/// A clone of why a call was refused is the same, and `==` holds exactly where both are the same.
-pub fn clone_and_equality_of_errors(a: &BatchError, b: &BatchError) -> (BatchError, bool)
-    ensures clone { result.0 ≡ a.now }
-    ensures equal { IsTrue result.1 ↔ (a.now ≡ b.now) }
-{
-    (a.clone().unwrap(), a == b)
-}
-
-/// Likewise for why a receipt wasn't accepted.
-pub fn clone_and_equality_of_receipt_errors(
-    a: &ReceiptError,
-    b: &ReceiptError,
-) -> (ReceiptError, bool)
-    ensures clone { result.0 ≡ a.now }
-    ensures equal { IsTrue result.1 ↔ (a.now ≡ b.now) }
-{
-    (a.clone().unwrap(), a == b)
-}

@@ -48,6 +48,7 @@ mod batch;
 mod checking;
 mod clashing;
 mod climb;
+pub mod clones;
 mod error;
 mod hashing;
 pub mod laws;

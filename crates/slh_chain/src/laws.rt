@@ -1,6 +1,6 @@
 //! Laws of links and chains, as the contracts of functions that do nothing but make the calls that
 //! they speak of.
-ghost use Rattle.std.specs.Prelude.{◌≡◌, ◌↔◌, ◌≤◌, ℕ, List, length, Ok, Err, true, IsTrue};
+ghost use Rattle.std.specs.Prelude.{◌≡◌, ◌≤◌, ℕ, List, length, Ok, Err, true};
 ghost use Rattle.slh_chain.specs.Delegations.{AreDelegated, Delegation, chain_of, last_depth};
 ghost use Rattle.slh_chain.specs.Delegations.{last_subject};
 ghost use Rattle.slh_chain.specs.Links.{HasLink, ReadsLink, after_link, has_form, link_depth};
@@ -8,8 +8,7 @@ ghost use Rattle.slh_chain.specs.Links.{link_name, link_signature, link_subject}
 ghost use Rattle.slh_chain.specs.Walks.{Ended, IsFaulty, IsGood, ended_at, place, walk_answer};
 ghost use Rattle.slh_chain.specs.declared.error.ChainError.{ChainError};
 
-use crate::error::{ChainError, LinkError};
-use crate::walking::End;
+use crate::error::ChainError;
 use slh_core::params::chain_sizes;
 use slh_dsa::ParameterSet;
 use slh_dsa::laws::signed_is_accepted;
@@ -60,28 +59,4 @@ pub fn delegated_is_walked<P: ParameterSet>()
 {
     chain_sizes::<P>();
     signed_is_accepted::<P>();
-}
-
-/// A clone of why no link was made is the same, and `==` holds exactly where both are the same.
-pub fn clone_and_equality_of_link_errors(a: &LinkError, b: &LinkError) -> (LinkError, bool)
-    ensures clone { result.0 ≡ a.now }
-    ensures equal { IsTrue result.1 ↔ (a.now ≡ b.now) }
-{
-    (a.clone().unwrap(), a == b)
-}
-
-/// Likewise for why a chain leads nowhere.
-pub fn clone_and_equality_of_chain_errors(a: &ChainError, b: &ChainError) -> (ChainError, bool)
-    ensures clone { result.0 ≡ a.now }
-    ensures equal { IsTrue result.1 ↔ (a.now ≡ b.now) }
-{
-    (a.clone().unwrap(), a == b)
-}
-
-/// Likewise for where a chain ends.
-pub fn clone_and_equality_of_ends<P: ParameterSet>(a: &End<P>, b: &End<P>) -> (End<P>, bool)
-    ensures clone { result.0 ≡ a.now }
-    ensures equal { IsTrue result.1 ↔ (a.now ≡ b.now) }
-{
-    (a.clone().unwrap(), a == b)
 }

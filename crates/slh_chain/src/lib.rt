@@ -38,6 +38,7 @@
 //! and for people: no key is chosen by them, and [`walk`] answers none.
 #![tactic(auto)]
 
+pub mod clones;
 mod error;
 pub mod laws;
 mod link;

@@ -5,10 +5,7 @@ ghost use Rattle.slh_core.specs.Digits.{IsBelowSomewhere};
 ghost use Rattle.slh_core.specs.Wots.{chain, wots_pk, wots_sig, wots_pk_from_sig};
 ghost use Rattle.slh_core.specs.Suite.{Seeded, seeded};
 
-use crate::address::{ForsPrf, ForsRoots, ForsTree, HashTree, WotsHash, WotsPk, WotsPrf};
-use crate::nbytes::NBytes;
 use crate::params::WotsParams;
-use hybrid_array::ArraySize;
 
 /// The digits of two different messages of n bytes are incomparable: some digit of each is below
 /// the other's. So no signature of the one gives all chain values for the other.
@@ -35,51 +32,3 @@ pub fn signature_leads_to_leaf<P: WotsParams>()
         → let K = seeded P.suite P.N.USIZE s in
         wots_pk_from_sig K j t l (wots_sig K sk j t l m) m ≡ wots_pk K sk j t l }
 {}
-
-/// A clone of an address of a key pair of WOTS+ is that address, and can't fail.
-pub fn clones_of_wots_addresses(
-    hash: &WotsHash,
-    pk: &WotsPk,
-    prf: &WotsPrf,
-) -> (WotsHash, WotsPk, WotsPrf)
-    ensures hash { result.0 ≡ hash.now }
-    ensures pk { result.1 ≡ pk.now }
-    ensures prf { result.2 ≡ prf.now }
-{
-    (
-        hash.clone().unwrap(),
-        pk.clone().unwrap(),
-        prf.clone().unwrap(),
-    )
-}
-
-/// A clone of an address of a forest is that address, and can't fail.
-pub fn clones_of_fors_addresses(
-    tree: &ForsTree,
-    roots: &ForsRoots,
-    prf: &ForsPrf,
-) -> (ForsTree, ForsRoots, ForsPrf)
-    ensures tree { result.0 ≡ tree.now }
-    ensures roots { result.1 ≡ roots.now }
-    ensures prf { result.2 ≡ prf.now }
-{
-    (
-        tree.clone().unwrap(),
-        roots.clone().unwrap(),
-        prf.clone().unwrap(),
-    )
-}
-
-/// A clone of an address of a tree is that address, and can't fail.
-pub fn clone_of_tree_addresses(adrs: &HashTree) -> HashTree
-    ensures { result ≡ adrs.now }
-{
-    adrs.clone().unwrap()
-}
-
-/// A clone of n bytes is those bytes, and can't fail.
-pub fn clone_of_bytes<N: ArraySize>(bytes: &NBytes<N>) -> NBytes<N>
-    ensures { result ≡ bytes.now }
-{
-    bytes.clone().unwrap()
-}

@@ -38,6 +38,7 @@
 pub mod active_chains;
 pub mod address;
 mod chain_rows;
+pub mod clones;
 pub mod digits;
 pub mod laws;
 pub mod nbytes;

@@ -1,8 +1,7 @@
 //! What keys, signing and verifying have to do with one another, and what tells frames, modes and
 //! refusals apart, as the contracts of functions that do nothing but make the calls that they speak
 //! of.
-ghost use Rattle.std.specs.Prelude.{◌≡◌, ◌≢◌, ℕ, ◌*◌, ◌^◌, ◌≤◌, List, length, drop, Option, None};
-ghost use Rattle.std.specs.Prelude.{◌↔◌, IsTrue};
+ghost use Rattle.std.specs.Prelude.{◌≡◌, ℕ, ◌*◌, ◌^◌, ◌≤◌, List, length, drop, Option, None};
 ghost use Rattle.sha256_lanes.specs.Sha256.{sha256};
 ghost use Rattle.sha2.specs.Sha512.{sha512};
 ghost use Rattle.slh_dsa.specs.Calls.{hash_verify_error};
@@ -12,10 +11,7 @@ ghost use Rattle.slh_dsa.specs.declared.frame.Mode.TheVariants.{Pure, Sha256, Sh
 ghost use Rattle.slh_trees.specs.Keys.{IsTrueKey};
 ghost use Rattle.slh_trees.specs.Signing.{signature_of};
 
-use crate::error::Error;
-use crate::frame::Mode;
 use crate::parameter_set::ParameterSet;
-use hybrid_array::ArraySize;
 
 /// What a key with the root of its own seeds signs, in any mode, with any `opt_rand` or none, is
 /// accepted under its verifying key in the same mode with the same context and message.
@@ -45,19 +41,3 @@ pub fn frames_differ()
         → mode_frame Sha512 context message ≡ mode_frame Sha512 other another
         → sha512 message ≡ sha512 another }
 {}
-
-/// A clone of a mode is that mode, and `==` holds exactly where both are the same.
-pub fn clone_and_equality_of_modes(a: &Mode, b: &Mode) -> (Mode, bool)
-    ensures clone { result.0 ≡ a.now }
-    ensures equal { IsTrue result.1 ↔ (a.now ≡ b.now) }
-{
-    (a.clone().unwrap(), a == b)
-}
-
-/// A clone of a refusal is that refusal, and `==` holds exactly where both are the same.
-pub fn clone_and_equality_of_errors(a: &Error, b: &Error) -> (Error, bool)
-    ensures clone { result.0 ≡ a.now }
-    ensures equal { IsTrue result.1 ↔ (a.now ≡ b.now) }
-{
-    (a.clone().unwrap(), a == b)
-}

@@ -32,6 +32,7 @@
 #![tactic(auto)]
 
 mod checks;
+pub mod clones;
 mod error;
 mod frame;
 pub mod laws;

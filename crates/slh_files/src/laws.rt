@@ -1,6 +1,6 @@
 //! What is written is read, and nothing else; what is signed is genuine; and what tells kinds and
 //! refusals apart: as contracts.
-ghost use Rattle.std.specs.Prelude.{◌≡◌, ◌↔◌, ℕ, List, Ok, IsTrue, length};
+ghost use Rattle.std.specs.Prelude.{◌≡◌, ℕ, List, Ok, length};
 ghost use Rattle.base64.specs.Engines.{standard};
 ghost use Rattle.base64.specs.GeneralPurpose.{IsBytes, encode_of};
 ghost use Rattle.slh_files.specs.Blocks.{block_in};
@@ -14,9 +14,6 @@ ghost use Rattle.slh_files.specs.declared.key.Kind.{Kind as KeyKind};
 ghost use Rattle.slh_line.specs.Sets.{scheme_for};
 ghost use Rattle.slh_line.specs.declared.set.Set.{Set as KeySet};
 
-use crate::error::KeyFileError;
-use crate::jobs::SignError;
-use crate::key::Kind;
 use slh_dsa::ParameterSet;
 use slh_line::OnSet;
 use slh_run::Set;
@@ -59,31 +56,4 @@ pub fn made_is_genuine(set: Set)
     ensures { MadeIsGenuine (scheme_for set) }
 {
     set.run(MadeGenuine);
-}
-
-/// A clone of a refusal is that refusal, and `==` holds exactly where both are the same.
-pub fn clone_and_equality_of_key_file_errors(
-    a: &KeyFileError,
-    b: &KeyFileError,
-) -> (KeyFileError, bool)
-    ensures clone { result.0 ≡ a.now }
-    ensures equal { IsTrue result.1 ↔ (a.now ≡ b.now) }
-{
-    (a.clone().unwrap(), a == b)
-}
-
-/// A clone of a kind is that kind, and `==` holds exactly where both are the same.
-pub fn clone_and_equality_of_kinds(a: &Kind, b: &Kind) -> (Kind, bool)
-    ensures clone { result.0 ≡ a.now }
-    ensures equal { IsTrue result.1 ↔ (a.now ≡ b.now) }
-{
-    (a.clone().unwrap(), a == b)
-}
-
-/// A clone of a refusal to sign is that refusal, and `==` holds exactly where both are the same.
-pub fn clone_and_equality_of_sign_errors(a: &SignError, b: &SignError) -> (SignError, bool)
-    ensures clone { result.0 ≡ a.now }
-    ensures equal { IsTrue result.1 ↔ (a.now ≡ b.now) }
-{
-    (a.clone().unwrap(), a == b)
 }

@@ -38,6 +38,7 @@
 #![tactic(auto)]
 
 mod blocks;
+pub mod clones;
 mod error;
 mod evidence;
 mod heads;

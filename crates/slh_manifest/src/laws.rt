@@ -1,5 +1,5 @@
 //! What manifests have to do with their entries, as the contracts of functions that do nothing.
-ghost use Rattle.std.specs.Prelude.{◌↔◌, ◌⊎◌, IsTrue, Some};
+ghost use Rattle.std.specs.Prelude.{◌⊎◌, Some};
 ghost use Rattle.std.specs.Prelude.{◌≡◌, ℕ, ◌*◌, ◌<◌, ◌++◌, List, length, drop, Option, None, true};
 ghost use Rattle.std.specs.Prelude.{slice_index};
 ghost use Rattle.std.specs.List.{AllByRecursion};
@@ -16,7 +16,7 @@ ghost use Rattle.slh_manifest.specs.declared.entry.Entry.{Entry as ManifestEntry
 ghost use Rattle.slh_manifest.specs.declared.error.CheckError.{CheckError};
 ghost use Rattle.slh_manifest.specs.declared.error.CheckError.TheVariants.{Missing, Differs};
 
-use crate::error::{BuildError, CheckError};
+use crate::error::CheckError;
 use slh_dsa::ParameterSet;
 use slh_dsa::laws::signed_is_accepted;
 
@@ -80,21 +80,4 @@ pub fn sealed_is_accepted<P: ParameterSet>()
         (manifest_of P.scheme key opt_rand entries) files ≡ None }
 {
     signed_is_accepted::<P>();
-}
-
-/// A clone of why nothing was added or made is the same, and `==` holds exactly where both are the
-/// same.
-pub fn clone_and_equality_of_build_errors(a: &BuildError, b: &BuildError) -> (BuildError, bool)
-    ensures clone { result.0 ≡ a.now }
-    ensures equal { IsTrue result.1 ↔ (a.now ≡ b.now) }
-{
-    (a.clone().unwrap(), a == b)
-}
-
-/// Likewise for why a manifest isn't accepted.
-pub fn clone_and_equality_of_check_errors(a: &CheckError, b: &CheckError) -> (CheckError, bool)
-    ensures clone { result.0 ≡ a.now }
-    ensures equal { IsTrue result.1 ↔ (a.now ≡ b.now) }
-{
-    (a.clone().unwrap(), a == b)
 }

@@ -47,6 +47,7 @@
 
 mod builder;
 mod checking;
+pub mod clones;
 mod entry;
 mod error;
 pub mod laws;

@@ -1,6 +1,6 @@
 //! Laws of rings and records, as the contracts of functions that do nothing but make the calls that
 //! they speak of.
-ghost use Rattle.std.specs.Prelude.{◌≡◌, ◌↔◌, ◌||◌, ℕ, List, [], true, IsTrue, IfOk};
+ghost use Rattle.std.specs.Prelude.{◌≡◌, ◌↔◌, ◌||◌, ℕ, List, [], true, IsTrue};
 ghost use Rattle.std.specs.Prelude.{Ok, Err};
 ghost use Rattle.std.specs.List.{All};
 ghost use Rattle.slh_core.specs.Parameters.{Scheme};
@@ -11,12 +11,6 @@ ghost use Rattle.slh_ring.specs.Restores.{restore_answer};
 ghost use Rattle.slh_ring.specs.Rings.{IsRing, accepted, after_adds, has_path, same_path};
 ghost use Rattle.slh_ring.specs.Rings.{with_path};
 ghost use Rattle.slh_ring.specs.declared.error.RestoreError.TheVariants.{Form};
-
-use crate::error::{RestoreError, RingError};
-use crate::path::Path;
-use crate::ring::Ring;
-use slh_dsa::ParameterSet;
-use std::alloc::AllocError;
 
 /// Bytes have the form of a record exactly where they are the layout of some paths, with any 8
 /// bytes for each; and the paths and bytes that are read from them are these.
@@ -69,41 +63,3 @@ pub fn adds_make_the_set()
         → has_path (with_path paths path) q ≡ (same_path q path || has_path paths q) }
     ensures same { (p q : List ℕ) → IsTrue (same_path p q) ↔ (p ≡ q) }
 {}
-
-/// A clone of why a path wasn't added is the same, and `==` holds exactly where both are the same.
-pub fn clone_and_equality_of_ring_errors(a: &RingError, b: &RingError) -> (RingError, bool)
-    ensures clone { result.0 ≡ a.now }
-    ensures equal { IsTrue result.1 ↔ (a.now ≡ b.now) }
-{
-    (a.clone().unwrap(), a == b)
-}
-
-/// Likewise for why a record gave no ring.
-pub fn clone_and_equality_of_restore_errors(
-    a: &RestoreError,
-    b: &RestoreError,
-) -> (RestoreError, bool)
-    ensures clone { result.0 ≡ a.now }
-    ensures equal { IsTrue result.1 ↔ (a.now ≡ b.now) }
-{
-    (a.clone().unwrap(), a == b)
-}
-
-/// Likewise for paths.
-pub fn clone_and_equality_of_paths(a: &Path, b: &Path) -> (Path, bool)
-    ensures clone { result.0 ≡ a.now }
-    ensures equal { IsTrue result.1 ↔ (a.now ≡ b.now) }
-{
-    (a.clone().unwrap(), a == b)
-}
-
-/// Likewise for rings, whose clones take memory.
-pub fn clone_and_equality_of_rings<P: ParameterSet>(
-    a: &Ring<P>,
-    b: &Ring<P>,
-) -> (Result<Ring<P>, AllocError>, bool)
-    ensures clone { IfOk result.0 (λ ring. ring ≡ a.now) }
-    ensures equal { IsTrue result.1 ↔ (a.now ≡ b.now) }
-{
-    (a.clone(), a == b)
-}

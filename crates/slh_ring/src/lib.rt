@@ -51,6 +51,7 @@
 //! least n that nobody can guess.
 #![tactic(auto)]
 
+pub mod clones;
 mod derived;
 mod entry;
 mod error;

@@ -1,9 +1,8 @@
 //! What benches report, and what tells refusals apart, as contracts.
-ghost use Rattle.std.specs.Prelude.{◌≡◌, ◌↔◌, ℕ, List, IsTrue};
+ghost use Rattle.std.specs.Prelude.{◌≡◌, ℕ, List};
 ghost use Rattle.slh_run.specs.Bench.{accepted_count};
 ghost use Rattle.slh_line.specs.Sets.{scheme_for};
 
-use crate::job::Error;
 use slh_dsa::ParameterSet;
 use slh_dsa::laws::signed_is_accepted;
 use slh_line::{OnSet, Set};
@@ -33,12 +32,4 @@ pub fn bench_accepts_all(set: Set)
     ensures { (prk : List ℕ) (count : ℕ) → accepted_count (scheme_for set) prk count ≡ count }
 {
     set.run(AcceptsAll);
-}
-
-/// A clone of a refusal is that refusal, and `==` holds exactly where both are the same.
-pub fn clone_and_equality_of_errors(a: &Error, b: &Error) -> (Error, bool)
-    ensures clone { result.0 ≡ a.now }
-    ensures equal { IsTrue result.1 ↔ (a.now ≡ b.now) }
-{
-    (a.clone().unwrap(), a == b)
 }

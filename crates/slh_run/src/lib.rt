@@ -27,6 +27,7 @@
 #![tactic(auto)]
 
 mod bench;
+pub mod clones;
 mod evidence;
 mod job;
 mod judge;

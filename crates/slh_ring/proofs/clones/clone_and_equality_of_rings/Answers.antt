@@ -2,7 +2,7 @@ use Rattle.std.proofs.Common.{refl, ◌==◌}
 use Rattle.std.specs.Cmp.Lexicographic.{pointwise}
 use Rattle.std.proofs.lemmas.Bool.Decides.{Decides-eqb}
 use Rattle.std.proofs.lemmas.Slice.Eq.{slice_eq-Decides}
-use Rattle.slh_ring.proofs.laws.clone_and_equality_of_rings.Goals as goal
+use Rattle.slh_ring.proofs.clones.clone_and_equality_of_rings.Goals as goal
 
 pub returns-clause-equal : goal.returns-clause-equal
 returns-clause-equal g c =

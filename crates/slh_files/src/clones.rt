@@ -1,0 +1,33 @@
+//! Clones and equality of values, as the contracts of functions that do nothing else.
+ghost use Rattle.std.specs.Prelude.{◌≡◌, ◌↔◌, IsTrue};
+
+use crate::error::KeyFileError;
+use crate::jobs::SignError;
+use crate::key::Kind;
+
+/// A clone of a refusal is that refusal, and `==` holds exactly where both are the same.
+pub fn clone_and_equality_of_key_file_errors(
+    a: &KeyFileError,
+    b: &KeyFileError,
+) -> (KeyFileError, bool)
+    ensures clone { result.0 ≡ a.now }
+    ensures equal { IsTrue result.1 ↔ (a.now ≡ b.now) }
+{
+    (a.clone().unwrap(), a == b)
+}
+
+/// A clone of a kind is that kind, and `==` holds exactly where both are the same.
+pub fn clone_and_equality_of_kinds(a: &Kind, b: &Kind) -> (Kind, bool)
+    ensures clone { result.0 ≡ a.now }
+    ensures equal { IsTrue result.1 ↔ (a.now ≡ b.now) }
+{
+    (a.clone().unwrap(), a == b)
+}
+
+/// A clone of a refusal to sign is that refusal, and `==` holds exactly where both are the same.
+pub fn clone_and_equality_of_sign_errors(a: &SignError, b: &SignError) -> (SignError, bool)
+    ensures clone { result.0 ≡ a.now }
+    ensures equal { IsTrue result.1 ↔ (a.now ≡ b.now) }
+{
+    (a.clone().unwrap(), a == b)
+}
