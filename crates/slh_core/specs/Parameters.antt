@@ -22,7 +22,8 @@ bytes_for bits = (bits + 7) / 8
 abbrev pub chain_count : ℕ → ℕ
 chain_count n = 2 * n + 3
 
--- a message has 2n digits, and a key pair has a chain for each of them and three for the checksum
+-- A message has 2n digits, and a key pair has a chain for each of them and three for the checksum.
+-- The standard has three from n at 9 on (algorithm 1), and so for each of its sets.
 pub record IsValidWots (n digits chains : ℕ) : Type 0 where
   pub n_low : 1 ≤ n
   pub n_high : n ≤ 32

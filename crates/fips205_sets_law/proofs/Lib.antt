@@ -1,0 +1,3 @@
+pub mod Functions
+pub mod Modes
+pub mod Sets
