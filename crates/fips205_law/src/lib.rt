@@ -12,6 +12,7 @@ ghost use Rattle.fips205_law.specs.Law.{SlhVerifyAgrees, ToByteAgrees, ToIntAgre
 ghost use Rattle.fips205_law.specs.Law.{WotsMsgAgrees, WotsPkFromSigAgrees, WotsPkGenAgrees};
 ghost use Rattle.fips205_law.specs.Law.{WotsSignAgrees, XmssNodeAgrees, XmssPkFromSigAgrees};
 ghost use Rattle.fips205_law.specs.Law.{XmssSignAgrees};
+ghost use Rattle.fips205_law.specs.Toy.{ToyAgrees};
 
 /// Does nothing: its clause is the law of algorithm 2.
 pub fn to_int_agrees()
@@ -166,4 +167,10 @@ pub fn hash_slh_verify_agrees()
 /// Does nothing: its clause says that the loops with a test have ended.
 pub fn loops_end()
     ensures { LoopsEnd }
+{}
+
+/// Does nothing: its clause has the values of the toy suite's worked signature up to the forest's
+/// key, from the standard's algorithms.
+pub fn toy_agrees()
+    ensures { ToyAgrees }
 {}
