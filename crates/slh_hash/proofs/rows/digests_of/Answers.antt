@@ -30,4 +30,4 @@ returns-else-numbers-gt1 g c = λ k low.
     let tail : ℕ → List ℕ = λ i. compressed_address (g.A.RowAddress.numbered c.args.adrs.now (slice_index c.args.numbers.now i)) ++ part c.args.width c.args.inputs.now i in
     let tails = c.tails_of-tails-else-numbers-gt1 in
     let made = digest_of_place sha256 m (22 + c.args.width) _ k tails.result c.finalize_one.result tail (c.finalize_one.ensures m keyed.begins) (tails.ensures k (omega (arith, c.if-numbers-gt1.false))) (omega (arith, low)) (omega (arith, c.if-numbers-gt1.false)) in
-    get_or_append_left c.copy_from_slice-2.new.self _ [] k (omega (arith, c.copy_from_slice-2.ensures.len, c.if-numbers-gt1.false)) ∙ ap (λ ds. slice_index_or ds k []) c.copy_from_slice-2.ensures.after ∙ made
+    get_or_append_left c.copy_from_slice-else-numbers-gt1.new.self _ [] k (omega (arith, c.copy_from_slice-else-numbers-gt1.ensures.len, c.if-numbers-gt1.false)) ∙ ap (λ ds. slice_index_or ds k []) c.copy_from_slice-else-numbers-gt1.ensures.after ∙ made
