@@ -1,4 +1,4 @@
-use Rattle.std.proofs.Common.{◌≡◌, ◌+◌, ◌∙◌, List, ℕ, arith, length, subst}
+use Rattle.std.proofs.Common.{◌≡◌, ◌+◌, List, ℕ, arith, length, subst}
 use Rattle.hmac_sha256.specs.Hash.{StandsFor, absorbed_bytes}
 use Rattle.slh_hash.proofs.Started.{core_stands, nothing_held}
 use Rattle.slh_hash.specs.Sha2.{seed_block}
