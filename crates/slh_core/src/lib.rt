@@ -44,6 +44,7 @@ pub mod laws;
 pub mod nbytes;
 pub mod params;
 pub mod parts;
+pub mod pieces;
 pub mod set_row;
 pub mod steps;
 pub mod suite;

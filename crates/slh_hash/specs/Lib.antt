@@ -1,5 +1,6 @@
 pub mod Counted
 pub mod HmacSha512
+pub mod States
 pub mod Sha2
 pub mod Pairs
 pub mod Lengths

@@ -1,8 +1,9 @@
 //! HMAC with SHA-512 (RFC 2104).
-ghost use Rattle.std.specs.Prelude.{◌≡◌, ◌-◌, ◌≤◌, ◌++◌, length, replicate};
+ghost use Rattle.std.specs.Prelude.{◌≡◌, ℕ, ◌-◌, ◌≤◌, List, [], ◌++◌, length, replicate};
 ghost use Rattle.hmac_sha256.specs.Hmac.{masked as spec_masked};
 ghost use Rattle.slh_hash.specs.HmacSha512.{hmac_sha512 as spec_hmac_sha512};
 ghost use Rattle.slh_hash.specs.HmacSha512.{key_block as spec_key_block};
+ghost use Rattle.slh_hash.specs.States.{Authenticates512};
 
 use sha2::{Digest, Sha512};
 
@@ -42,18 +43,54 @@ fn masked(block: &[u8; BLOCK_LEN], mask: u8) -> [u8; BLOCK_LEN]
     out
 }
 
+/// The HMAC-SHA-512 of a message, which `update` takes piece by piece, under a key.
+#[derive(Drop)]
+pub struct Hmac512 {
+    inner: Sha512,
+    outer: Sha512,
+}
+
+impl Hmac512 {
+    /// The HMAC of the empty message, to go on from.
+    pub fn new(key: &[u8]) -> Self
+        ensures { Authenticates512 result.inner result.outer key.now [] }
+    {
+        let block = key_block(key);
+        Hmac512 {
+            inner: Sha512::new_with_prefix(masked(&block, INNER_MASK)),
+            outer: Sha512::new_with_prefix(masked(&block, OUTER_MASK)),
+        }
+    }
+
+    /// Absorbs `input`, after what was absorbed before.
+    pub fn update(&mut self, input: &[u8])
+        ensures { (key m : List ℕ) → Authenticates512 self.old.inner self.old.outer key m
+            → Authenticates512 self.new.inner self.new.outer key (m ++ input.now) }
+    {
+        self.inner.update(input);
+    }
+
+    /// The HMAC of what was absorbed.
+    pub fn finalize(self) -> [u8; 64]
+        ensures { (key m : List ℕ) → Authenticates512 self.inner self.outer key m
+            → result ≡ spec_hmac_sha512 key m }
+    {
+        let Hmac512 { inner, outer } = self;
+        let mut outer = outer;
+        outer.update(inner.finalize());
+        outer.finalize()
+    }
+}
+
 /// The HMAC-SHA-512 of four byte strings, joined, under a key.
 pub fn hmac_sha512(key: &[u8], first: &[u8], head: &[u8], ctx: &[u8], msg: &[u8]) -> [u8; 64]
     ensures { let message = first.now ++ (head.now ++ ctx.now ++ msg.now) in
         result ≡ spec_hmac_sha512 key.now message }
 {
-    let block = key_block(key);
-    let mut inner = Sha512::new_with_prefix(masked(&block, INNER_MASK));
-    inner.update(first);
-    inner.update(head);
-    inner.update(ctx);
-    inner.update(msg);
-    let mut outer = Sha512::new_with_prefix(masked(&block, OUTER_MASK));
-    outer.update(inner.finalize());
-    outer.finalize()
+    let mut mac = Hmac512::new(key);
+    mac.update(first);
+    mac.update(head);
+    mac.update(ctx);
+    mac.update(msg);
+    mac.finalize()
 }

@@ -22,7 +22,7 @@ fn one(byte: u32) -> NBytes<U1>
 }
 
 /// The byte of a byte string of one byte.
-fn byte_of(bytes: &NBytes<U1>) -> u32
+pub(crate) fn byte_of(bytes: &NBytes<U1>) -> u32
     ensures value { result ≡ slice_index bytes.now 0 }
     ensures small { result < 256 }
 {
@@ -30,7 +30,7 @@ fn byte_of(bytes: &NBytes<U1>) -> u32
 }
 
 /// The sum of all bytes, modulo 256.
-fn sum_of(bytes: &[u8]) -> u32
+pub(crate) fn sum_of(bytes: &[u8]) -> u32
     ensures { result ≡ sum bytes.now % 256 }
 {
     let mut total = 0;
