@@ -41,7 +41,7 @@ fn numbered_tails() -> [[u8; 64]; 8] {
 }
 
 // Whether the digests by four are the last of those by eight.
-fn is_four_as_eight(midstate: &Midstate, tails: &[[u8; 64]; 8], eight: &[[u8; 32]; 8]) -> bool{
+fn is_four_as_eight(midstate: &Midstate, tails: &[[u8; 64]; 8], eight: &[[u8; 32]; 8]) -> bool {
     let four = midstate.finalize_four(&[tails[4], tails[5], tails[6], tails[7]], 38);
     four[..] == eight[4..]
 }
@@ -93,7 +93,10 @@ fn counted_rows() -> [u8; 8 * 582] {
 }
 
 fn are_digests_of_rows(midstate: &Midstate) -> bool {
-    are_hex(&DIGESTS_OF_ROWS, &midstate.finalize_rows(&counted_rows(), 582))
+    are_hex(
+        &DIGESTS_OF_ROWS,
+        &midstate.finalize_rows(&counted_rows(), 582),
+    )
 }
 
 #[test]

@@ -17,8 +17,8 @@ use sha512_lanes::Midstate as Midstate512;
 use slh_core::nbytes::NBytes;
 
 /// A public seed, and SHA-256 as it stands after the seed and the zeros that fill its block of 64
-/// bytes (FIPS 205, section 11.2). Every hash of an address goes on from there: once for messages of
-/// any length, and once to hash short ones side by side.
+/// bytes (FIPS 205, section 11.2). Every hash of an address goes on from there: once for messages
+/// of any length, and once to hash short ones side by side.
 #[derive(Drop)]
 pub struct Sha2Keyed<N: ArraySize> {
     pub(crate) pk_seed: NBytes<N>,
