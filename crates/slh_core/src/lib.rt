@@ -43,7 +43,6 @@ pub mod laws;
 pub mod nbytes;
 pub mod params;
 pub mod parts;
-pub mod set_row;
 pub mod steps;
 pub mod suite;
 pub mod wots;

@@ -35,6 +35,7 @@ mod error;
 mod frame;
 pub mod laws;
 mod parameter_set;
+mod sets;
 mod signature;
 mod signing_key;
 mod traits;
