@@ -1,7 +1,8 @@
 -- The laws that the definitions of the project are those of the standard.
 use Rattle.std.specs.Prelude.{◌≡◌, ℕ, ◌+◌, ◌*◌, ◌^◌, ◌<◌, ◌≤◌, List, [], ◌∷◌, ◌++◌, length, take}
 use Rattle.std.specs.Prelude.{slice_index, nat_lt, nat_le, Option, None, Some, IfSome}
-use Rattle.slh_core.specs.Parameters.{Scheme, IsValidRow, chain_count}
+use Rattle.slh_core.specs.Parameters.{Scheme, chain_count}
+use Rattle.slh_core.specs.Parameters.{IsValidWots, IsValidXmss, IsValidHypertree, IsValidFors}
 use Rattle.slh_core.specs.Suite.{HasLength, HasBytes, HasDigestLength, seeded}
 use Rattle.slh_core.specs.Wots.{chain as project_chain, wots_pk, wots_sig, wots_pk_from_sig}
 use Rattle.slh_core.specs.Digits.{wots_digits}
@@ -194,19 +195,18 @@ ForsPkFromSigAgrees =
     → fors_pkFromSig (instance_of Z) SIG md s (address_bytes 0 t FORS_TREE l w2 w3)
     ≡ fors_pk_from_sig (seeded Z.suite Z.n s) t l Z.k Z.a SIG md
 
--- A valid row of the project, of which n is at least 9, over a suite whose values are bytes. The
--- standard's rows have n at 16, 24 and 32.
+-- Valid sizes of the project, of which n is at least 9, over a suite whose values are bytes. The
+-- standard's sets have n at 16, 24 and 32.
 pub record IsRow (Z : Scheme) : Type 0 where
-  pub name : List ℕ
   pub m : ℕ
   pub digits : ℕ
   pub chains : ℕ
   pub h : ℕ
   pub md : ℕ
-  pub sk_len : ℕ
-  pub vk_len : ℕ
-  pub sig_len : ℕ
-  pub valid : IsValidRow name Z.n m digits chains Z.hp Z.d h Z.k Z.a md sk_len vk_len sig_len
+  pub wots : IsValidWots Z.n digits chains
+  pub xmss : IsValidXmss Z.hp
+  pub hypertree : IsValidHypertree Z.hp Z.d h
+  pub fors : IsValidFors Z.hp h Z.k Z.a md m
   pub three_digits : 9 ≤ Z.n
   pub lengths : HasLength Z.suite Z.n
   pub bytes : HasBytes Z.suite

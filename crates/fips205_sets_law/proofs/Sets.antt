@@ -29,25 +29,15 @@ at_row Z row = record {
 
 s128_row : IsRow sha2_128s.scheme
 s128_row = record {
-  name = sha2_128s.name;
   m = 30;
   digits = 32;
   chains = 35;
   h = 63;
   md = 21;
-  sk_len = 64;
-  vk_len = 32;
-  sig_len = 7856;
-  valid = record {
-    wots = record { n_low = lit≤ tt; n_high = lit≤ tt; message_len = refl; signature_len = refl };
-    xmss = record { height_low = lit≤ tt; height_high = lit≤ tt };
-    hypertree = record { layers = lit≤ tt; height = refl; tree_bits = lit≤ tt };
-    fors = record { bits_low = lit≤ tt; bits_high = lit≤ tt; trees_low = lit≤ tt; trees_high = lit≤ tt; leaves = lit< tt; forest_len = refl; digest_len = refl };
-    name_len = lit≤ tt;
-    sk_len = refl;
-    vk_len = refl;
-    sig_len = refl;
-  };
+  wots = record { n_low = lit≤ tt; n_high = lit≤ tt; message_len = refl; signature_len = refl };
+  xmss = record { height_low = lit≤ tt; height_high = lit≤ tt };
+  hypertree = record { layers = lit≤ tt; height = refl; tree_bits = lit≤ tt };
+  fors = record { bits_low = lit≤ tt; bits_high = lit≤ tt; trees_low = lit≤ tt; trees_high = lit≤ tt; leaves = lit< tt; forest_len = refl; digest_len = refl };
   three_digits = lit≤ tt;
   lengths = sha2_category_1_lengths 16 30 (lit≤ tt);
   bytes = sha2_category_1_bytes 16 30;
@@ -57,25 +47,15 @@ s128_row = record {
 
 f128_row : IsRow sha2_128f.scheme
 f128_row = record {
-  name = sha2_128f.name;
   m = 34;
   digits = 32;
   chains = 35;
   h = 66;
   md = 25;
-  sk_len = 64;
-  vk_len = 32;
-  sig_len = 17088;
-  valid = record {
-    wots = record { n_low = lit≤ tt; n_high = lit≤ tt; message_len = refl; signature_len = refl };
-    xmss = record { height_low = lit≤ tt; height_high = lit≤ tt };
-    hypertree = record { layers = lit≤ tt; height = refl; tree_bits = lit≤ tt };
-    fors = record { bits_low = lit≤ tt; bits_high = lit≤ tt; trees_low = lit≤ tt; trees_high = lit≤ tt; leaves = lit< tt; forest_len = refl; digest_len = refl };
-    name_len = lit≤ tt;
-    sk_len = refl;
-    vk_len = refl;
-    sig_len = refl;
-  };
+  wots = record { n_low = lit≤ tt; n_high = lit≤ tt; message_len = refl; signature_len = refl };
+  xmss = record { height_low = lit≤ tt; height_high = lit≤ tt };
+  hypertree = record { layers = lit≤ tt; height = refl; tree_bits = lit≤ tt };
+  fors = record { bits_low = lit≤ tt; bits_high = lit≤ tt; trees_low = lit≤ tt; trees_high = lit≤ tt; leaves = lit< tt; forest_len = refl; digest_len = refl };
   three_digits = lit≤ tt;
   lengths = sha2_category_1_lengths 16 34 (lit≤ tt);
   bytes = sha2_category_1_bytes 16 34;
@@ -85,25 +65,15 @@ f128_row = record {
 
 s192_row : IsRow sha2_192s.scheme
 s192_row = record {
-  name = sha2_192s.name;
   m = 39;
   digits = 48;
   chains = 51;
   h = 63;
   md = 30;
-  sk_len = 96;
-  vk_len = 48;
-  sig_len = 16224;
-  valid = record {
-    wots = record { n_low = lit≤ tt; n_high = lit≤ tt; message_len = refl; signature_len = refl };
-    xmss = record { height_low = lit≤ tt; height_high = lit≤ tt };
-    hypertree = record { layers = lit≤ tt; height = refl; tree_bits = lit≤ tt };
-    fors = record { bits_low = lit≤ tt; bits_high = lit≤ tt; trees_low = lit≤ tt; trees_high = lit≤ tt; leaves = lit< tt; forest_len = refl; digest_len = refl };
-    name_len = lit≤ tt;
-    sk_len = refl;
-    vk_len = refl;
-    sig_len = refl;
-  };
+  wots = record { n_low = lit≤ tt; n_high = lit≤ tt; message_len = refl; signature_len = refl };
+  xmss = record { height_low = lit≤ tt; height_high = lit≤ tt };
+  hypertree = record { layers = lit≤ tt; height = refl; tree_bits = lit≤ tt };
+  fors = record { bits_low = lit≤ tt; bits_high = lit≤ tt; trees_low = lit≤ tt; trees_high = lit≤ tt; leaves = lit< tt; forest_len = refl; digest_len = refl };
   three_digits = lit≤ tt;
   lengths = sha2_category_3_5_lengths 24 39 (lit≤ tt);
   bytes = sha2_category_3_5_bytes 24 39;
@@ -113,25 +83,15 @@ s192_row = record {
 
 f192_row : IsRow sha2_192f.scheme
 f192_row = record {
-  name = sha2_192f.name;
   m = 42;
   digits = 48;
   chains = 51;
   h = 66;
   md = 33;
-  sk_len = 96;
-  vk_len = 48;
-  sig_len = 35664;
-  valid = record {
-    wots = record { n_low = lit≤ tt; n_high = lit≤ tt; message_len = refl; signature_len = refl };
-    xmss = record { height_low = lit≤ tt; height_high = lit≤ tt };
-    hypertree = record { layers = lit≤ tt; height = refl; tree_bits = lit≤ tt };
-    fors = record { bits_low = lit≤ tt; bits_high = lit≤ tt; trees_low = lit≤ tt; trees_high = lit≤ tt; leaves = lit< tt; forest_len = refl; digest_len = refl };
-    name_len = lit≤ tt;
-    sk_len = refl;
-    vk_len = refl;
-    sig_len = refl;
-  };
+  wots = record { n_low = lit≤ tt; n_high = lit≤ tt; message_len = refl; signature_len = refl };
+  xmss = record { height_low = lit≤ tt; height_high = lit≤ tt };
+  hypertree = record { layers = lit≤ tt; height = refl; tree_bits = lit≤ tt };
+  fors = record { bits_low = lit≤ tt; bits_high = lit≤ tt; trees_low = lit≤ tt; trees_high = lit≤ tt; leaves = lit< tt; forest_len = refl; digest_len = refl };
   three_digits = lit≤ tt;
   lengths = sha2_category_3_5_lengths 24 42 (lit≤ tt);
   bytes = sha2_category_3_5_bytes 24 42;
@@ -141,25 +101,15 @@ f192_row = record {
 
 s256_row : IsRow sha2_256s.scheme
 s256_row = record {
-  name = sha2_256s.name;
   m = 47;
   digits = 64;
   chains = 67;
   h = 64;
   md = 39;
-  sk_len = 128;
-  vk_len = 64;
-  sig_len = 29792;
-  valid = record {
-    wots = record { n_low = lit≤ tt; n_high = lit≤ tt; message_len = refl; signature_len = refl };
-    xmss = record { height_low = lit≤ tt; height_high = lit≤ tt };
-    hypertree = record { layers = lit≤ tt; height = refl; tree_bits = lit≤ tt };
-    fors = record { bits_low = lit≤ tt; bits_high = lit≤ tt; trees_low = lit≤ tt; trees_high = lit≤ tt; leaves = lit< tt; forest_len = refl; digest_len = refl };
-    name_len = lit≤ tt;
-    sk_len = refl;
-    vk_len = refl;
-    sig_len = refl;
-  };
+  wots = record { n_low = lit≤ tt; n_high = lit≤ tt; message_len = refl; signature_len = refl };
+  xmss = record { height_low = lit≤ tt; height_high = lit≤ tt };
+  hypertree = record { layers = lit≤ tt; height = refl; tree_bits = lit≤ tt };
+  fors = record { bits_low = lit≤ tt; bits_high = lit≤ tt; trees_low = lit≤ tt; trees_high = lit≤ tt; leaves = lit< tt; forest_len = refl; digest_len = refl };
   three_digits = lit≤ tt;
   lengths = sha2_category_3_5_lengths 32 47 (lit≤ tt);
   bytes = sha2_category_3_5_bytes 32 47;
@@ -169,25 +119,15 @@ s256_row = record {
 
 f256_row : IsRow sha2_256f.scheme
 f256_row = record {
-  name = sha2_256f.name;
   m = 49;
   digits = 64;
   chains = 67;
   h = 68;
   md = 40;
-  sk_len = 128;
-  vk_len = 64;
-  sig_len = 49856;
-  valid = record {
-    wots = record { n_low = lit≤ tt; n_high = lit≤ tt; message_len = refl; signature_len = refl };
-    xmss = record { height_low = lit≤ tt; height_high = lit≤ tt };
-    hypertree = record { layers = lit≤ tt; height = refl; tree_bits = lit≤ tt };
-    fors = record { bits_low = lit≤ tt; bits_high = lit≤ tt; trees_low = lit≤ tt; trees_high = lit≤ tt; leaves = lit< tt; forest_len = refl; digest_len = refl };
-    name_len = lit≤ tt;
-    sk_len = refl;
-    vk_len = refl;
-    sig_len = refl;
-  };
+  wots = record { n_low = lit≤ tt; n_high = lit≤ tt; message_len = refl; signature_len = refl };
+  xmss = record { height_low = lit≤ tt; height_high = lit≤ tt };
+  hypertree = record { layers = lit≤ tt; height = refl; tree_bits = lit≤ tt };
+  fors = record { bits_low = lit≤ tt; bits_high = lit≤ tt; trees_low = lit≤ tt; trees_high = lit≤ tt; leaves = lit< tt; forest_len = refl; digest_len = refl };
   three_digits = lit≤ tt;
   lengths = sha2_category_3_5_lengths 32 49 (lit≤ tt);
   bytes = sha2_category_3_5_bytes 32 49;

@@ -1,5 +1,5 @@
 -- The sizes of a parameter set, and which of them are valid (FIPS 205, section 11).
-use Rattle.std.specs.Prelude.{◌≡◌, ℕ, ◌+◌, ◌-◌, ◌*◌, ◌/◌, ◌^◌, ◌<◌, ◌≤◌, List, length}
+use Rattle.std.specs.Prelude.{◌≡◌, ℕ, ◌+◌, ◌-◌, ◌*◌, ◌/◌, ◌^◌, ◌<◌, ◌≤◌}
 use Rattle.slh_core.specs.Suite.{Suite}
 
 -- a suite of values of n bytes, with d layers of trees of height hp, and k trees of height a below
@@ -50,15 +50,3 @@ pub record IsValidFors (hp h k a md m : ℕ) : Type 0 where
   pub leaves : k * 2 ^ a < 2 ^ 32
   pub forest_len : md ≡ bytes_for (k * a)
   pub digest_len : m ≡ md + bytes_for (h - hp) + bytes_for hp
-
--- a row of the table of parameter sets: its sizes are valid, and its keys, signatures and name have
--- their lengths in bytes
-pub record IsValidRow (name : List ℕ) (n m digits chains hp d h k a md sk vk sig : ℕ) : Type 0 where
-  pub wots : IsValidWots n digits chains
-  pub xmss : IsValidXmss hp
-  pub hypertree : IsValidHypertree hp d h
-  pub fors : IsValidFors hp h k a md m
-  pub name_len : length name ≤ 255
-  pub sk_len : sk ≡ 4 * n
-  pub vk_len : vk ≡ 2 * n
-  pub sig_len : sig ≡ n + k * ((1 + a) * n) + d * ((chain_count n + hp) * n)

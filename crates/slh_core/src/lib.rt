@@ -45,7 +45,6 @@ pub mod nbytes;
 pub mod params;
 pub mod parts;
 pub mod pieces;
-pub mod set_row;
 pub mod steps;
 pub mod suite;
 pub mod wots;

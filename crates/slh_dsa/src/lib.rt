@@ -37,6 +37,7 @@ mod error;
 mod frame;
 pub mod laws;
 mod parameter_set;
+mod sets;
 mod signature;
 mod signing_key;
 mod traits;

@@ -4,7 +4,6 @@ ghost use Rattle.slh_trees.specs.Checking.{signature_size};
 
 use hybrid_array::ArraySize;
 use slh_core::params::ForsParams;
-use slh_core::set_row::SetRow;
 
 /// A parameter set: a name, a suite and all sizes.
 pub trait ParameterSet: ForsParams {
@@ -33,28 +32,4 @@ pub trait ParameterSet: ForsParams {
     ghost vk_len: { Self.VkLen.USIZE ≡ 2 * Self.N.USIZE };
 
     ghost sig_len: { Self.SigLen.USIZE ≡ signature_size Self.scheme };
-}
-
-impl<P: SetRow> ParameterSet for P {
-    const NAME: &'static str = <P as SetRow>::NAME;
-
-    type SkLen = <P as SetRow>::SkLen;
-
-    type VkLen = <P as SetRow>::VkLen;
-
-    type SigLen = <P as SetRow>::SigLen;
-
-    ghost set_name = { P.set_name };
-
-    fn set_name() -> &'static str {
-        <P as SetRow>::set_name()
-    }
-
-    ghost name_len = { P.valid.name_len };
-
-    ghost sk_len = { P.valid.sk_len };
-
-    ghost vk_len = { P.valid.vk_len };
-
-    ghost sig_len = { P.valid.sig_len };
 }

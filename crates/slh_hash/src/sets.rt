@@ -6,10 +6,9 @@ use crate::sha2_l1::Sha2L1;
 use crate::sha2_l35::Sha2L35;
 use hybrid_array::sizes::{
     U3, U4, U6, U7, U8, U9, U12, U14, U16, U17, U21, U22, U24, U25, U30, U32, U33, U34, U35, U39,
-    U40, U42, U47, U48, U49, U51, U63, U64, U66, U67, U68, U96, U128, U7856, U16224, U17088,
-    U29792, U35664, U49856,
+    U40, U42, U47, U48, U49, U51, U63, U64, U66, U67, U68,
 };
-use slh_core::set_row::SetRow;
+use slh_core::params::{ForsParams, HypertreeParams, WotsParams, XmssParams};
 
 /// SLH-DSA-SHA2-128s: small signatures.
 pub type Sha2_128s = Sha2L1<U16, U30>;
@@ -29,20 +28,36 @@ pub type Sha2_256s = Sha2L35<U32, U47>;
 /// SLH-DSA-SHA2-256f: fast signing.
 pub type Sha2_256f = Sha2L35<U32, U49>;
 
-impl SetRow for Sha2_128s {
+impl WotsParams for Sha2_128s {
     ghost use Rattle.std.proofs.Common.{rules};
-
-    const NAME: &'static str = "SLH-DSA-SHA2-128s";
 
     type WotsMsgLen = U32;
 
     type WotsSigLen = U35;
 
+    ghost valid_wots = { Prim.search rules };
+}
+
+impl XmssParams for Sha2_128s {
+    ghost use Rattle.std.proofs.Common.{rules};
+
     type HPrime = U9;
+
+    ghost valid_xmss = { Prim.search rules };
+}
+
+impl HypertreeParams for Sha2_128s {
+    ghost use Rattle.std.proofs.Common.{rules};
 
     type D = U7;
 
     type H = U63;
+
+    ghost valid_hypertree = { Prim.search rules };
+}
+
+impl ForsParams for Sha2_128s {
+    ghost use Rattle.std.proofs.Common.{refl, rules};
 
     type K = U14;
 
@@ -50,35 +65,43 @@ impl SetRow for Sha2_128s {
 
     type MD = U21;
 
-    type SkLen = U64;
+    ghost scheme = { sha2_128s.scheme };
 
-    type VkLen = U32;
+    ghost scheme_is = { refl };
 
-    type SigLen = U7856;
-
-    ghost set_name = { sha2_128s.name };
-
-    fn set_name() -> &'static str {
-        Self::NAME
-    }
-
-    ghost valid = { Prim.search rules };
+    ghost valid_fors = { Prim.search rules };
 }
 
-impl SetRow for Sha2_128f {
+impl WotsParams for Sha2_128f {
     ghost use Rattle.std.proofs.Common.{rules};
-
-    const NAME: &'static str = "SLH-DSA-SHA2-128f";
 
     type WotsMsgLen = U32;
 
     type WotsSigLen = U35;
 
+    ghost valid_wots = { Prim.search rules };
+}
+
+impl XmssParams for Sha2_128f {
+    ghost use Rattle.std.proofs.Common.{rules};
+
     type HPrime = U3;
+
+    ghost valid_xmss = { Prim.search rules };
+}
+
+impl HypertreeParams for Sha2_128f {
+    ghost use Rattle.std.proofs.Common.{rules};
 
     type D = U22;
 
     type H = U66;
+
+    ghost valid_hypertree = { Prim.search rules };
+}
+
+impl ForsParams for Sha2_128f {
+    ghost use Rattle.std.proofs.Common.{refl, rules};
 
     type K = U33;
 
@@ -86,35 +109,43 @@ impl SetRow for Sha2_128f {
 
     type MD = U25;
 
-    type SkLen = U64;
+    ghost scheme = { sha2_128f.scheme };
 
-    type VkLen = U32;
+    ghost scheme_is = { refl };
 
-    type SigLen = U17088;
-
-    ghost set_name = { sha2_128f.name };
-
-    fn set_name() -> &'static str {
-        Self::NAME
-    }
-
-    ghost valid = { Prim.search rules };
+    ghost valid_fors = { Prim.search rules };
 }
 
-impl SetRow for Sha2_192s {
+impl WotsParams for Sha2_192s {
     ghost use Rattle.std.proofs.Common.{rules};
-
-    const NAME: &'static str = "SLH-DSA-SHA2-192s";
 
     type WotsMsgLen = U48;
 
     type WotsSigLen = U51;
 
+    ghost valid_wots = { Prim.search rules };
+}
+
+impl XmssParams for Sha2_192s {
+    ghost use Rattle.std.proofs.Common.{rules};
+
     type HPrime = U9;
+
+    ghost valid_xmss = { Prim.search rules };
+}
+
+impl HypertreeParams for Sha2_192s {
+    ghost use Rattle.std.proofs.Common.{rules};
 
     type D = U7;
 
     type H = U63;
+
+    ghost valid_hypertree = { Prim.search rules };
+}
+
+impl ForsParams for Sha2_192s {
+    ghost use Rattle.std.proofs.Common.{refl, rules};
 
     type K = U17;
 
@@ -122,35 +153,43 @@ impl SetRow for Sha2_192s {
 
     type MD = U30;
 
-    type SkLen = U96;
+    ghost scheme = { sha2_192s.scheme };
 
-    type VkLen = U48;
+    ghost scheme_is = { refl };
 
-    type SigLen = U16224;
-
-    ghost set_name = { sha2_192s.name };
-
-    fn set_name() -> &'static str {
-        Self::NAME
-    }
-
-    ghost valid = { Prim.search rules };
+    ghost valid_fors = { Prim.search rules };
 }
 
-impl SetRow for Sha2_192f {
+impl WotsParams for Sha2_192f {
     ghost use Rattle.std.proofs.Common.{rules};
-
-    const NAME: &'static str = "SLH-DSA-SHA2-192f";
 
     type WotsMsgLen = U48;
 
     type WotsSigLen = U51;
 
+    ghost valid_wots = { Prim.search rules };
+}
+
+impl XmssParams for Sha2_192f {
+    ghost use Rattle.std.proofs.Common.{rules};
+
     type HPrime = U3;
+
+    ghost valid_xmss = { Prim.search rules };
+}
+
+impl HypertreeParams for Sha2_192f {
+    ghost use Rattle.std.proofs.Common.{rules};
 
     type D = U22;
 
     type H = U66;
+
+    ghost valid_hypertree = { Prim.search rules };
+}
+
+impl ForsParams for Sha2_192f {
+    ghost use Rattle.std.proofs.Common.{refl, rules};
 
     type K = U33;
 
@@ -158,35 +197,43 @@ impl SetRow for Sha2_192f {
 
     type MD = U33;
 
-    type SkLen = U96;
+    ghost scheme = { sha2_192f.scheme };
 
-    type VkLen = U48;
+    ghost scheme_is = { refl };
 
-    type SigLen = U35664;
-
-    ghost set_name = { sha2_192f.name };
-
-    fn set_name() -> &'static str {
-        Self::NAME
-    }
-
-    ghost valid = { Prim.search rules };
+    ghost valid_fors = { Prim.search rules };
 }
 
-impl SetRow for Sha2_256s {
+impl WotsParams for Sha2_256s {
     ghost use Rattle.std.proofs.Common.{rules};
-
-    const NAME: &'static str = "SLH-DSA-SHA2-256s";
 
     type WotsMsgLen = U64;
 
     type WotsSigLen = U67;
 
+    ghost valid_wots = { Prim.search rules };
+}
+
+impl XmssParams for Sha2_256s {
+    ghost use Rattle.std.proofs.Common.{rules};
+
     type HPrime = U8;
+
+    ghost valid_xmss = { Prim.search rules };
+}
+
+impl HypertreeParams for Sha2_256s {
+    ghost use Rattle.std.proofs.Common.{rules};
 
     type D = U8;
 
     type H = U64;
+
+    ghost valid_hypertree = { Prim.search rules };
+}
+
+impl ForsParams for Sha2_256s {
+    ghost use Rattle.std.proofs.Common.{refl, rules};
 
     type K = U22;
 
@@ -194,35 +241,43 @@ impl SetRow for Sha2_256s {
 
     type MD = U39;
 
-    type SkLen = U128;
+    ghost scheme = { sha2_256s.scheme };
 
-    type VkLen = U64;
+    ghost scheme_is = { refl };
 
-    type SigLen = U29792;
-
-    ghost set_name = { sha2_256s.name };
-
-    fn set_name() -> &'static str {
-        Self::NAME
-    }
-
-    ghost valid = { Prim.search rules };
+    ghost valid_fors = { Prim.search rules };
 }
 
-impl SetRow for Sha2_256f {
+impl WotsParams for Sha2_256f {
     ghost use Rattle.std.proofs.Common.{rules};
-
-    const NAME: &'static str = "SLH-DSA-SHA2-256f";
 
     type WotsMsgLen = U64;
 
     type WotsSigLen = U67;
 
+    ghost valid_wots = { Prim.search rules };
+}
+
+impl XmssParams for Sha2_256f {
+    ghost use Rattle.std.proofs.Common.{rules};
+
     type HPrime = U4;
+
+    ghost valid_xmss = { Prim.search rules };
+}
+
+impl HypertreeParams for Sha2_256f {
+    ghost use Rattle.std.proofs.Common.{rules};
 
     type D = U17;
 
     type H = U68;
+
+    ghost valid_hypertree = { Prim.search rules };
+}
+
+impl ForsParams for Sha2_256f {
+    ghost use Rattle.std.proofs.Common.{refl, rules};
 
     type K = U35;
 
@@ -230,17 +285,9 @@ impl SetRow for Sha2_256f {
 
     type MD = U40;
 
-    type SkLen = U128;
+    ghost scheme = { sha2_256f.scheme };
 
-    type VkLen = U64;
+    ghost scheme_is = { refl };
 
-    type SigLen = U49856;
-
-    ghost set_name = { sha2_256f.name };
-
-    fn set_name() -> &'static str {
-        Self::NAME
-    }
-
-    ghost valid = { Prim.search rules };
+    ghost valid_fors = { Prim.search rules };
 }

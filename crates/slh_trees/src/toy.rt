@@ -1,12 +1,13 @@
 //! A suite of one byte, whose values can be computed by hand. It hides nothing.
-ghost use Rattle.std.specs.Prelude.{◌≡◌, ◌%◌, ◌<◌, ◌++◌, [], ◌∷◌, sum, slice_index, codes, refl};
+ghost use Rattle.std.specs.Prelude.{◌≡◌, ◌%◌, ◌<◌, ◌++◌, [], ◌∷◌, sum, slice_index, refl};
+ghost use Rattle.slh_core.specs.Parameters.{scheme_of};
 ghost use Rattle.slh_core.specs.Suite.{seeded};
 ghost use Rattle.slh_trees.specs.ToySuite.{toy, toy_lengths, toy_bytes, toy_digest_length};
 
-use hybrid_array::sizes::{U1, U2, U3, U4, U5, U21};
+use hybrid_array::sizes::{U1, U2, U3, U4, U5};
 use slh_core::address::Address;
 use slh_core::nbytes::NBytes;
-use slh_core::set_row::SetRow;
+use slh_core::params::{ForsParams, HypertreeParams, WotsParams, XmssParams};
 use slh_core::steps::Steps;
 use slh_core::suite::HashSuite;
 use std::sync::ledger::Ledger;
@@ -146,20 +147,36 @@ impl HashSuite for Toy {
     ghost value_bytes = { toy_bytes };
 }
 
-impl SetRow for Toy {
+impl WotsParams for Toy {
     ghost use Rattle.std.proofs.Common.{rules};
-
-    const NAME: &'static str = "TOY";
 
     type WotsMsgLen = U2;
 
     type WotsSigLen = U5;
 
+    ghost valid_wots = { Prim.search rules };
+}
+
+impl XmssParams for Toy {
+    ghost use Rattle.std.proofs.Common.{rules};
+
     type HPrime = U2;
+
+    ghost valid_xmss = { Prim.search rules };
+}
+
+impl HypertreeParams for Toy {
+    ghost use Rattle.std.proofs.Common.{rules};
 
     type D = U2;
 
     type H = U4;
+
+    ghost valid_hypertree = { Prim.search rules };
+}
+
+impl ForsParams for Toy {
+    ghost use Rattle.std.proofs.Common.{rules};
 
     type K = U2;
 
@@ -167,17 +184,9 @@ impl SetRow for Toy {
 
     type MD = U1;
 
-    type SkLen = U4;
+    ghost scheme = { scheme_of toy 1 2 2 2 2 };
 
-    type VkLen = U2;
+    ghost scheme_is = { refl };
 
-    type SigLen = U21;
-
-    ghost set_name = { codes "TOY" };
-
-    fn set_name() -> &'static str {
-        Self::NAME
-    }
-
-    ghost valid = { Prim.search rules };
+    ghost valid_fors = { Prim.search rules };
 }
