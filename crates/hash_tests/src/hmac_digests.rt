@@ -56,6 +56,53 @@ fn digests_of_all_lengths(rt: HostRuntime) {
     );
 }
 
+// The first 4096 bytes of which byte `i` is `7 * i + 3`.
+fn long_message() -> [u8; 4096] {
+    let mut message = [0u8; 4096];
+    for i in 0..4096usize {
+        message[i] = ((7 * i + 3) % 256) as u8;
+    }
+    message
+}
+
+// The digests of a digest and then more of a message, or the other way round, each 37 or 64 bytes
+// longer than the last.
+fn digest_of_pieces(message: &[u8; 4096]) -> [u8; 32] {
+    let mut digest = [0u8; 32];
+    for n in 0..111usize {
+        let mut hash = Hash::new();
+        hash.update(&digest);
+        hash.update(&message[..37 * n]);
+        digest = hash.finalize();
+    }
+    digest
+}
+
+fn digest_of_blocks(message: &[u8; 4096]) -> [u8; 32] {
+    let mut digest = [0u8; 32];
+    for n in 0..65usize {
+        let mut hash = Hash::new();
+        hash.update(&message[..64 * n]);
+        hash.update(&digest);
+        digest = hash.finalize();
+    }
+    digest
+}
+
+fn are_digests_of_long_messages() -> bool {
+    let of_pieces = b"c098a17709a00fe41b39d7c8ea15bd3fd02fc78a6a5c7bda8e5c70defaad8829";
+    let of_blocks = b"fca89b97d94f70774d9d82776121c16a89599b28157cc01948d003148083fa06";
+    let message = long_message();
+    is_hex(of_pieces, &digest_of_pieces(&message)) && is_hex(of_blocks, &digest_of_blocks(&message))
+}
+
+// Messages of more than sixteen blocks, of which eight are taken at a time. From Python's
+// `hashlib`.
+#[test]
+fn digests_of_long_messages(rt: HostRuntime) {
+    assert!(rt; are_digests_of_long_messages());
+}
+
 // Whether a copy of a hash takes a tail in alone.
 fn is_copy_apart() -> Result<bool, AllocError> {
     let mut hash: Hash = Default::default();

@@ -15,7 +15,7 @@ four_bytes : (a b c d : ℕ) → a < 256 → b < 256 → c < 256 → d < 256
     → to_be_bytes w32 (a * 2 ^ 24 + b * 2 ^ 16 + c * 2 ^ 8 + d) ≡ a ∷ b ∷ c ∷ d ∷ []
 four_bytes a b c d la lb lc ld = cons (omega arith) (cons (omega arith) (cons (omega arith) (cons (omega arith) refl)))
 
-open_four : (b : List ℕ) (k : ℕ) → k + 4 ≤ length b
+pub open_four : (b : List ℕ) (k : ℕ) → k + 4 ≤ length b
     → drop k b ≡ slice_index b k ∷ slice_index b (suc k) ∷ slice_index b (suc (suc k)) ∷ slice_index b (suc (suc (suc k))) ∷ drop (suc (suc (suc (suc k)))) b
 open_four b k fits =
     drop-cons b k 0 (omega arith) ∙ ap (λ (l : List ℕ). slice_index b k ∷ l)

@@ -7,4 +7,5 @@ mod EightWords
 mod Windows
 mod EightHashes
 mod LongRows
+mod Batches
 pub mod Digest

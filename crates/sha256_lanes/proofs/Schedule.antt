@@ -53,11 +53,11 @@ unfolding rounds_until
 rounds_until_none h b = refl
 
 -- a word is the same in each schedule that has it
-schedule_same : (b : List ℕ) (m n s : ℕ) → s < m → s < n → slice_index (schedule b m) s ≡ slice_index (schedule b n) s
+pub schedule_same : (b : List ℕ) (m n s : ℕ) → s < m → s < n → slice_index (schedule b m) s ≡ slice_index (schedule b n) s
 schedule_same b m n s in_m in_n = slice_index-schedule b m s in_m ∙ sym (slice_index-schedule b n s in_n)
 
 -- each later word follows from those before it
-later_word_is : (b : List ℕ) (n t : ℕ) → 16 ≤ t → t < n → slice_index (schedule b n) t ≡ later_word (schedule b n) t
+pub later_word_is : (b : List ℕ) (n t : ℕ) → 16 ≤ t → t < n → slice_index (schedule b n) t ≡ later_word (schedule b n) t
 later_word_is b n t late within =
     let count : length (schedule b t) ≡ t = length-schedule b t in
     let no : nat_lt t 16 ≡ false = le-ltb t 16 late in
@@ -67,7 +67,7 @@ later_word_is b n t late within =
     let w16 = schedule_same b t n (t - 16) (omega arith) (omega arith) in
     slice_index-schedule b n t within ∙ rw (count, no, w2, w7, w15, w16) refl
 
-block_word_is : (b : List ℕ) (k : ℕ) → k < 16 → slice_index (schedule b 80) k ≡ block_word b (4 * k)
+pub block_word_is : (b : List ℕ) (k : ℕ) → k < 16 → slice_index (schedule b 80) k ≡ block_word b (4 * k)
 block_word_is b k low =
     let count : length (schedule b k) ≡ k = length-schedule b k in
     let yes : nat_lt k 16 ≡ true = lt-ltb k 16 low in

@@ -4,3 +4,4 @@ pub mod Lanes
 pub mod Eight
 pub mod Midstate
 pub mod Begun
+pub mod Batches

@@ -6,6 +6,7 @@ ghost use Rattle.std.specs.Prelude.{replicate, take};
 ghost use Rattle.std.specs.Int.{to_be_bytes, w64};
 ghost use Rattle.sha256_lanes.specs.Sha256.{compress, fold_blocks, padding, word_bytes};
 
+use crate::bulk::{BATCH_BYTES, absorb_batches};
 use crate::compression::compress_each;
 
 /// How many bytes a block has (FIPS 180-4, 5.2.1).
@@ -31,8 +32,8 @@ pub fn compress(state: &mut [u32; 8], block: &[u8])
     *state = words;
 }
 
-/// Takes one block after the other into the eight words.
-pub fn absorb_blocks(state: &mut [u32; 8], blocks: &[u8])
+// Takes one block after the other into the eight words.
+fn absorb_each(state: &mut [u32; 8], blocks: &[u8])
     ensures { state.new ≡ fold_blocks state.old blocks.now (length blocks.now / 64) }
 {
     'each_block: for i in 0..blocks.len() / BLOCK_BYTES {
@@ -41,6 +42,20 @@ pub fn absorb_blocks(state: &mut [u32; 8], blocks: &[u8])
             &blocks[BLOCK_BYTES * i..BLOCK_BYTES * i + BLOCK_BYTES],
         );
     }
+}
+
+/// Takes one block after the other into the eight words; bytes after the last whole block are left.
+/// From 16 blocks on they are taken eight at a time, which costs less of each.
+pub fn absorb_blocks(state: &mut [u32; 8], blocks: &[u8])
+    ensures { state.new ≡ fold_blocks state.old blocks.now (length blocks.now / 64) }
+{
+    let count = blocks.len() / BATCH_BYTES;
+    if count < 2 {
+        absorb_each(state, blocks);
+        return;
+    }
+    absorb_batches(state, blocks, count);
+    absorb_each(state, &blocks[BATCH_BYTES * count..]);
 }
 
 /// The bytes of a digest, each word with its highest byte first.

@@ -13,7 +13,7 @@ use crate::word::Word;
 use std::alloc::AllocError;
 
 /// The constants of the 64 rounds (FIPS 180-4, 4.2.2).
-const CONSTANTS: [u32; 64] = [
+pub(crate) const CONSTANTS: [u32; 64] = [
     0x428a2f98, 0x71374491, 0xb5c0fbcf, 0xe9b5dba5, 0x3956c25b, 0x59f111f1, 0x923f82a4, 0xab1c5ed5,
     0xd807aa98, 0x12835b01, 0x243185be, 0x550c7dc3, 0x72be5d74, 0x80deb1fe, 0x9bdc06a7, 0xc19bf174,
     0xe49b69c1, 0xefbe4786, 0x0fc19dc6, 0x240ca1cc, 0x2de92c6f, 0x4a7484aa, 0x5cb0a9dc, 0x76f988da,
@@ -156,7 +156,7 @@ fn round<W: Word>(v: Variables<W>, constant: u32, word: W) -> Variables<W>
 
 // A word of the schedule, from those 16, 15, 7 and 2 places before it.
 #[inline(always)]
-fn later_word<W: Word>(w0: W, w1: W, w9: W, w14: W) -> W
+pub(crate) fn later_word<W: Word>(w0: W, w1: W, w9: W, w14: W) -> W
     ensures { (j : ℕ) → j < W.lanes → W.lane result j
         ≡ next_in (W.lane w0 j) (W.lane w1 j) (W.lane w9 j) (W.lane w14 j) }
 {

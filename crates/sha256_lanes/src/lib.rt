@@ -40,6 +40,7 @@
 #![tactic(auto)]
 
 pub mod blocks;
+mod bulk;
 mod chained;
 mod compression;
 mod eight;

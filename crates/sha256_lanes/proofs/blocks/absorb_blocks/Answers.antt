@@ -1,14 +1,17 @@
-use Rattle.std.proofs.Common.{◌≡◌, ◌+◌, ◌-◌, ◌*◌, arith, refl}
+use Rattle.std.proofs.Common.{List, ℕ, ◌≡◌, ◌-◌, ◌*◌, ◌/◌, ◌∙◌, ap, arith, drop, length, length-drop, take}
+use Rattle.std.proofs.lemmas.List.{take_all}
 use Rattle.sha256_lanes.specs.Sha256.{fold_blocks}
-use Rattle.sha256_lanes.proofs.Folding.{fold_blocks_next}
+use Rattle.sha256_lanes.proofs.Batches.{fold_blocks_rest}
 use Rattle.sha256_lanes.proofs.blocks.absorb_blocks.Goals as goal
 
-pub each_block-init : goal.each_block-init
-unfolding fold_blocks
-each_block-init c = refl
-
-pub each_block-preserved : goal.each_block-preserved
-each_block-preserved c =
-    let i = c.each_block.i in
-    let width : 64 * i + 64 - 64 * i ≡ 64 = omega arith in
-    rw (c.compress.ensures, c.each_block.invariant, width, fold_blocks_next c.args.state.now c.args.blocks.now i) refl
+pub returns : goal.returns
+returns c =
+    let p : List ℕ = c.args.blocks.now in
+    let count : ℕ = length p / 512 in
+    let from : ℕ = 512 * count in
+    let rest : List ℕ = drop from p in
+    let cut : take (length p - from) rest ≡ rest = take_all (length p - from) rest (omega (arith, length-drop from p)) in
+    c.absorb_each-2.ensures
+    ∙ ap (λ (l : List ℕ). fold_blocks c.absorb_batches.new.state l (length l / 64)) cut
+    ∙ ap (λ (h : List ℕ). fold_blocks h rest (length rest / 64)) c.absorb_batches.ensures
+    ∙ fold_blocks_rest c.args.state.now p count (omega arith)
