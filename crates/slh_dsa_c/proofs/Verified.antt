@@ -1,5 +1,6 @@
 -- What is signed is verified, by the numbers that the exports answer.
 use Rattle.std.proofs.Common.{◌≡◌, ℕ, ◌*◌, ◌^◌, ◌≤◌, List, [], ◌∷◌, length, drop, Option, None, Some, refl, ap, ◌∙◌, arith, length-drop}
+use Rattle.std.specs.Option.{option_map}
 use Rattle.std.specs.Prelude.{IfSome, MatchOption}
 use Rattle.std.proofs.lemmas.Bool.Decides.{Decides-eqb}
 use Rattle.slh_core.specs.Parameters.{Scheme}
@@ -12,6 +13,8 @@ use Rattle.slh_dsa.specs.Frames.{mode_frame}
 use Rattle.slh_dsa.specs.declared.error.Error.{Error}
 use Rattle.slh_dsa.specs.declared.error.Error.TheVariants.{ContextTooLong, Invalid, Length, Memory, MessageTooLong, RandomizerLength}
 use Rattle.slh_dsa.specs.declared.frame.Mode.{Mode}
+use Rattle.slh_sets.specs.Sets.{scheme_for}
+use Rattle.slh_sets.specs.declared.set.Set.{Set}
 use Rattle.slh_dsa_c.specs.Status.{in_mode, in_set, number_of_refusal, sign_refusal_by_key, verify_error_by_key}
 
 -- no cause has the number 0
@@ -55,13 +58,13 @@ verified Z n mode key context message opt_rand len size accepts true_key zero =
     ap number_of_refusal (none_by_key Z mode (drop (2 * Z.n) key) context message sig public_len (ap (λ m. hash_verify_error Z mode (drop (2 * m) key) context message sig) size ∙ accepted))
 
 -- the same for the set and the mode of a number, where there are some
-pub verified_in : (found : Option Scheme) (mode : Option Mode) (key context message : List ℕ) (opt_rand : Option (List ℕ)) (len : ℕ) (unknown : Type 0)
-    → MatchOption found unknown (λ Z. Accepts Z Z.n)
-    → IfSome found (λ Z. IfSome mode (λ m. let sig = signature_of Z key opt_rand (mode_frame m context message) in
+pub verified_in : (found : Option Set) (mode : Option Mode) (key context message : List ℕ) (opt_rand : Option (List ℕ)) (len : ℕ) (unknown : Type 0)
+    → MatchOption found unknown (λ set. Accepts (scheme_for set) (scheme_for set).n)
+    → IfSome (option_map scheme_for found) (λ Z. IfSome mode (λ m. let sig = signature_of Z key opt_rand (mode_frame m context message) in
     IsTrueKey Z key
-    → in_set found (λ Z. in_mode mode (λ _. number_of_refusal (sign_refusal_by_key Z key context opt_rand message len))) ≡ 0
-    → in_set found (λ W. in_mode mode (λ m. number_of_refusal (verify_error_by_key W m (drop (2 * Z.n) key) context message sig))) ≡ 0))
+    → in_set (option_map scheme_for found) (λ Z. in_mode mode (λ _. number_of_refusal (sign_refusal_by_key Z key context opt_rand message len))) ≡ 0
+    → in_set (option_map scheme_for found) (λ W. in_mode mode (λ m. number_of_refusal (verify_error_by_key W m (drop (2 * Z.n) key) context message sig))) ≡ 0))
 verified_in None mode key context message opt_rand len unknown told = tt
-verified_in (Some Z) None key context message opt_rand len unknown told = tt
-verified_in (Some Z) (Some mode) key context message opt_rand len unknown told = λ true_key zero.
-    verified Z Z.n mode key context message opt_rand len refl told true_key zero
+verified_in (Some set) None key context message opt_rand len unknown told = tt
+verified_in (Some set) (Some mode) key context message opt_rand len unknown told = λ true_key zero.
+    verified (scheme_for set) (scheme_for set).n mode key context message opt_rand len refl told true_key zero

@@ -1,15 +1,16 @@
 //! Making keys.
 ghost use Rattle.std.specs.Prelude.{◌≡◌, ◌≢◌, ◌*◌, length, drop, IfSome};
-ghost use Rattle.slh_dsa_c.specs.Numbers.{scheme_numbered};
+ghost use Rattle.slh_sets.specs.Sets.{scheme_numbered};
 ghost use Rattle.slh_dsa_c.specs.Status.{key_of_seeds, keygen_lengths, keygen_status};
 ghost use Rattle.slh_dsa_c.specs.Status.{number_of_refusal};
 ghost use Rattle.slh_trees.specs.Keys.{IsTrueKey};
 
-use crate::set::{Writer, write_in_set};
+use crate::set::write_in_set;
 use crate::status::{LENGTH, OK, number_of};
 use hybrid_array::ArraySize;
 use slh_core::params::chain_sizes;
 use slh_dsa::{ParameterSet, SigningKey};
+use slh_sets::WriteOnSet;
 
 // The seeds of a signing key, whose verifying key is to have so many bytes.
 #[derive(Drop)]
@@ -18,9 +19,13 @@ struct Keygen<'a> {
     public_bytes: usize,
 }
 
-impl<'a> Writer for Keygen<'a> {
-    ghost status = { λ c Z len. number_of_refusal
+impl<'a> WriteOnSet for Keygen<'a> {
+    type Out = u32;
+
+    ghost gives = { λ c Z len status. status ≡ number_of_refusal
         (keygen_lengths Z (length c.seeds.now) len c.public_bytes) };
+
+    ghost wrote = { λ status. status ≡ 0 };
 
     ghost writes = { λ c Z key. (key ≡ key_of_seeds Z c.seeds.now) × IsTrueKey Z key };
 

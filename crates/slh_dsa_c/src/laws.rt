@@ -5,29 +5,31 @@ ghost use Rattle.std.specs.Prelude.{IfSome};
 ghost use Rattle.slh_dsa.specs.Calls.{hash_verify_error};
 ghost use Rattle.slh_dsa.specs.Frames.{mode_frame};
 ghost use Rattle.slh_dsa.specs.declared.frame.Mode.{Mode as SigningMode};
-ghost use Rattle.slh_dsa_c.specs.Numbers.{mode_numbered, scheme_numbered};
+ghost use Rattle.slh_dsa_c.specs.Numbers.{mode_numbered};
 ghost use Rattle.slh_dsa_c.specs.Status.{sign_status, verify_status};
+ghost use Rattle.slh_sets.specs.Sets.{scheme_numbered};
 ghost use Rattle.slh_trees.specs.Keys.{IsTrueKey};
 ghost use Rattle.slh_trees.specs.Signing.{signature_of};
 
-use crate::set::{Reader, read_in_set};
+use crate::set::read_in_set;
 use slh_dsa::ParameterSet;
 use slh_dsa::laws::signed_is_accepted;
+use slh_sets::OnSet;
 
 // The law that a set accepts what its true keys sign.
 #[derive(Drop)]
 struct Accepts;
 
-impl Reader for Accepts {
-    type Answer = ();
+impl OnSet for Accepts {
+    type Out = ();
 
-    ghost gives = { λ _ Z _.
+    ghost gives = { λ _ Z _ _.
         (mode : SigningMode) (key context message : List ℕ) (opt_rand : Option (List ℕ))
         → IsTrueKey Z key → length key ≡ 4 * Z.n → length context ≤ 255 → length message ≤ 2 ^ 60
         → hash_verify_error Z mode (drop (2 * Z.n) key) context message
         (signature_of Z key opt_rand (mode_frame mode context message)) ≡ None };
 
-    fn read<P: ParameterSet>(self) {
+    fn on<P: ParameterSet>(self) {
         signed_is_accepted::<P>();
     }
 }

@@ -1,4 +1,3 @@
 pub mod LineErrors
 pub mod Readings
 pub mod Replies
-pub mod Sets

@@ -4,10 +4,10 @@ use Rattle.std.specs.Prelude.{if◌then◌else◌}
 use Rattle.line_serve.specs.Fields.{field_at, fields}
 use Rattle.slh_core.specs.Parameters.{Scheme}
 use Rattle.slh_line.specs.LineErrors.{error_text}
-use Rattle.slh_line.specs.Sets.{name_of, scheme_for, set_named}
+use Rattle.slh_sets.specs.Sets.{name_of, scheme_for, set_named}
 use Rattle.slh_line.specs.declared.line_error.LineError.{LineError}
 use Rattle.slh_line.specs.declared.line_error.LineError.TheVariants as line_error
-use Rattle.slh_line.specs.declared.set.Set.{Set}
+use Rattle.slh_sets.specs.declared.set.Set.{Set}
 
 -- what a program answers to the fields of a line, for a set with its name
 abbrev pub Answers : Type 0

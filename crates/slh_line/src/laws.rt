@@ -1,16 +1,7 @@
-//! What tells sets, and what is wrong with a line, apart, as contracts.
+//! What tells what is wrong with a line apart, as contracts.
 ghost use Rattle.std.specs.Prelude.{◌≡◌, ◌↔◌, IsTrue};
 
 use crate::line_error::LineError;
-use crate::set::Set;
-
-/// A clone of a set is that set, and `==` holds exactly where both are the same.
-pub fn clone_and_equality_of_sets(a: &Set, b: &Set) -> (Set, bool)
-    ensures clone { result.0 ≡ a.now }
-    ensures equal { IsTrue result.1 ↔ (a.now ≡ b.now) }
-{
-    (a.clone().unwrap(), a == b)
-}
 
 /// A clone of an error of a line is that error, and `==` holds exactly where both are the same.
 pub fn clone_and_equality_of_line_errors(a: &LineError, b: &LineError) -> (LineError, bool)

@@ -5,7 +5,6 @@ mod fields;
 pub mod laws;
 mod line_error;
 mod replier;
-mod set;
 
 pub use fields::{
     all_bytes_at, as_bytes, bytes_at, checked_randomizer, field_bytes, randomizer_at, signing_key,
@@ -13,4 +12,3 @@ pub use fields::{
 };
 pub use line_error::LineError;
 pub use replier::{Commands, Lines};
-pub use set::{OnSet, Set};

@@ -6,9 +6,9 @@ ghost use Rattle.slh_line.specs.Replies.{Answers};
 ghost use Rattle.slh_line.specs.declared.line_error.LineError.TheVariants.{Memory};
 
 use crate::line_error::LineError;
-use crate::set::{OnSet, Set};
 use line_serve::{ByteString, Replier, all_fields};
 use slh_dsa::ParameterSet;
+use slh_sets::{OnSet, Set};
 use std::alloc::{AllocError, Global};
 
 /// The commands of a program.

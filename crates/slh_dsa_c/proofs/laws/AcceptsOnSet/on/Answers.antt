@@ -1,7 +1,7 @@
 use Rattle.std.proofs.Common.{◌≡◌, ap, subst, sym}
 use Rattle.slh_core.specs.Parameters.{Scheme}
 use Rattle.slh_dsa_c.proofs.Verified.{Accepts}
-use Rattle.slh_dsa_c.proofs.laws.AcceptsReader.read.Goals as goal
+use Rattle.slh_dsa_c.proofs.laws.AcceptsOnSet.on.Goals as goal
 
 pub returns : goal.returns
 returns g c =

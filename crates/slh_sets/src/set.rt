@@ -1,12 +1,8 @@
-//! The parameter sets that the program answers for.
-ghost use Rattle.std.specs.Prelude.{◌≡◌, List, ℕ};
+//! Which sets there are, by name and by number.
+ghost use Rattle.std.specs.Prelude.{◌≡◌, ◌==◌};
 ghost use Rattle.std.specs.List.{find};
 ghost use Rattle.std.specs.Str.{bytes_eq};
-ghost use Rattle.slh_core.specs.Parameters.{Scheme};
-ghost use Rattle.slh_line.specs.Sets.{name_of, scheme_for, set_named};
-
-use slh_dsa::ParameterSet;
-use slh_hash::{Sha2_128f, Sha2_128s, Sha2_192f, Sha2_192s, Sha2_256f, Sha2_256s};
+ghost use Rattle.slh_sets.specs.Sets.{name_of, number_of, set_named, set_numbered};
 
 /// A parameter set of SLH-DSA over SHA-2 (FIPS 205, section 11, table 2).
 #[derive(Clone, Copy, Debug, PartialEq, Eq)]
@@ -36,11 +32,28 @@ impl Set {
         Set::Sha2_256f,
     ];
 
+    /// The names of all sets, in this order.
+    pub const NAMES: [&'static str; 6] = [
+        "SLH-DSA-SHA2-128s",
+        "SLH-DSA-SHA2-128f",
+        "SLH-DSA-SHA2-192s",
+        "SLH-DSA-SHA2-192f",
+        "SLH-DSA-SHA2-256s",
+        "SLH-DSA-SHA2-256f",
+    ];
+
     /// The name of the set.
     pub fn name(self) -> &'static str
         ensures { result.now ≡ name_of self }
     {
-        self.run(Name)
+        match self {
+            Set::Sha2_128s => Set::NAMES[0],
+            Set::Sha2_128f => Set::NAMES[1],
+            Set::Sha2_192s => Set::NAMES[2],
+            Set::Sha2_192f => Set::NAMES[3],
+            Set::Sha2_256s => Set::NAMES[4],
+            Set::Sha2_256f => Set::NAMES[5],
+        }
     }
 
     /// The set of a name, where there is one. Upper and lower case differ.
@@ -49,47 +62,26 @@ impl Set {
     {
         first_named(&Set::ALL, name)
     }
-}
 
-/// Something to do with the parameter set that a name on a line stands for.
-pub trait OnSet {
-    /// What it gives.
-    type Out: Drop;
-
-    /// What is said of it, for a suite with its sizes.
-    ghost gives: { Self → Scheme → List ℕ → Self.Out → Type 0 };
-
-    /// Does it.
-    fn on<P: ParameterSet>(self) -> Self::Out
-        ensures { gives self P.scheme P.set_name result };
-}
-
-impl Set {
-    /// Does something with this set.
-    pub fn run<T: OnSet>(self, task: T) -> T::Out
-        ensures { T.gives task (scheme_for self) (name_of self) result }
+    /// The place of the set in the table, from 1 on, by which callers in C name it.
+    pub fn number(self) -> u32
+        ensures { result ≡ number_of self }
     {
         match self {
-            Set::Sha2_128s => task.on::<Sha2_128s>(),
-            Set::Sha2_128f => task.on::<Sha2_128f>(),
-            Set::Sha2_192s => task.on::<Sha2_192s>(),
-            Set::Sha2_192f => task.on::<Sha2_192f>(),
-            Set::Sha2_256s => task.on::<Sha2_256s>(),
-            Set::Sha2_256f => task.on::<Sha2_256f>(),
+            Set::Sha2_128s => 1,
+            Set::Sha2_128f => 2,
+            Set::Sha2_192s => 3,
+            Set::Sha2_192f => 4,
+            Set::Sha2_256s => 5,
+            Set::Sha2_256f => 6,
         }
     }
-}
 
-#[derive(Drop)]
-struct Name;
-
-impl OnSet for Name {
-    type Out = &'static str;
-
-    ghost gives = { λ _ _ name result. result.now ≡ name };
-
-    fn on<P: ParameterSet>(self) -> &'static str {
-        P::set_name()
+    /// The set of a number, where there is one.
+    pub fn from_number(number: u32) -> Option<Set>
+        ensures { result ≡ set_numbered number }
+    {
+        first_numbered(&Set::ALL, number)
     }
 }
 
@@ -99,4 +91,10 @@ fn first_named(sets: &[Set], name: &[u8]) -> Option<Set>
     sets.iter()
         .copied()
         .find(|set| name == set.name().as_bytes())
+}
+
+fn first_numbered(sets: &[Set], number: u32) -> Option<Set>
+    ensures { result ≡ find (λ set. number == number_of set) sets.now }
+{
+    sets.iter().copied().find(|set| number == set.number())
 }

@@ -1,0 +1,71 @@
+//! How many bytes keys and signatures of a set have.
+ghost use Rattle.std.specs.Prelude.{◌≡◌, ◌*◌, ◌≤◌};
+ghost use Rattle.slh_core.specs.Parameters.{Scheme};
+ghost use Rattle.slh_sets.specs.Sets.{scheme_for};
+ghost use Rattle.slh_trees.specs.Checking.{signature_size};
+
+use crate::dispatch::OnSet;
+use crate::set::Set;
+use hybrid_array::ArraySize;
+use slh_core::params::forest_sizes;
+use slh_dsa::ParameterSet;
+
+#[derive(Drop)]
+struct N;
+
+impl OnSet for N {
+    type Out = usize;
+
+    ghost gives = { λ _ Z _ result. (result ≡ Z.n) × (result ≤ 32) };
+
+    fn on<P: ParameterSet>(self) -> usize {
+        forest_sizes::<P>();
+        P::N::USIZE
+    }
+}
+
+#[derive(Drop)]
+struct SignatureLen;
+
+impl OnSet for SignatureLen {
+    type Out = usize;
+
+    ghost gives = { λ _ Z _ result. result ≡ signature_size Z };
+
+    fn on<P: ParameterSet>(self) -> usize {
+        P::SigLen::USIZE
+    }
+}
+
+impl Set {
+    /// n, the bytes of a seed, a hash and a randomizer.
+    pub fn n(self) -> usize
+        ensures value { result ≡ (scheme_for self).n }
+        ensures most { result ≤ 32 }
+    {
+        self.run(N)
+    }
+
+    /// The bytes of a signing key.
+    pub fn signing_key_len(self) -> usize
+        ensures value { result ≡ 4 * (scheme_for self).n }
+        ensures most { result ≤ 128 }
+    {
+        4 * self.n()
+    }
+
+    /// The bytes of a verifying key.
+    pub fn verifying_key_len(self) -> usize
+        ensures value { result ≡ 2 * (scheme_for self).n }
+        ensures most { result ≤ 64 }
+    {
+        2 * self.n()
+    }
+
+    /// The bytes of a signature.
+    pub fn signature_len(self) -> usize
+        ensures { result ≡ signature_size (scheme_for self) }
+    {
+        self.run(SignatureLen)
+    }
+}
