@@ -3,10 +3,10 @@ use crate::failure::Failure;
 use crate::files;
 use clap::ArgMatches;
 use slh_files::{
-    Key, Kind, Message, Outcome, digits_of, read_key, read_signature, read_signing_key, seed_len,
-    signature_len,
+    Key, Kind, Message, Outcome, digits_of, read_key, read_signature, read_signing_key,
 };
-use slh_run::{ByteString, Mode, Set};
+use slh_run::{ByteString, Mode};
+use slh_sets::Set;
 use std::random::RandomSource;
 
 /// The most bytes of a context.
@@ -144,7 +144,7 @@ fn signature<'a>(
     let path = required(words, "signature")?;
     let file = files::read(rt, path)?;
     let signature = read_signature(rt.alloc(), set, file)?;
-    if signature.len() == signature_len(set) {
+    if signature.len() == set.signature_len() {
         Ok(signature)
     } else {
         Err(Failure::Signature(path, set))
@@ -203,7 +203,7 @@ impl Randomness {
     /// As many as a randomizer of a set is made from.
     pub fn of_set(&self, set: Set) -> Option<&[u8]> {
         match &self.0 {
-            Some(bytes) => Some(&bytes[..seed_len(set)]),
+            Some(bytes) => Some(&bytes[..set.n()]),
             None => None,
         }
     }

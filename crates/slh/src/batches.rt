@@ -8,7 +8,8 @@ use clap::ArgMatches;
 use slh_batch::{Batch, BatchError, ReceiptError, Sealed, accept};
 use slh_dsa::ParameterSet;
 use slh_files::Outcome;
-use slh_line::{OnSet, signing_key as signing_key_of, verifying_key as verifying_key_of};
+use slh_line::{signing_key as signing_key_of, verifying_key as verifying_key_of};
+use slh_sets::OnSet;
 use std::alloc::AllocError;
 
 // The files of a batch that is to be signed.

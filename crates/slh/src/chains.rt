@@ -11,8 +11,9 @@ use clap::ArgMatches;
 use slh_chain::{ChainError, LinkError, delegate as link_of, walk as end_of};
 use slh_dsa::ParameterSet;
 use slh_files::{Key, Kind, Outcome, digits_of};
-use slh_line::{OnSet, signing_key as signing_key_of, verifying_key as verifying_key_of};
-use slh_run::{ByteString, Set};
+use slh_line::{signing_key as signing_key_of, verifying_key as verifying_key_of};
+use slh_run::ByteString;
+use slh_sets::{OnSet, Set};
 use std::alloc::Global;
 
 // A link that is to be made.

@@ -1,6 +1,7 @@
 //! What is told on standard error.
-use slh_files::{KeyFileError, signature_len};
-use slh_run::{Error, Set};
+use slh_files::KeyFileError;
+use slh_run::Error;
+use slh_sets::Set;
 use std::alloc::AllocError;
 use std::{fmt, io};
 
@@ -79,7 +80,7 @@ impl fmt::Display for Failure<'_> {
             }
             Failure::Signature(path, set) => {
                 let name = set.name();
-                let len = signature_len(*set);
+                let len = set.signature_len();
                 write!(
                     f,
                     "{path}: not a signature of {name}, which has {len} bytes"

@@ -8,7 +8,8 @@ use slh_files::{
     Key, KeyFileError, Kind, Outcome, digits_of, has_own_root, read_key, set_of_signature,
     verifying_key,
 };
-use slh_run::{ByteString, Set};
+use slh_run::ByteString;
+use slh_sets::Set;
 
 /// Tells what a key or a signature is. Of a signing key nothing secret is told.
 pub fn inspect<'a>(rt: &HostRuntime, words: &ArgMatches<'a>) -> Result<Outcome, Failure<'a>> {

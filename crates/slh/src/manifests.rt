@@ -8,8 +8,9 @@ use crate::folder::{Folder, names_below};
 use clap::ArgMatches;
 use slh_dsa::ParameterSet;
 use slh_files::Outcome;
-use slh_line::{OnSet, signing_key as signing_key_of, verifying_key as verifying_key_of};
+use slh_line::{signing_key as signing_key_of, verifying_key as verifying_key_of};
 use slh_manifest::{BuildError, Builder, CheckError, check as check_over, entry_name};
+use slh_sets::OnSet;
 use std::alloc::{AllocError, Global};
 use std::{fs, io, str};
 

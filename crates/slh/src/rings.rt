@@ -7,9 +7,9 @@ use clap::ArgMatches;
 use line_serve::push_hex_line;
 use slh_dsa::ParameterSet;
 use slh_files::{Key, Outcome, digits_of};
-use slh_line::OnSet;
 use slh_ring::{Path, RestoreError, Ring, RingError, derive};
-use slh_run::{ByteString, Set};
+use slh_run::ByteString;
+use slh_sets::{OnSet, Set};
 use std::alloc::{AllocError, Global};
 
 /// The most bytes of a master.

@@ -2,19 +2,11 @@
 use crate::group_words::groups;
 use clap::builder::ValueParser;
 use clap::{Arg, ArgAction, Command, value_parser};
+use slh_sets::Set;
 use std::alloc::{AllocError, Global};
 
 /// What `--version` prints: the version, and the toolchain that proved the program.
 const VERSION: &str = "0.9.0 (rattle-kit-13f logic dac8208d650f15bf)";
-
-const SETS: [&str; 6] = [
-    "SLH-DSA-SHA2-128s",
-    "SLH-DSA-SHA2-128f",
-    "SLH-DSA-SHA2-192s",
-    "SLH-DSA-SHA2-192f",
-    "SLH-DSA-SHA2-256s",
-    "SLH-DSA-SHA2-256f",
-];
 
 const HASHES: [&str; 2] = ["sha256", "sha512"];
 
@@ -57,7 +49,7 @@ pub enum Kind {
     Number,
     /// An option.
     Required,
-    /// An option, one of `SETS`.
+    /// An option, the name of a set.
     Set,
     /// One word, which is not empty.
     Operand,
@@ -311,7 +303,7 @@ fn with_value<'a>(arg: Arg<'a>, word: &'static Word) -> Arg<'a> {
 
 fn parser_of(kind: Kind) -> ValueParser<'static> {
     match kind {
-        Kind::Set => ValueParser::Names(&SETS),
+        Kind::Set => ValueParser::Names(&Set::NAMES),
         Kind::Hash => ValueParser::Names(&HASHES),
         Kind::Number => value_parser!(u8),
         Kind::Operand | Kind::Operands => ValueParser::NonEmptyString,

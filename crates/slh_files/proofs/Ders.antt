@@ -5,7 +5,7 @@ use Rattle.std.proofs.lemmas.Bool.{and_parts, eq-eqb, eqb-true, le-leb, leb-true
 use Rattle.std.proofs.lemmas.List.{append_cancel_left}
 use Rattle.std.proofs.lemmas.Slice.Eq.{bytes_eq-Decides}
 use Rattle.std.specs.Cmp.Derive.{both_true}
-use Rattle.slh_line.specs.declared.set.Set.{Set}
+use Rattle.slh_sets.specs.declared.set.Set.{Set}
 use Rattle.slh_files.specs.Heads.{der_of, is_der, key_behind, key_len}
 use Rattle.slh_files.specs.declared.key.Kind.{Kind}
 

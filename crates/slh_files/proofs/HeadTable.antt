@@ -4,11 +4,11 @@ use Rattle.std.specs.Bool.{◌==◌}
 use Rattle.std.specs.List.{find, list_all}
 use Rattle.std.proofs.lemmas.Bool.{and_parts, ltb-true}
 use Rattle.base64.specs.GeneralPurpose.{IsBytes}
-use Rattle.slh_line.specs.Sets.{all_sets}
-use Rattle.slh_line.specs.declared.set.Set.{Set}
-use Rattle.slh_line.specs.declared.set.Set.TheVariants.{Sha2_128s, Sha2_128f}
-use Rattle.slh_line.specs.declared.set.Set.TheVariants.{Sha2_192s, Sha2_192f}
-use Rattle.slh_line.specs.declared.set.Set.TheVariants.{Sha2_256s, Sha2_256f}
+use Rattle.slh_sets.specs.Sets.{all_sets}
+use Rattle.slh_sets.specs.declared.set.Set.{Set}
+use Rattle.slh_sets.specs.declared.set.Set.TheVariants.{Sha2_128s, Sha2_128f}
+use Rattle.slh_sets.specs.declared.set.Set.TheVariants.{Sha2_192s, Sha2_192f}
+use Rattle.slh_sets.specs.declared.set.Set.TheVariants.{Sha2_256s, Sha2_256f}
 use Rattle.slh_files.specs.Heads.{der_of, key_len, last_arc}
 use Rattle.slh_files.specs.declared.key.Kind.{Kind}
 use Rattle.slh_files.specs.declared.key.Kind.TheVariants.{Signing, Verifying}

@@ -9,8 +9,8 @@ use Rattle.base64.proofs.EngineFacts.{decode_of_strict}
 use Rattle.base64.specs.Engines.{standard}
 use Rattle.base64.specs.GeneralPurpose.{IsBytes, decode_of, encode_of}
 use Rattle.base64.specs.declared.decode.DecodeError.{DecodeError}
-use Rattle.slh_line.specs.Sets.{all_sets}
-use Rattle.slh_line.specs.declared.set.Set.{Set}
+use Rattle.slh_sets.specs.Sets.{all_sets}
+use Rattle.slh_sets.specs.declared.set.Set.{Set}
 use Rattle.slh_files.specs.Blocks.{begin_mark, behind, block_in}
 use Rattle.slh_files.specs.Heads.{der_of, is_der, key_behind, label}
 use Rattle.slh_files.specs.Lines.{is_blank, squeezed}

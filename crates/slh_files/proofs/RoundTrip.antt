@@ -12,7 +12,7 @@ use Rattle.slh_files.specs.Blocks.{block_in, begin_mark, checked_block}
 use Rattle.base64.specs.Engines.{standard}
 use Rattle.base64.specs.GeneralPurpose.{IsBytes, decode_of, encode_of}
 use Rattle.base64.proofs.EngineFacts.{decode_of-encode_of}
-use Rattle.slh_line.specs.declared.set.Set.{Set}
+use Rattle.slh_sets.specs.declared.set.Set.{Set}
 use Rattle.slh_files.proofs.Ders.{der_parts, is_der_of, last_bytes}
 use Rattle.slh_files.proofs.HeadTable.{der_bytes, found_in_all, head_at, head_at_is, same_set}
 use Rattle.slh_files.specs.Heads.{begin_line, der_of, end_line, is_der, key_len, label}

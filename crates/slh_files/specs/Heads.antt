@@ -2,21 +2,17 @@
 use Rattle.std.specs.Prelude.{ℕ, ◌*◌, ◌-◌, nat_lt, nat_le, List, [], ◌∷◌, ◌++◌, length, drop, codes}
 use Rattle.std.specs.Prelude.{if◌then◌else◌, Bool, ◌&&◌}
 use Rattle.std.specs.Str.{bytes_eq}
-use Rattle.slh_line.specs.declared.set.Set.{Set}
-use Rattle.slh_line.specs.declared.set.Set.TheVariants.{Sha2_128s, Sha2_128f}
-use Rattle.slh_line.specs.declared.set.Set.TheVariants.{Sha2_192s, Sha2_192f}
-use Rattle.slh_line.specs.declared.set.Set.TheVariants.{Sha2_256s, Sha2_256f}
+use Rattle.slh_sets.specs.Sets.{scheme_for}
+use Rattle.slh_sets.specs.declared.set.Set.{Set}
+use Rattle.slh_sets.specs.declared.set.Set.TheVariants.{Sha2_128s, Sha2_128f}
+use Rattle.slh_sets.specs.declared.set.Set.TheVariants.{Sha2_192s, Sha2_192f}
+use Rattle.slh_sets.specs.declared.set.Set.TheVariants.{Sha2_256s, Sha2_256f}
 use Rattle.slh_files.specs.declared.key.Kind.{Kind}
 use Rattle.slh_files.specs.declared.key.Kind.TheVariants.{Signing, Verifying}
 
--- n of FIPS 205, table 2
+-- n
 abbrev pub seed_len : Set → ℕ
-seed_len Sha2_128s = 16
-seed_len Sha2_128f = 16
-seed_len Sha2_192s = 24
-seed_len Sha2_192f = 24
-seed_len Sha2_256s = 32
-seed_len Sha2_256f = 32
+seed_len set = (scheme_for set).n
 
 abbrev pub other_kind : Kind → Kind
 other_kind Signing = Verifying

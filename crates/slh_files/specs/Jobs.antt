@@ -7,8 +7,8 @@ use Rattle.slh_audit.specs.declared.evidence.Verdict.TheVariants.{Genuine}
 use Rattle.slh_core.specs.Bytes.{part}
 use Rattle.slh_core.specs.Parameters.{Scheme}
 use Rattle.slh_dsa.specs.declared.frame.Mode.{Mode}
-use Rattle.slh_line.specs.Sets.{scheme_for}
-use Rattle.slh_line.specs.declared.set.Set.{Set}
+use Rattle.slh_sets.specs.Sets.{scheme_for}
+use Rattle.slh_sets.specs.declared.set.Set.{Set}
 use Rattle.slh_run.specs.Judgement.{judgement}
 use Rattle.slh_run.specs.declared.job.Answer.{Answer}
 use Rattle.slh_run.specs.declared.job.Answer.TheVariants.{Signature, Shown}

@@ -3,8 +3,8 @@ use Rattle.std.specs.Prelude.{◌==◌, ℕ, List, Bool, not, ◌||◌, filter, 
 use Rattle.std.specs.Prelude.{Option, None, Some, Result, Ok, Err, if◌then◌else◌}
 use Rattle.std.specs.List.{slice_split}
 use Rattle.line_serve.specs.Fields.{field_at, hex_value}
-use Rattle.slh_line.specs.Sets.{set_named}
-use Rattle.slh_line.specs.declared.set.Set.{Set}
+use Rattle.slh_sets.specs.Sets.{set_named}
+use Rattle.slh_sets.specs.declared.set.Set.{Set}
 use Rattle.slh_files.specs.Heads.{key_len, other_kind}
 use Rattle.slh_files.specs.declared.error.KeyFileError.{KeyFileError}
 use Rattle.slh_files.specs.declared.error.KeyFileError.TheVariants.{Empty, Hex, Length, NoKey}

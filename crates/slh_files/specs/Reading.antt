@@ -6,8 +6,8 @@ use Rattle.std.specs.Str.{bytes_eq}
 use Rattle.base64.specs.Engines.{standard}
 use Rattle.base64.specs.GeneralPurpose.{decode_of}
 use Rattle.base64.specs.declared.decode.DecodeError.{DecodeError}
-use Rattle.slh_line.specs.Sets.{all_sets}
-use Rattle.slh_line.specs.declared.set.Set.{Set}
+use Rattle.slh_sets.specs.Sets.{all_sets}
+use Rattle.slh_sets.specs.declared.set.Set.{Set}
 use Rattle.slh_files.specs.Blocks.{begin_mark, block_in}
 use Rattle.slh_files.specs.Heads.{algorithm, is_der, key_behind, label, other_kind}
 use Rattle.slh_files.specs.Lines.{line_key, squeezed}

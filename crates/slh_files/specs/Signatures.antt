@@ -3,8 +3,8 @@ use Rattle.std.specs.Prelude.{◌==◌, ℕ, List, length, codes, unwrap_or, if�
 use Rattle.std.specs.Prelude.{Option, None}
 use Rattle.std.specs.Str.{bytes_eq}
 use Rattle.line_serve.specs.Fields.{hex_value}
-use Rattle.slh_line.specs.Sets.{scheme_for}
-use Rattle.slh_line.specs.declared.set.Set.{Set}
+use Rattle.slh_sets.specs.Sets.{scheme_for}
+use Rattle.slh_sets.specs.declared.set.Set.{Set}
 use Rattle.slh_trees.specs.Checking.{signature_size}
 use Rattle.slh_files.specs.Lines.{squeezed}
 

@@ -3,7 +3,7 @@ use Rattle.std.specs.Int.{div_ceil}
 use Rattle.std.specs.Prelude.{ℕ, zero, suc, ◌*◌, List, ◌∷◌, [], ◌++◌, length, take, drop}
 use Rattle.base64.specs.Engines.{standard}
 use Rattle.base64.specs.GeneralPurpose.{encode_of}
-use Rattle.slh_line.specs.declared.set.Set.{Set}
+use Rattle.slh_sets.specs.declared.set.Set.{Set}
 use Rattle.slh_files.specs.Heads.{begin_line, der_of, end_line}
 use Rattle.slh_files.specs.declared.key.Kind.{Kind}
 

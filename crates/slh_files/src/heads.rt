@@ -4,7 +4,7 @@ ghost use Rattle.slh_files.specs.Heads.{algorithm, der_of, key_len};
 ghost use Rattle.slh_files.specs.declared.key.Kind.TheVariants.{Signing, Verifying};
 
 use crate::key::Kind;
-use slh_run::Set;
+use slh_sets::Set;
 
 /// The bytes before a key.
 pub(crate) fn head(kind: Kind, set: Set) -> &'static [u8]

@@ -7,7 +7,7 @@ ghost use Rattle.slh_audit.specs.Verdicts.{message_audit};
 ghost use Rattle.slh_audit.specs.declared.evidence.Verdict.TheVariants.{Genuine};
 ghost use Rattle.slh_dsa.specs.Calls.{is_valid};
 ghost use Rattle.slh_dsa.specs.Frames.{mode_frame};
-ghost use Rattle.slh_line.specs.Sets.{scheme_for};
+ghost use Rattle.slh_sets.specs.Sets.{scheme_for};
 ghost use Rattle.slh_trees.specs.Signing.{signature_of};
 ghost use Rattle.slh_run.specs.Judgement.{judgement};
 ghost use Rattle.slh_run.specs.declared.job.Error.TheVariants.{Length, Memory};
@@ -20,8 +20,8 @@ ghost use Rattle.slh_files.specs.Jobs.{randomizer_of, verdict_by};
 
 use crate::key::Key;
 use crate::laws::made_is_genuine;
-use crate::sizes::seed_len;
-use slh_run::{Answer, ByteString, Error, Evidence, Job, Mode, Set, Verdict, run};
+use slh_run::{Answer, ByteString, Error, Evidence, Job, Mode, Verdict, run};
+use slh_sets::Set;
 use std::alloc::{AllocError, Global};
 
 /// What is signed.
@@ -51,7 +51,7 @@ fn key_of_seeds(alloc: Global, set: Set, seeds: &[u8]) -> Result<Key, Error>
     ensures value { IfOk result (λ key. key.bytes ≡ made_of set seeds.now) }
     ensures memory { IfErr result (λ e. e ≡ Memory) }
 {
-    let n = seed_len(set);
+    let n = set.n();
     let job = Job::Keygen {
         sk_seed: ByteString::from_slice(alloc, &seeds[..n])?,
         sk_prf: ByteString::from_slice(alloc, &seeds[n..2 * n])?,
@@ -86,7 +86,7 @@ pub fn has_own_root(alloc: Global, key: &Key) -> Result<bool, Error>
     ensures other { IfErr result (λ e. (e ≡ Length) ⊎ (e ≡ Memory)) }
 {
     let bytes = key.bytes.as_slice();
-    if bytes.len() != 4 * seed_len(key.set) {
+    if bytes.len() != key.set.signing_key_len() {
         return Err(Error::Length);
     }
     let made = key_of_seeds(alloc, key.set, bytes)?;
@@ -130,7 +130,7 @@ fn sign_job(
         bytes: message,
     } = message;
     let randomizer = match random {
-        Some(random) => Some(ByteString::from_slice(alloc, &random[..seed_len(set)])?),
+        Some(random) => Some(ByteString::from_slice(alloc, &random[..set.n()])?),
         None => None,
     };
     Ok(Job::Sign {

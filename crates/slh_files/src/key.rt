@@ -2,8 +2,8 @@
 ghost use Rattle.std.specs.Prelude.{◌≡◌, ◌≤◌};
 ghost use Rattle.slh_files.specs.Heads.{begin_line, end_line, key_len, label, other_kind};
 
-use crate::sizes::seed_len;
-use slh_run::{ByteString, Set};
+use slh_run::ByteString;
+use slh_sets::Set;
 
 /// Which of a pair's keys.
 #[derive(Clone, Copy, Debug, PartialEq, Eq)]
@@ -21,8 +21,8 @@ impl Kind {
         ensures most { result ≤ 128 }
     {
         match self {
-            Kind::Signing => 4 * seed_len(set),
-            Kind::Verifying => 2 * seed_len(set),
+            Kind::Signing => set.signing_key_len(),
+            Kind::Verifying => set.verifying_key_len(),
         }
     }
 

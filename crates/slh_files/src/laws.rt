@@ -11,12 +11,11 @@ ghost use Rattle.slh_files.specs.Reading.{key_in, key_with, pem_key};
 ghost use Rattle.slh_files.specs.Writing.{key_file};
 ghost use Rattle.slh_files.specs.declared.key.Key.{Key as AnyKey};
 ghost use Rattle.slh_files.specs.declared.key.Kind.{Kind as KeyKind};
-ghost use Rattle.slh_line.specs.Sets.{scheme_for};
-ghost use Rattle.slh_line.specs.declared.set.Set.{Set as KeySet};
+ghost use Rattle.slh_sets.specs.Sets.{scheme_for};
+ghost use Rattle.slh_sets.specs.declared.set.Set.{Set as KeySet};
 
 use slh_dsa::ParameterSet;
-use slh_line::OnSet;
-use slh_run::Set;
+use slh_sets::{OnSet, Set};
 
 /// The text of each key's file is read as this key and no other, for each kind and set.
 pub fn written_is_read()

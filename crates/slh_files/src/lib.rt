@@ -9,7 +9,8 @@
 //!
 //! ```
 //! use slh_files::{Key, KeyFileError, Kind, Message, encode_key, made_key, verify};
-//! use slh_run::{ByteString, Error, Mode, Set};
+//! use slh_run::{ByteString, Error, Mode};
+//! use slh_sets::Set;
 //! use std::alloc::Global;
 //!
 //! fn key_file(alloc: Global, random: &[u8; 96]) -> Result<ByteString, KeyFileError> {
@@ -51,7 +52,6 @@ mod places;
 mod readers;
 mod reading;
 mod signatures;
-mod sizes;
 mod writing;
 
 pub use error::KeyFileError;
@@ -65,5 +65,4 @@ pub use outcome::Outcome;
 pub use readers::gather;
 pub use reading::{read_key, read_signing_key};
 pub use signatures::{digits_of, read_signature, set_of_signature};
-pub use sizes::{seed_len, signature_len};
 pub use writing::encode_key;

@@ -3,7 +3,7 @@ ghost use Rattle.std.specs.Prelude.{◌≡◌, ◌⊎◌, ◌≤◌, IfOk, IfSom
 ghost use Rattle.std.specs.List.{find};
 ghost use Rattle.slh_files.specs.Heads.{is_der, key_len};
 ghost use Rattle.slh_files.specs.Jobs.{own_key};
-ghost use Rattle.slh_line.specs.Sets.{all_sets};
+ghost use Rattle.slh_sets.specs.Sets.{all_sets};
 ghost use Rattle.slh_files.specs.Lines.{is_blank as spec_is_blank, squeezed};
 ghost use Rattle.slh_files.specs.Reading.{body_key, der_key, der_error as spec_der_error};
 ghost use Rattle.slh_files.specs.Reading.{key_in, label_error as spec_label_error};
@@ -20,7 +20,8 @@ use crate::lines::{is_blank, read_line};
 use crate::places::place_of;
 use base64::DecodeAllocError;
 use base64::engine::general_purpose::STANDARD;
-use slh_run::{ByteString, Set};
+use slh_run::ByteString;
+use slh_sets::Set;
 use std::alloc::{AllocError, Global};
 
 /// The key of a key file: of its one PEM block, or of a line `SET KEY`.

@@ -3,13 +3,13 @@ ghost use Rattle.std.specs.Prelude.{◌≡◌, ◌==◌, IfOk};
 ghost use Rattle.std.specs.List.{find};
 ghost use Rattle.slh_files.specs.Lines.{squeezed};
 ghost use Rattle.slh_files.specs.Signatures.{digits_value, signature_in};
-ghost use Rattle.slh_line.specs.Sets.{all_sets, scheme_for};
+ghost use Rattle.slh_sets.specs.Sets.{all_sets, scheme_for};
 ghost use Rattle.slh_trees.specs.Checking.{signature_size};
 
 use crate::reading::squeeze;
-use crate::sizes::signature_len;
 use line_serve::hex_field;
-use slh_run::{ByteString, Set};
+use slh_run::ByteString;
+use slh_sets::Set;
 use std::alloc::{AllocError, Global};
 
 /// The bytes that a text's hexadecimal digits stand for. Blanks and ends of lines don't count.
@@ -34,7 +34,7 @@ pub fn digits_of(alloc: Global, text: &[u8]) -> Result<Option<ByteString>, Alloc
 pub fn read_signature(alloc: Global, set: Set, file: ByteString) -> Result<ByteString, AllocError>
     ensures { IfOk result (λ signature. signature ≡ signature_in set file) }
 {
-    if file.len() == signature_len(set) {
+    if file.len() == set.signature_len() {
         return Ok(file);
     }
     match digits_of(alloc, file.as_slice())? {
@@ -51,5 +51,5 @@ pub fn set_of_signature(len: usize) -> Option<Set>
         .as_slice()
         .iter()
         .copied()
-        .find(|set| signature_len(*set) == len)
+        .find(|set| set.signature_len() == len)
 }

@@ -10,7 +10,7 @@ ghost use Rattle.slh_run.specs.Bench.{bench_key as spec_bench_key, bench_message
 ghost use Rattle.slh_run.specs.Bench.{bench_of, bench_prk as spec_bench_prk, bench_signature};
 ghost use Rattle.slh_run.specs.Bench.{bench_signatures, counts_line, digest_line, head_line};
 ghost use Rattle.slh_run.specs.Bench.{bench_report, message_size, outcome_lines};
-ghost use Rattle.slh_line.specs.Sets.{scheme_for};
+ghost use Rattle.slh_sets.specs.Sets.{scheme_for};
 ghost use Rattle.slh_run.specs.declared.bench.Stop.TheVariants.{NoMemory, SinkFault};
 ghost use Rattle.slh_trees.specs.Checking.{signature_size};
 
@@ -22,7 +22,7 @@ use line_serve::{
 };
 use slh_core::params::{chain_sizes, forest_sizes, layer_sizes};
 use slh_dsa::{Mode, ParameterSet, SigningKey};
-use slh_line::{OnSet, Set};
+use slh_sets::{OnSet, Set};
 use std::alloc::{AllocError, Global};
 
 // How many bytes the longest message has.

@@ -2,7 +2,7 @@
 ghost use Rattle.std.specs.Prelude.{◌≡◌, ◌≤◌, ◌*◌, ◌^◌, length, OnOk};
 ghost use Rattle.slh_run.specs.Errors.{audit_error_of, error_of};
 ghost use Rattle.slh_run.specs.Judgement.{IsJudged, NeedsMemory, audit_refusal, judgement};
-ghost use Rattle.slh_line.specs.Sets.{scheme_for};
+ghost use Rattle.slh_sets.specs.Sets.{scheme_for};
 ghost use Rattle.slh_trees.specs.Checking.{signature_size};
 ghost use Rattle.slh_trees.specs.Refusals.{RefusedExactly};
 ghost use Rattle.slh_run.specs.declared.job.Job.TheVariants.{Keygen, Sign, Verify, Audit, Check};
@@ -13,7 +13,8 @@ use line_serve::ByteString;
 use slh_audit::{AuditError, Evidence, audit_framed, check_evidence_framed};
 use slh_core::params::chain_sizes;
 use slh_dsa::{Frame, Mode, ParameterSet, SigningKey, VerifyingKey};
-use slh_line::{OnSet, Set, as_bytes};
+use slh_line::as_bytes;
+use slh_sets::{OnSet, Set};
 use std::alloc::{AllocError, Global};
 
 impl From<slh_dsa::Error> for Error {

@@ -1,11 +1,11 @@
 //! What benches report, and what tells refusals apart, as contracts.
 ghost use Rattle.std.specs.Prelude.{◌≡◌, ℕ, List};
 ghost use Rattle.slh_run.specs.Bench.{accepted_count};
-ghost use Rattle.slh_line.specs.Sets.{scheme_for};
+ghost use Rattle.slh_sets.specs.Sets.{scheme_for};
 
 use slh_dsa::ParameterSet;
 use slh_dsa::laws::signed_is_accepted;
-use slh_line::{OnSet, Set};
+use slh_sets::{OnSet, Set};
 
 fn accepts_all_in<P: ParameterSet>()
     ensures { (prk : List ℕ) (count : ℕ) → accepted_count P.scheme prk count ≡ count }

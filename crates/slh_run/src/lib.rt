@@ -46,4 +46,4 @@ pub use line_serve::{
 pub use program::serve;
 pub use slh_audit::{Evidence, Verdict};
 pub use slh_dsa::Mode;
-pub use slh_line::Set;
+pub use slh_sets::Set;

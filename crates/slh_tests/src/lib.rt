@@ -1,6 +1,7 @@
 //! Tests of `slh_trees`, `slh_audit` and `slh_dsa` from outside: the toy suite, whose values were
 //! worked by hand, and known keys of SLH-DSA-SHA2-128f. Below them those of `slh_core` (`core_`),
-//! `slh_hash` (`hash_`) and `signature_core` (`signature_traits`).
+//! `slh_hash` (`hash_`) and `signature_core` (`signature_traits`), above them those of `slh_sets`
+//! (`sets`).
 #![tactic(auto)]
 
 #[cfg(test)]
@@ -33,6 +34,8 @@ mod page_of_keys;
 mod page_of_trees;
 #[cfg(test)]
 mod places;
+#[cfg(test)]
+mod sets;
 #[cfg(test)]
 mod signature_traits;
 #[cfg(test)]

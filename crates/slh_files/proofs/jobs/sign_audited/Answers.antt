@@ -1,4 +1,4 @@
-use Rattle.slh_line.specs.Sets.{scheme_for}
+use Rattle.slh_sets.specs.Sets.{scheme_for}
 use Rattle.std.specs.Option.{option_copied}
 use Rattle.slh_files.specs.Jobs.{randomizer_of}
 use Rattle.slh_files.proofs.Genuine.{Promised, promised}
