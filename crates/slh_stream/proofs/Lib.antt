@@ -1,0 +1,3 @@
+mod Begun
+mod Agreeing
+mod Refused

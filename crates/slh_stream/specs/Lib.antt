@@ -1,0 +1,5 @@
+pub mod Tails
+pub mod Verifying
+pub mod Passes
+pub mod Digests
+pub mod Digesting

@@ -1,0 +1,22 @@
+-- What a verifier of a message in pieces stands for.
+use Rattle.std.specs.Prelude.{◌≡◌, ℕ, ◌≤◌, List, ◌++◌, length, take}
+use Rattle.slh_core.specs.Bytes.{part}
+use Rattle.slh_dsa.specs.Frames.{head_of}
+use Rattle.slh_dsa.specs.declared.frame.Mode.{Mode}
+use Rattle.slh_stream.specs.Tails.{StandsAfter, mode_of}
+use Rattle.slh_stream.specs.declared.tail.Tail.{Tail}
+
+-- The verifier's state stands for a mode, the bytes of a verifying key, a context, a signature and
+-- a message: H_msg was begun for the signature's randomizer, of n bytes, and the parts of the key,
+-- and has absorbed what stands before the message, and of the message what is passed on.
+pub record IsVerifying (n : ℕ) (digests : List ℕ → List ℕ → List ℕ → List ℕ → Type 0) (tail : Tail)
+    (taken : ℕ) (seed root view : List ℕ) (mode : Mode) (key context sig message : List ℕ)
+    : Type 0 where
+  pub mode_is : mode_of tail ≡ mode
+  pub seed_is : seed ≡ part n key 0
+  pub root_is : root ≡ part n key 1
+  pub sig_is : view ≡ sig
+  pub context_fits : length context ≤ 255
+  pub taken_is : taken ≡ length message
+  pub stands :
+      StandsAfter (digests (take n sig) seed root) tail (head_of mode context ++ context) message

@@ -1,0 +1,56 @@
+//! What a caller learns who hands in a message in two pieces.
+ghost use Rattle.std.specs.Prelude.{◌≡◌, ◌++◌, OnOk, true};
+ghost use Rattle.std.specs.Option.{option_copied};
+ghost use Rattle.slh_dsa.specs.Calls.{hash_verify_error};
+ghost use Rattle.slh_trees.specs.Frame.{frame};
+ghost use Rattle.slh_trees.specs.Signing.{signature_of};
+ghost use Rattle.slh_trees.specs.Refusals.{RefusedExactly};
+
+use crate::passes::FirstPass;
+use crate::verifier::MessageVerifier;
+use slh_core::pieces::MessageSuite;
+use slh_dsa::{Error, Mode, ParameterSet, SigningKey, VerifyingKey};
+
+/// Verifies a message of two pieces: the answer is that of the call in one piece for the pieces
+/// joined.
+pub fn verify_two<P: ParameterSet + MessageSuite>(
+    key: &VerifyingKey<P>,
+    mode: Mode,
+    ctx: &[u8],
+    sig: &[u8],
+    first: &[u8],
+    second: &[u8],
+) -> Result<(), Error>
+    ensures { RefusedExactly result
+        (hash_verify_error P.scheme mode key.now ctx.now (first.now ++ second.now) sig.now) }
+{
+    let mut verifier = MessageVerifier::<P>::new(key, mode, ctx, sig)?;
+    verifier.update(first)?;
+    verifier.update(second)?;
+    verifier.finish()
+}
+
+/// Signs the two pieces of a second pass, whatever the first pass was given.
+pub fn sign_two<P: ParameterSet + MessageSuite>(
+    key: &SigningKey<P>,
+    ctx: &[u8],
+    opt_rand: Option<&[u8]>,
+    before: &[u8],
+    first: &[u8],
+    second: &[u8],
+    out: &mut [u8],
+) -> Result<bool, Error>
+    ensures { let opt_rand = option_copied opt_rand.entry in
+        let message = frame ctx.now (first.now ++ second.now) in
+        OnOk result (result ≡ Ok true → out.new ≡ signature_of P.scheme key.now opt_rand message) }
+{
+    let mut pass = FirstPass::<P>::new(key, ctx, opt_rand)?;
+    pass.update(before)?;
+    let mut pass = pass.again();
+    pass.update(first)?;
+    pass.update(second)?;
+    match pass.finish_into(out) {
+        Ok(()) => Ok(true),
+        Err(_) => Ok(false),
+    }
+}

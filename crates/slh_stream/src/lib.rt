@@ -1,0 +1,66 @@
+//! Messages in pieces (FIPS 205, sections 9 and 10), signed and verified in constant memory.
+//!
+//! What is verified and signed piece by piece is what the calls of `slh_dsa` verify and sign of the
+//! pieces joined, whatever they are cut into. A [`MessageVerifier`] verifies in one pass, in each
+//! mode. A message itself is signed in two passes, a [`FirstPass`] and a [`SecondPass`]: R comes
+//! from the whole message, and H_msg begins with R. Its digest is signed in one, by a
+//! [`DigestSigner`], and where the digest is at hand by [`sign_digest`]. In `slh_stream_tests`,
+//! `page_of_pieces::example_of_the_page` runs this:
+//!
+//! ```
+//! use slh_dsa::{Error, Mode, Sha2_128f, SigningKey, VerifyingKey};
+//! use slh_stream::{FirstPass, MessageVerifier, PassError};
+//!
+//! fn signed(
+//!     key: &SigningKey<Sha2_128f>,
+//!     first: &[u8],
+//!     second: &[u8],
+//!     out: &mut [u8],
+//! ) -> Result<Result<(), PassError>, Error> {
+//!     let mut pass = FirstPass::new(key, b"context", None)?;
+//!     pass.update(first)?;
+//!     pass.update(second)?;
+//!     let mut pass = pass.again();
+//!     pass.update(first)?;
+//!     pass.update(second)?;
+//!     Ok(pass.finish_into(out))
+//! }
+//!
+//! fn verified(
+//!     key: &VerifyingKey<Sha2_128f>,
+//!     sig: &[u8],
+//!     first: &[u8],
+//!     second: &[u8],
+//! ) -> Result<(), Error> {
+//!     let mut verifier = MessageVerifier::new(key, Mode::Pure, b"context", sig)?;
+//!     verifier.update(first)?;
+//!     verifier.update(second)?;
+//!     verifier.finish()
+//! }
+//! ```
+//!
+//! The second pass makes R again, and signs nothing where it isn't that of the first
+//! (`PassError::Changed`). What it signs is what it was given itself. A state stands for the bytes
+//! that it has absorbed, which the contracts say by a relation: for each message for which it
+//! stood it stands, after a piece, for that message and the piece. A refused piece changes nothing.
+//! No call takes memory.
+#![tactic(auto)]
+
+mod absorbing;
+pub mod callers;
+mod context;
+mod digest_signer;
+mod digests;
+mod hashing;
+mod key_parts;
+pub mod laws;
+mod pass_error;
+mod passes;
+mod tail;
+mod verifier;
+
+pub use digest_signer::DigestSigner;
+pub use digests::{sign_digest, sign_digest_counted, verify_digest, verify_digest_counted};
+pub use pass_error::PassError;
+pub use passes::{FirstPass, SecondPass};
+pub use verifier::MessageVerifier;

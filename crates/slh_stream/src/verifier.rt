@@ -1,0 +1,146 @@
+//! Verifying a message that comes in pieces.
+ghost use Rattle.std.specs.Prelude.{◌≡◌, ◌≢◌, ℕ, ◌+◌, ◌≤◌, ◌^◌, List, [], ◌++◌, length};
+ghost use Rattle.std.specs.Prelude.{IfOk, IfErr, OnOk, OnErr};
+ghost use Rattle.slh_core.specs.Costs.{slh_verify_bound};
+ghost use Rattle.slh_core.specs.Steps.{IsFresh};
+ghost use Rattle.slh_dsa.specs.Calls.{hash_verify_error, verify_refusal};
+ghost use Rattle.slh_dsa.specs.declared.error.Error.TheVariants.{MessageTooLong, Invalid};
+ghost use Rattle.slh_dsa.specs.declared.frame.Mode.{Mode as SigningMode};
+ghost use Rattle.slh_stream.specs.Tails.{hashed_count};
+ghost use Rattle.slh_stream.specs.Verifying.{IsVerifying};
+ghost use Rattle.slh_trees.specs.Checking.{digest_root};
+ghost use Rattle.slh_trees.specs.Refusals.{RefusedExactly, message_refusal};
+
+use crate::absorbing::{absorb, begin_front, begin_tail, end_tail};
+use crate::key_parts::public_parts;
+use crate::tail::Tail;
+use hybrid_array::ArraySize;
+use slh_core::nbytes::NBytes;
+use slh_core::params::{MAX_DIGEST_LEN, forest_sizes};
+use slh_core::pieces::MessageSuite;
+use slh_core::steps::Steps;
+use slh_dsa::{Error, Mode, ParameterSet, VerifyingKey};
+use slh_trees::SigView;
+use slh_trees::check::root_for_digest;
+use slh_trees::sizes::MAX_MESSAGE;
+use std::marker::Brand;
+use std::sync::ledger::{Blank, Ledger};
+
+/// A signature and H_msg of a message, as the message comes.
+#[derive(Drop)]
+pub struct MessageVerifier<'a, P: ParameterSet + MessageSuite> {
+    pk_seed: NBytes<P::N>,
+    pk_root: NBytes<P::N>,
+    sig: SigView<'a, P>,
+    digest: P::Digest,
+    tail: Tail,
+    taken: u64,
+    ghost short: { taken ≤ 2 ^ 60 },
+    ghost room: { P.digest_count digest ≤ taken + 257 },
+    ghost hashed: { hashed_count tail ≤ taken },
+}
+
+/// What a verifier stands for.
+pub trait Verifying {
+    /// The verifier stands for a mode, the bytes of a verifying key, a context, a signature and a
+    /// message.
+    ghost verifies: { Self → SigningMode → List ℕ → List ℕ → List ℕ → List ℕ → Type 0 };
+}
+
+impl<'a, P: ParameterSet + MessageSuite> Verifying for MessageVerifier<'a, P> {
+    ghost verifies = { λ v mode key context sig m. IsVerifying P.N.USIZE (P.digests v.digest)
+        v.tail v.taken v.pk_seed v.pk_root v.sig mode key context sig m };
+}
+
+impl<'a, P: ParameterSet + MessageSuite> MessageVerifier<'a, P> {
+    /// A verifier of the empty message, to go on from. `Length`, `ContextTooLong`.
+    pub fn new(key: &VerifyingKey<P>, mode: Mode, ctx: &[u8], sig: &'a [u8]) -> Result<Self, Error>
+        ensures refusal { RefusedExactly result (verify_refusal P.scheme ctx.now [] sig.now) }
+        ensures empty { IfOk result (λ v. ⟦<MessageVerifier<'a, P> as Verifying>⟧.verifies v mode
+            key.now ctx.now sig.now []) }
+    {
+        VerifyingKey::<P>::check_verify(&[], ctx, sig)?;
+        let (pk_seed, pk_root) = public_parts(key);
+        let sig = SigView::exact(sig);
+        let rand = NBytes::<P::N>::from_view(sig.randomizer());
+        let digest = begin_front::<P>(&rand, &pk_seed, &pk_root, mode, ctx);
+        Ok(MessageVerifier {
+            pk_seed,
+            pk_root,
+            sig,
+            digest,
+            tail: begin_tail(mode),
+            taken: 0,
+        })
+    }
+
+    /// Absorbs a piece of the message, after those before. `MessageTooLong`: more than 2^60 bytes
+    /// would have come.
+    pub fn update(&mut self, piece: &[u8]) -> Result<(), Error>
+        ensures refusal { (mode : SigningMode) (key context sig m : List ℕ)
+            → ⟦<MessageVerifier<'a, P> as Verifying>⟧.verifies self.old mode key context sig m
+            → RefusedExactly result (message_refusal MessageTooLong (m ++ piece.now)) }
+        ensures joins { OnOk result ((mode : SigningMode) (key context sig m : List ℕ)
+            → ⟦<MessageVerifier<'a, P> as Verifying>⟧.verifies self.old mode key context sig m
+            → ⟦<MessageVerifier<'a, P> as Verifying>⟧.verifies self.new mode key context sig
+            (m ++ piece.now)) }
+        ensures same { OnErr result (self.new ≡ self.old) }
+    {
+        if piece.len() > MAX_MESSAGE - self.taken as usize {
+            return Err(Error::MessageTooLong);
+        }
+        absorb::<P>(&mut self.digest, &mut self.tail, piece);
+        self.taken += piece.len() as u64;
+        Ok(())
+    }
+
+    /// What the call in one piece answers for what was absorbed: `Invalid`, or that the signature
+    /// leads to the key's root.
+    pub fn finish_counted<L: Ledger>(self, steps: &mut Steps<L>) -> Result<(), Error>
+        ensures value { (mode : SigningMode) (key context sig m : List ℕ)
+            → ⟦<MessageVerifier<'a, P> as Verifying>⟧.verifies self.entry mode key context sig m
+            → RefusedExactly result (hash_verify_error P.scheme mode key context m sig) }
+        ensures only { IfErr result (λ e. e ≡ Invalid) }
+        ensures bound { steps.new ≤ steps.old + slh_verify_bound P.scheme }
+        ensures rises { steps.old ≤ steps.new }
+    {
+        let MessageVerifier {
+            pk_seed,
+            pk_root,
+            sig,
+            digest,
+            tail,
+            ..
+        } = self;
+        forest_sizes::<P>();
+        let mut store = [0u8; MAX_DIGEST_LEN];
+        let hashed = &mut store[..P::M::USIZE];
+        P::end_digest(end_tail::<P>(digest, tail), hashed);
+        let root = root_for_digest::<P, L>(&pk_seed, hashed, &sig, steps);
+        if root.as_slice() != pk_root.as_slice() {
+            return Err(Error::Invalid);
+        }
+        Ok(())
+    }
+
+    /// As `finish_counted`, with no counter.
+    pub fn finish(self) -> Result<(), Error>
+        ensures value { (mode : SigningMode) (key context sig m : List ℕ)
+            → ⟦<MessageVerifier<'a, P> as Verifying>⟧.verifies self.entry mode key context sig m
+            → RefusedExactly result (hash_verify_error P.scheme mode key context m sig) }
+        ensures only { IfErr result (λ e. e ≡ Invalid) }
+    {
+        self.finish_on::<Brand>(Blank::new(1))
+    }
+
+    // The same, on a counter that is made here.
+    fn finish_on<L: Ledger>(self, blank: Blank) -> Result<(), Error>
+        requires fresh { IsFresh blank L.name L.parts }
+        ensures value { (mode : SigningMode) (key context sig m : List ℕ)
+            → ⟦<MessageVerifier<'a, P> as Verifying>⟧.verifies self.entry mode key context sig m
+            → RefusedExactly result (hash_verify_error P.scheme mode key context m sig) }
+        ensures only { IfErr result (λ e. e ≡ Invalid) }
+    {
+        self.finish_counted::<L>(&mut Steps::new(blank))
+    }
+}
