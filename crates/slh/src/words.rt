@@ -5,8 +5,8 @@ use clap::{Arg, ArgAction, Command, value_parser};
 use slh_sets::Set;
 use std::alloc::{AllocError, Global};
 
-/// What `--version` prints: the version, and the toolchain that proved the program.
-const VERSION: &str = "0.9.0 (rattle-kit-13f logic dac8208d650f15bf)";
+/// What `--version` prints: the version, and the logic of the toolchain that proved the program.
+const VERSION: &str = "0.10.0 (logic dac8208d650f15bf)";
 
 const HASHES: [&str; 2] = ["sha256", "sha512"];
 
