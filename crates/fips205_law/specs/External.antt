@@ -6,8 +6,8 @@ use Rattle.fips205_law.specs.Parameters.{Instance}
 use Rattle.fips205_law.specs.Slh.{SecretKey, PublicKey, KeyPair, pure_message}
 use Rattle.fips205_law.specs.Slh.{slh_keygen_internal, slh_sign_internal, slh_verify_internal}
 
--- Algorithm 21, slh_keygen: lines 1 to 3, which draw the seeds, are arguments; lines 4 to 6 are None,
--- and line 7 is the last case
+-- Algorithm 21, slh_keygen: lines 1 to 3, which draw the seeds, are arguments; lines 4 to 6 are
+-- None, and line 7 is the last case
 abbrev pub slh_keygen : Instance → Option (List ℕ) → Option (List ℕ) → Option (List ℕ)
     → Option KeyPair
 slh_keygen P None SKprf PKseed = None
@@ -21,7 +21,7 @@ slh_keygen P (Some SKseed) (Some SKprf) (Some PKseed) =
 abbrev pub slh_sign : Instance → List ℕ → List ℕ → SecretKey → Option (List ℕ) → Option (List ℕ)
 slh_sign P M ctx SK addrnd =
     if nat_lt 255 (length ctx) then None
-        else Some (slh_sign_internal P (pure_message ctx M) SK addrnd)
+    else Some (slh_sign_internal P (pure_message ctx M) SK addrnd)
 
 -- Algorithm 24, slh_verify: that it returns true, lines 1 to 5
 abbrev pub slh_verify : Instance → List ℕ → List ℕ → List ℕ → PublicKey → Type 0
@@ -49,7 +49,7 @@ abbrev pub hash_slh_sign : Instance → List ℕ → List ℕ → PreHash → Se
     → Option (List ℕ)
 hash_slh_sign P M ctx PH SK addrnd =
     if nat_lt 255 (length ctx) then None
-        else Some (slh_sign_internal P (hash_message PH ctx M) SK addrnd)
+    else Some (slh_sign_internal P (hash_message PH ctx M) SK addrnd)
 
 -- Algorithm 25, hash_slh_verify: that it returns true
 abbrev pub hash_slh_verify : Instance → List ℕ → List ℕ → List ℕ → PreHash → PublicKey → Type 0

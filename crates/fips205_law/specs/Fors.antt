@@ -71,14 +71,14 @@ fors_pkFromSig_turn P SIG indices PKseed i s =
     let node_0 = P.F PKseed ADRS_5 sk in
     let auth = slice_range SIG ((i * (P.a + 1) + 1) * P.n) ((i + 1) * (P.a + 1) * P.n) in
     let up = for_below P.a (fors_climb_turn P (slice_index indices i) auth PKseed)
-        (record { node = node_0; ADRS = ADRS_5 }) in
+    (record { node = node_0; ADRS = ADRS_5 }) in
     record { root = s.root ++ up.node; ADRS = up.ADRS }
 
 unfoldable pub fors_pkFromSig : Instance → List ℕ → List ℕ → List ℕ → List ℕ → List ℕ
 fors_pkFromSig P SIG md PKseed ADRS =
     let indices = base_2b md P.a P.k in
     let s = for_below P.k (fors_pkFromSig_turn P SIG indices PKseed)
-        (record { root = []; ADRS = ADRS }) in
+    (record { root = []; ADRS = ADRS }) in
     let forspkADRS = setKeyPairAddress (setTypeAndClear s.ADRS FORS_ROOTS)
-        (getKeyPairAddress s.ADRS) in
+    (getKeyPairAddress s.ADRS) in
     P.T PKseed forspkADRS s.root

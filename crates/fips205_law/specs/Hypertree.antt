@@ -23,7 +23,7 @@ ht_sign_turn P SKseed PKseed j s =
     let ADRS = setTreeAddress (setLayerAddress s.ADRS j) idx_tree in
     let SIG_tmp = xmss_sign P s.root SKseed idx_leaf PKseed ADRS in
     let root = if nat_lt j (P.d - 1) then xmss_pkFromSig P idx_leaf SIG_tmp s.root PKseed ADRS
-        else s.root in
+    else s.root in
     record {
       SIG = s.SIG ++ SIG_tmp;
       root = root;
@@ -60,7 +60,7 @@ ht_verify_turn P SIG PKseed j s =
     let idx_tree = s.idx_tree / 2 ^ P.hp in
     let ADRS = setTreeAddress (setLayerAddress s.ADRS j) idx_tree in
     let SIG_tmp = slice_range SIG (j * (P.hp + len_of P) * P.n)
-        ((j + 1) * (P.hp + len_of P) * P.n) in
+    ((j + 1) * (P.hp + len_of P) * P.n) in
     let node = xmss_pkFromSig P idx_leaf SIG_tmp s.node PKseed ADRS in
     record { node = node; idx_tree = idx_tree; idx_leaf = idx_leaf; ADRS = ADRS }
 

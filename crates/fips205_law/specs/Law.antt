@@ -16,7 +16,8 @@ use Rattle.slh_trees.specs.Signing.{signature_of}
 use Rattle.slh_core.specs.Bytes.{number_of, big_endian, part}
 use Rattle.slh_trees.specs.Xmss.{xmss_node as project_xmss_node, xmss_sig}
 use Rattle.fips205_law.specs.Addresses.{WOTS_HASH, FORS_TREE}
-use Rattle.fips205_law.specs.External.{slh_keygen, slh_sign, slh_verify, PreHash, sha256_oid, sha512_oid}
+use Rattle.fips205_law.specs.External.{slh_keygen, slh_sign, slh_verify, PreHash, sha256_oid}
+use Rattle.fips205_law.specs.External.{sha512_oid}
 use Rattle.fips205_law.specs.External.{hash_message, hash_slh_sign, hash_slh_verify}
 use Rattle.fips205_law.specs.Fors.{fors_skGen, fors_node, fors_sign, fors_pkFromSig}
 use Rattle.fips205_law.specs.Hypertree.{ht_sign, ht_verify_node}
@@ -296,10 +297,10 @@ pub record SlhVerifyAgrees : Type 0 where
   pub only : (Z : Scheme) (s root ctx M SIG : List ℕ) → IsRow Z
       → slh_verify (instance_of Z) M SIG ctx (public_key_of s root)
       → (length ctx ≤ 255) × ((length SIG ≡ signature_size Z)
-          × (checked_root Z s root (frame ctx M) SIG ≡ root))
+      × (checked_root Z s root (frame ctx M) SIG ≡ root))
   pub always : (Z : Scheme) (s root ctx M SIG : List ℕ) → IsRow Z
       → (length ctx ≤ 255) × ((length SIG ≡ signature_size Z)
-          × (checked_root Z s root (frame ctx M) SIG ≡ root))
+      × (checked_root Z s root (frame ctx M) SIG ≡ root))
       → slh_verify (instance_of Z) M SIG ctx (public_key_of s root)
 
 -- What algorithms 23 and 25 sign and check: the right sides are those of `mode_frame` of `slh_dsa`
@@ -326,10 +327,10 @@ pub record HashSlhVerifyAgrees : Type 0 where
   pub only : (Z : Scheme) (s root ctx M SIG : List ℕ) (PH : PreHash) → IsRow Z
       → hash_slh_verify (instance_of Z) M SIG ctx PH (public_key_of s root)
       → (length ctx ≤ 255) × ((length SIG ≡ signature_size Z)
-          × (checked_root Z s root ((1 ∷ length ctx ∷ []) ++ ctx ++ (PH.OID ++ PH.hash M)) SIG
-          ≡ root))
+      × (checked_root Z s root ((1 ∷ length ctx ∷ []) ++ ctx ++ (PH.OID ++ PH.hash M)) SIG
+      ≡ root))
   pub always : (Z : Scheme) (s root ctx M SIG : List ℕ) (PH : PreHash) → IsRow Z
       → (length ctx ≤ 255) × ((length SIG ≡ signature_size Z)
-          × (checked_root Z s root ((1 ∷ length ctx ∷ []) ++ ctx ++ (PH.OID ++ PH.hash M)) SIG
-          ≡ root))
+      × (checked_root Z s root ((1 ∷ length ctx ∷ []) ++ ctx ++ (PH.OID ++ PH.hash M)) SIG
+      ≡ root))
       → hash_slh_verify (instance_of Z) M SIG ctx PH (public_key_of s root)

@@ -59,7 +59,7 @@ split P digest =
 abbrev pub fors_address : Split → List ℕ
 fors_address parts =
     setKeyPairAddress (setTypeAndClear
-        (setTreeAddress (toByte 0 32) parts.idx_tree) FORS_TREE) parts.idx_leaf
+    (setTreeAddress (toByte 0 32) parts.idx_tree) FORS_TREE) parts.idx_leaf
 
 -- Algorithm 19, slh_sign_internal: opt_rand is line 2 (the public seed for the deterministic
 -- variant), R line 3, digest line 5, SIG_FORS line 14, PK_FORS line 16, SIG_HT line 17, and the

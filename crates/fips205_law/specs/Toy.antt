@@ -1,6 +1,6 @@
 -- The values of the toy suite's worked signature that come before any chain, from the standard's
--- algorithms: secret seed 5, PRF key 7, public seed 3, the message 0x48 with an empty context. From the
--- chains on the standard's values are others: of n at 1 it has four chains, and the suite has five.
+-- algorithms: secret seed 5, PRF key 7, public seed 3, the message 0x48 with an empty context. From
+-- the chains on the standard's values are others: of n at 1 it has four chains, and the suite five.
 use Rattle.std.specs.Prelude.{◌≡◌, ℕ, List, [], ◌∷◌}
 use Rattle.slh_core.specs.Parameters.{scheme_of}
 use Rattle.slh_trees.specs.ToySuite.{toy}

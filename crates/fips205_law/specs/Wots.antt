@@ -42,9 +42,9 @@ unfoldable pub wots_pkGen : Instance → List ℕ → List ℕ → List ℕ → 
 wots_pkGen P SKseed PKseed ADRS =
     let skADRS = setKeyPairAddress (setTypeAndClear ADRS WOTS_PRF) (getKeyPairAddress ADRS) in
     let s = for_below (len_of P) (wots_pkGen_turn P SKseed PKseed)
-        (record { skADRS = skADRS; ADRS = ADRS; tmp = [] }) in
+    (record { skADRS = skADRS; ADRS = ADRS; tmp = [] }) in
     let wotspkADRS = setKeyPairAddress (setTypeAndClear s.ADRS WOTS_PK)
-        (getKeyPairAddress s.ADRS) in
+    (getKeyPairAddress s.ADRS) in
     P.T PKseed wotspkADRS s.tmp
 
 -- Algorithms 7 and 8, lines 1 to 7: msg at first is line 2, csum lines 1 and 3 to 5, shifted line
@@ -73,7 +73,7 @@ wots_sign P M SKseed PKseed ADRS =
     let msg = wots_msg P M in
     let skADRS = setKeyPairAddress (setTypeAndClear ADRS WOTS_PRF) (getKeyPairAddress ADRS) in
     (for_below (len_of P) (wots_sign_turn P msg SKseed PKseed)
-        (record { skADRS = skADRS; ADRS = ADRS; tmp = [] })).tmp
+    (record { skADRS = skADRS; ADRS = ADRS; tmp = [] })).tmp
 
 -- Algorithm 8, wots_pkFromSig: msg is lines 1 to 7, a turn lines 9 and 10, wotspkADRS lines 12 to
 -- 14, the public key line 15
@@ -88,7 +88,7 @@ unfoldable pub wots_pkFromSig : Instance → List ℕ → List ℕ → List ℕ 
 wots_pkFromSig P sig M PKseed ADRS =
     let msg = wots_msg P M in
     let s = for_below (len_of P) (wots_pkFromSig_turn P sig msg PKseed)
-        (record { tmp = []; ADRS = ADRS }) in
+    (record { tmp = []; ADRS = ADRS }) in
     let wotspkADRS = setKeyPairAddress (setTypeAndClear s.ADRS WOTS_PK)
-        (getKeyPairAddress s.ADRS) in
+    (getKeyPairAddress s.ADRS) in
     P.T PKseed wotspkADRS s.tmp

@@ -57,4 +57,4 @@ xmss_pkFromSig P idx SIG M PKseed ADRS =
     let node_0 = wots_pkFromSig P sig M PKseed ADRS_2 in
     let ADRS_7 = setTreeIndex (setTypeAndClear ADRS_2 TREE) idx in
     (for_below P.hp (xmss_pkFromSig_turn P idx AUTH PKseed)
-        (record { node = node_0; ADRS = ADRS_7 })).node
+    (record { node = node_0; ADRS = ADRS_7 })).node

@@ -62,9 +62,9 @@ short_other Z ctx M None short is =
 short_other Z ctx M (Some bytes) short is =
     absurd (elim (length bytes == Z.n) as (λ v. (length bytes == Z.n) ≡ v → ⊥) [
       | true ↦ λ fits. elim (nat_lt (2 ^ 60) (length M)) as (λ v. nat_lt (2 ^ 60) (length M) ≡ v → ⊥) [
-          | true ↦ λ long. cc (rw (le-ltb 255 (length ctx) short, fits, long) at is)
-          | false ↦ λ few. cc (rw (le-ltb 255 (length ctx) short, fits, few) at is)
-        ] refl
+        | true ↦ λ long. cc (rw (le-ltb 255 (length ctx) short, fits, long) at is)
+        | false ↦ λ few. cc (rw (le-ltb 255 (length ctx) short, fits, few) at is)
+      ] refl
       | false ↦ λ other. cc (rw (le-ltb 255 (length ctx) short, other) at is)
     ] refl)
 

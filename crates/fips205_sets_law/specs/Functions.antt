@@ -15,14 +15,14 @@ Trunc l x = take l x
 abbrev pub compressed : List ℕ → List ℕ
 compressed ADRS =
     slice_range ADRS 3 4 ++ slice_range ADRS 8 16 ++ slice_range ADRS 19 20
-        ++ slice_range ADRS 20 32
+    ++ slice_range ADRS 20 32
 
--- MGF1 (RFC 8017, appendix B.2.1) with a hash of hash_len bytes: the loop of step 3 over a counter of
--- four bytes, and the first bytes of what it made, step 4
+-- MGF1 (RFC 8017, appendix B.2.1) with a hash of hash_len bytes: the loop of step 3 over a counter
+-- of four bytes, and the first bytes of what it made, step 4
 unfoldable pub mgf1 : (List ℕ → List ℕ) → ℕ → List ℕ → ℕ → List ℕ
 mgf1 hash hash_len seed mask_len =
     take mask_len (for_below (ceil_div mask_len hash_len)
-        (λ counter T. T ++ hash (seed ++ toByte counter 4)) [])
+    (λ counter T. T ++ hash (seed ++ toByte counter 4)) [])
 
 -- F, H, T and PRF over either hash, for values of n bytes: the public seed stands in a block of its
 -- own

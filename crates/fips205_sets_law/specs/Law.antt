@@ -91,8 +91,8 @@ pub record SetAgrees (Z : Scheme) : Type 0 where
   pub drawn : (sk prf s : List ℕ)
       → IfSome (slh_keygen (instance_of Z) (Some sk) (Some prf) (Some s))
       (λ pair. secret_key_bytes pair.SK ≡ signing_key_bytes Z sk prf s)
-  -- algorithms 22 and 23: the signature of the mode's frame, and none exactly where the calls refuse
-  -- the context
+  -- algorithms 22 and 23: the signature of the mode's frame, and none exactly where the calls
+  -- refuse the context
   pub signed : (mode : Mode) (key ctx M : List ℕ) (addrnd : Option (List ℕ)) → length ctx ≤ 255
       → signed_in mode (instance_of Z) M ctx (secret_key_of Z.n key) addrnd
       ≡ Some (signature_of Z key addrnd (mode_frame mode ctx M))

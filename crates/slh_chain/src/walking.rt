@@ -60,7 +60,8 @@ impl<P: ParameterSet> End<P> {
         if link.depth >= self.budget {
             return Err(ChainError::Budget(self.links));
         }
-        if !self.key.is_valid(Mode::Pure, CONTEXT, link.body, link.signature) {
+        let key = &self.key;
+        if !key.is_valid(Mode::Pure, CONTEXT, link.body, link.signature) {
             return Err(ChainError::Invalid(self.links));
         }
         self.key = VerifyingKey::try_from(link.subject).unwrap();

@@ -49,10 +49,7 @@ pub(crate) fn check_signature<P: ParameterSet>(len: usize) -> Result<(), Error>
 
 /// The error for a randomizer that is given and doesn't have n bytes. Each call that signs has an
 /// error of its own for it.
-pub fn check_opt_rand<P: ParameterSet, E: Drop>(
-    opt_rand: Option<&[u8]>,
-    error: E,
-) -> Result<(), E>
+pub fn check_opt_rand<P: ParameterSet, E: Drop>(opt_rand: Option<&[u8]>, error: E) -> Result<(), E>
     ensures refusal { let opt_rand = option_copied opt_rand.entry in
         RefusedExactly result (randomizer_refusal error P.N.USIZE opt_rand) }
     ensures fits { OnOk result

@@ -199,13 +199,7 @@ impl<P: ParameterSet> VerifyingKey<P> {
     /// As `hash_verify_counted`, without a counter. `Length`: `sig` doesn't have the bytes of a
     /// signature; `ContextTooLong`, `MessageTooLong`; `Invalid`: it doesn't lead to the key's root.
     /// Takes no memory.
-    pub fn verify_bytes(
-        &self,
-        mode: Mode,
-        ctx: &[u8],
-        msg: &[u8],
-        sig: &[u8],
-    ) -> Result<(), Error>
+    pub fn verify_bytes(&self, mode: Mode, ctx: &[u8], msg: &[u8], sig: &[u8]) -> Result<(), Error>
         ensures { RefusedExactly result
             (hash_verify_error P.scheme mode self.now ctx.now msg.now sig.now) }
     {

@@ -145,7 +145,8 @@ fn sign_one<P: ParameterSet>(
     let msg = &mut store[..32 + 61 * i as usize % 97];
     write_message(prk, i, msg);
     key.sign_checked_into(Mode::Pure, b"", msg, None, signature);
-    key.verifying_key().is_valid(Mode::Pure, b"", msg, signature)
+    let public = key.verifying_key();
+    public.is_valid(Mode::Pure, b"", msg, signature)
 }
 
 // No signature has more bytes.
