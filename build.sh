@@ -88,7 +88,7 @@ can_write() {
 # keeps that as FILE. The progress goes to standard error. One build at a time: a second one waits.
 build() {
     command -v rt >/dev/null || {
-        say "$4 isn't built from the sources as they are, and there is no rt to build it (README.md)"
+        say "$4 isn't built from the sources as they are, and there is no rt to build it (docs/BUILD.md)"
         return 1
     }
     for folder in "$top" "$top/crates/$1"; do
@@ -103,7 +103,7 @@ build() {
         of=$(sources_sum "$1") || exit 1
         # who waited may find it built
         is_built "$4" "$of" && exit 0
-        say "proving and building $1 for $cpu, which takes long the first time (README.md)"
+        say "proving and building $1 for $cpu, which takes long the first time (docs/BUILD.md)"
         cd "$top/crates/$1" || exit 1
         # without words the command for people ends with status 2
         if [ "$1" = slh ]; then
