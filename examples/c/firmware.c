@@ -5,7 +5,7 @@
  * 0 where the image is accepted and the same image with a bit changed is not.
  */
 #include "image.h"
-#include "slh_dsa.h"
+#include "slh_dsa_inline.h"
 
 static const uint8_t CONTEXT[] = "example.org firmware v1";
 #define CONTEXT_BYTES (sizeof CONTEXT - 1)
@@ -48,19 +48,19 @@ void *memset(void *at, int byte, size_t count)
     return at;
 }
 
-static uint32_t verify(void)
+static slh_dsa_verdict verdict(void)
 {
-    return slh_dsa_sha2_verify(SLH_DSA_SHA2_128F, SLH_DSA_PURE, public_key, sizeof public_key,
-                               image, sizeof image, CONTEXT, CONTEXT_BYTES, signature,
-                               sizeof signature);
+    return slh_dsa_sha2_verdict(SLH_DSA_SHA2_128F, SLH_DSA_PURE, public_key, sizeof public_key,
+                                image, sizeof image, CONTEXT, CONTEXT_BYTES, signature,
+                                sizeof signature);
 }
 
 static int boots(void)
 {
-    if (verify() != SLH_DSA_OK)
+    if (!slh_dsa_is_accepted(verdict()))
         return 0;
     image[0] ^= 1;
-    return verify() == SLH_DSA_INVALID;
+    return verdict() == SLH_DSA_VERDICT_REFUSED;
 }
 
 static void leave(int status)

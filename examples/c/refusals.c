@@ -23,12 +23,12 @@ static void want(int line, size_t got, size_t wanted)
 
 /* One set with its key, a message and a context, each in memory of exactly its size. */
 struct bench {
-    uint32_t set;
+    slh_dsa_set set;
     size_t n, sig_bytes;
     uint8_t *seeds, *key, *public_key, *sig, *rand, *msg, *ctx;
 };
 
-enum { MSG = 100, CTX = 256 };
+enum { MSG = 100, CTX = SLH_DSA_MAX_CONTEXT_BYTES };
 
 static uint8_t *filled(size_t bytes)
 {
@@ -47,7 +47,7 @@ static int is_filled(const uint8_t *at, size_t bytes)
     return bytes == 0;
 }
 
-static struct bench make_bench(uint32_t set)
+static struct bench make_bench(slh_dsa_set set)
 {
     struct bench b = {.set = set, .n = slh_dsa_sha2_n(set)};
 
@@ -58,7 +58,7 @@ static struct bench make_bench(uint32_t set)
     b.sig = filled(b.sig_bytes);
     b.rand = filled(SLH_DSA_RANDOMIZER_BYTES(b.n));
     b.msg = filled(MSG);
-    b.ctx = filled(CTX);
+    b.ctx = filled(CTX + 1);
     return b;
 }
 
@@ -70,36 +70,39 @@ static void free_bench(struct bench *b)
         free(all[i]);
 }
 
-static uint32_t keygen(const struct bench *b, uint32_t set, size_t less_seeds, size_t less_key)
+static slh_dsa_status keygen(const struct bench *b, slh_dsa_set set, size_t less_seeds,
+                             size_t less_key)
 {
     return slh_dsa_sha2_keygen(set, b->seeds, 3 * b->n - less_seeds, b->key, 4 * b->n - less_key,
                                b->public_key, 2 * b->n);
 }
 
-static uint32_t sign(const struct bench *b, uint32_t mode, size_t msg, size_t ctx, size_t rand)
+static slh_dsa_status sign(const struct bench *b, slh_dsa_mode mode, size_t msg, size_t ctx,
+                           size_t rand)
 {
     return slh_dsa_sha2_sign(b->set, mode, b->key, 4 * b->n, b->msg, msg, b->ctx, ctx, b->rand,
                              rand, b->sig, b->sig_bytes);
 }
 
-static uint32_t verify(const struct bench *b, uint32_t mode, size_t msg, size_t ctx, size_t sig)
+static slh_dsa_status verify(const struct bench *b, slh_dsa_mode mode, size_t msg, size_t ctx,
+                             size_t sig)
 {
     return slh_dsa_sha2_verify(b->set, mode, b->public_key, 2 * b->n, b->msg, msg, b->ctx, ctx,
                                b->sig, sig);
 }
 
-static uint32_t audit(const struct bench *b, uint32_t mode, slh_dsa_evidence *evidence)
+static slh_dsa_status audit(const struct bench *b, slh_dsa_mode mode, slh_dsa_evidence *evidence)
 {
-    return slh_dsa_sha2_audit(b->set, mode, b->key, 4 * b->n, b->msg, MSG, b->ctx, 255, b->sig,
+    return slh_dsa_sha2_audit(b->set, mode, b->key, 4 * b->n, b->msg, MSG, b->ctx, CTX, b->sig,
                               b->sig_bytes, evidence);
 }
 
-static uint32_t check(const struct bench *b, uint32_t kind, uint32_t at)
+static slh_dsa_status check(const struct bench *b, uint32_t kind, uint32_t at)
 {
     slh_dsa_evidence evidence = {kind, at, at, at};
 
     return slh_dsa_sha2_check_evidence(b->set, SLH_DSA_PURE, b->key, 4 * b->n, b->msg, MSG, b->ctx,
-                                       255, b->sig, b->sig_bytes, &evidence);
+                                       CTX, b->sig, b->sig_bytes, &evidence);
 }
 
 static void keys(const struct bench *b)
@@ -119,34 +122,34 @@ static void refused(const struct bench *b)
 {
     const size_t too_long = ((size_t)1 << 60) + 1;
 
-    WANT(sign(b, 3, MSG, 256, b->n), SLH_DSA_UNKNOWN_MODE);
-    WANT(sign(b, SLH_DSA_PURE, too_long, 256, b->n - 1), SLH_DSA_CONTEXT_TOO_LONG);
-    WANT(sign(b, SLH_DSA_PURE, too_long, 255, b->n - 1), SLH_DSA_RANDOMIZER_LENGTH);
-    WANT(sign(b, SLH_DSA_PURE, too_long, 255, 0), SLH_DSA_RANDOMIZER_LENGTH);
-    WANT(sign(b, SLH_DSA_PURE, too_long, 255, b->n), SLH_DSA_MESSAGE_TOO_LONG);
+    WANT(sign(b, 3, MSG, CTX + 1, b->n), SLH_DSA_UNKNOWN_MODE);
+    WANT(sign(b, SLH_DSA_PURE, too_long, CTX + 1, b->n - 1), SLH_DSA_CONTEXT_TOO_LONG);
+    WANT(sign(b, SLH_DSA_PURE, too_long, CTX, b->n - 1), SLH_DSA_RANDOMIZER_LENGTH);
+    WANT(sign(b, SLH_DSA_PURE, too_long, CTX, 0), SLH_DSA_RANDOMIZER_LENGTH);
+    WANT(sign(b, SLH_DSA_PURE, too_long, CTX, b->n), SLH_DSA_MESSAGE_TOO_LONG);
     WANT(is_filled(b->sig, b->sig_bytes), 1);
-    WANT(verify(b, 3, MSG, 256, 0), SLH_DSA_UNKNOWN_MODE);
-    WANT(verify(b, SLH_DSA_PURE, too_long, 256, b->sig_bytes - 1), SLH_DSA_LENGTH);
-    WANT(verify(b, SLH_DSA_PURE, too_long, 256, b->sig_bytes), SLH_DSA_CONTEXT_TOO_LONG);
-    WANT(verify(b, SLH_DSA_PURE, too_long, 255, b->sig_bytes), SLH_DSA_MESSAGE_TOO_LONG);
+    WANT(verify(b, 3, MSG, CTX + 1, 0), SLH_DSA_UNKNOWN_MODE);
+    WANT(verify(b, SLH_DSA_PURE, too_long, CTX + 1, b->sig_bytes - 1), SLH_DSA_LENGTH);
+    WANT(verify(b, SLH_DSA_PURE, too_long, CTX + 1, b->sig_bytes), SLH_DSA_CONTEXT_TOO_LONG);
+    WANT(verify(b, SLH_DSA_PURE, too_long, CTX, b->sig_bytes), SLH_DSA_MESSAGE_TOO_LONG);
 }
 
-static void signed_in(const struct bench *b, uint32_t mode)
+static void signed_in(const struct bench *b, slh_dsa_mode mode)
 {
     slh_dsa_evidence evidence = {77, 77, 77, 77};
     const size_t sig = b->sig_bytes;
 
     WANT(sign(b, mode, 0, 0, b->n), SLH_DSA_OK);
     WANT(verify(b, mode, 0, 0, sig), SLH_DSA_OK);
-    WANT(sign(b, mode, MSG, 255, b->n), SLH_DSA_OK);
-    WANT(verify(b, mode, MSG, 255, sig), SLH_DSA_OK);
-    WANT(verify(b, (mode + 1) % 3, MSG, 255, sig), SLH_DSA_INVALID);
-    WANT(verify(b, mode, MSG - 1, 255, sig), SLH_DSA_INVALID);
-    WANT(verify(b, mode, MSG, 254, sig), SLH_DSA_INVALID);
+    WANT(sign(b, mode, MSG, CTX, b->n), SLH_DSA_OK);
+    WANT(verify(b, mode, MSG, CTX, sig), SLH_DSA_OK);
+    WANT(verify(b, (mode + 1) % 3, MSG, CTX, sig), SLH_DSA_INVALID);
+    WANT(verify(b, mode, MSG - 1, CTX, sig), SLH_DSA_INVALID);
+    WANT(verify(b, mode, MSG, CTX - 1, sig), SLH_DSA_INVALID);
     WANT(audit(b, mode, &evidence), SLH_DSA_OK);
     for (size_t at = 0; at < sig; at += sig / 7) {
         b->sig[at] ^= 1;
-        WANT(verify(b, mode, MSG, 255, sig), SLH_DSA_INVALID);
+        WANT(verify(b, mode, MSG, CTX, sig), SLH_DSA_INVALID);
         WANT(audit(b, mode, &evidence), SLH_DSA_INVALID);
         b->sig[at] ^= 1;
     }
@@ -159,9 +162,8 @@ static void signed_in(const struct bench *b, uint32_t mode)
 static void evidences(const struct bench *b)
 {
     for (uint32_t kind = 0; kind < 9; kind++) {
-        uint32_t wanted = kind >= SLH_DSA_FORS_NODE && kind <= SLH_DSA_EARLY
-                              ? SLH_DSA_NOT_SHOWN
-                              : SLH_DSA_UNKNOWN_EVIDENCE;
+        int is_known = kind >= SLH_DSA_EVIDENCE_FORS_NODE && kind <= SLH_DSA_EVIDENCE_EARLY;
+        slh_dsa_status wanted = is_known ? SLH_DSA_NOT_SHOWN : SLH_DSA_UNKNOWN_EVIDENCE;
 
         WANT(check(b, kind, 1), wanted);
         WANT(check(b, kind, UINT32_MAX), wanted);
@@ -170,10 +172,16 @@ static void evidences(const struct bench *b)
 
 #define WANT_SIZES(name) \
     do { \
-        WANT(slh_dsa_sha2_n(SLH_DSA_SHA2_##name), SLH_DSA_SHA2_##name##_N); \
-        WANT(slh_dsa_sha2_signature_bytes(SLH_DSA_SHA2_##name), \
-             SLH_DSA_SHA2_##name##_SIGNATURE_BYTES); \
-        WANT(SLH_DSA_SHA2_##name##_N <= SLH_DSA_MAX_RANDOMIZER_BYTES, 1); \
+        const slh_dsa_set set = SLH_DSA_SHA2_##name; \
+        const size_t n = slh_dsa_sha2_n(set); \
+\
+        WANT(SLH_DSA_SHA2_##name##_N, n); \
+        WANT(SLH_DSA_SHA2_##name##_SEEDS_BYTES, SLH_DSA_SEEDS_BYTES(n)); \
+        WANT(SLH_DSA_SHA2_##name##_SIGNING_KEY_BYTES, SLH_DSA_SIGNING_KEY_BYTES(n)); \
+        WANT(SLH_DSA_SHA2_##name##_VERIFYING_KEY_BYTES, SLH_DSA_VERIFYING_KEY_BYTES(n)); \
+        WANT(SLH_DSA_SHA2_##name##_RANDOMIZER_BYTES, SLH_DSA_RANDOMIZER_BYTES(n)); \
+        WANT(SLH_DSA_SHA2_##name##_SIGNATURE_BYTES, slh_dsa_sha2_signature_bytes(set)); \
+        WANT(n <= SLH_DSA_MAX_RANDOMIZER_BYTES, 1); \
         WANT(SLH_DSA_SHA2_##name##_SIGNATURE_BYTES <= SLH_DSA_MAX_SIGNATURE_BYTES, 1); \
     } while (0)
 
@@ -187,23 +195,39 @@ static void sizes(void)
     WANT_SIZES(256F);
     WANT(slh_dsa_sha2_n(0) == 0 && slh_dsa_sha2_n(7) == 0, 1);
     WANT(slh_dsa_sha2_signature_bytes(0) == 0 && slh_dsa_sha2_signature_bytes(7) == 0, 1);
+    WANT(SLH_DSA_MAX_RANDOMIZER_BYTES, slh_dsa_sha2_n(SLH_DSA_SHA2_256F));
+    WANT(SLH_DSA_MAX_SIGNATURE_BYTES, slh_dsa_sha2_signature_bytes(SLH_DSA_SHA2_256F));
     WANT(SLH_DSA_SEEDS_BYTES(SLH_DSA_MAX_RANDOMIZER_BYTES), SLH_DSA_MAX_SEEDS_BYTES);
     WANT(SLH_DSA_SIGNING_KEY_BYTES(SLH_DSA_MAX_RANDOMIZER_BYTES), SLH_DSA_MAX_SIGNING_KEY_BYTES);
     WANT(SLH_DSA_VERIFYING_KEY_BYTES(SLH_DSA_MAX_RANDOMIZER_BYTES),
          SLH_DSA_MAX_VERIFYING_KEY_BYTES);
 }
 
+/* The names that had no prefix are those of today. */
+static void old_names(void)
+{
+    WANT(SLH_DSA_SHA256, SLH_DSA_PREHASH_SHA256);
+    WANT(SLH_DSA_SHA512, SLH_DSA_PREHASH_SHA512);
+    WANT(SLH_DSA_FORS_NODE, SLH_DSA_EVIDENCE_FORS_NODE);
+    WANT(SLH_DSA_FORS_ROOTS, SLH_DSA_EVIDENCE_FORS_ROOTS);
+    WANT(SLH_DSA_CHAIN_STEP, SLH_DSA_EVIDENCE_CHAIN_STEP);
+    WANT(SLH_DSA_LEAF, SLH_DSA_EVIDENCE_LEAF);
+    WANT(SLH_DSA_TREE_NODE, SLH_DSA_EVIDENCE_TREE_NODE);
+    WANT(SLH_DSA_EARLY, SLH_DSA_EVIDENCE_EARLY);
+}
+
 int main(void)
 {
-    const uint32_t sets[] = {SLH_DSA_SHA2_128F, SLH_DSA_SHA2_192F, SLH_DSA_SHA2_256F};
+    const slh_dsa_set sets[] = {SLH_DSA_SHA2_128F, SLH_DSA_SHA2_192F, SLH_DSA_SHA2_256F};
 
     sizes();
+    old_names();
     for (size_t i = 0; i < sizeof sets / sizeof sets[0]; i++) {
         struct bench b = make_bench(sets[i]);
 
         keys(&b);
         refused(&b);
-        for (uint32_t mode = SLH_DSA_PURE; mode <= SLH_DSA_SHA512; mode++)
+        for (slh_dsa_mode mode = SLH_DSA_PURE; mode <= SLH_DSA_PREHASH_SHA512; mode++)
             signed_in(&b, mode);
         evidences(&b);
         free_bench(&b);

@@ -16,12 +16,13 @@ int main(int argc, char **argv)
     uint8_t seeds[SLH_DSA_MAX_SEEDS_BYTES], key[SLH_DSA_MAX_SIGNING_KEY_BYTES];
     uint8_t public_key[SLH_DSA_MAX_VERIFYING_KEY_BYTES];
     const uint8_t message[] = "hello", context[] = "example.org";
-    uint32_t set, status;
+    slh_dsa_set set;
+    slh_dsa_status status;
     size_t n;
 
     if (argc != 3)
         return 2;
-    set = (uint32_t)strtoul(argv[1], NULL, 10);
+    set = (slh_dsa_set)strtoul(argv[1], NULL, 10);
     n = slh_dsa_sha2_n(set);
     if (n == 0)
         return 2;

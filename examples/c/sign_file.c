@@ -11,7 +11,7 @@
 #include <sys/random.h>
 
 #include "files.h"
-#include "slh_dsa.h"
+#include "slh_dsa_inline.h"
 
 #define SET SLH_DSA_SHA2_128F
 #define N SLH_DSA_SHA2_128F_N
@@ -46,7 +46,7 @@ static int sign_mapped(struct mapped key, struct mapped message, const char *sig
 {
     static uint8_t signature[SLH_DSA_SHA2_128F_SIGNATURE_BYTES];
     uint8_t randomizer[SLH_DSA_RANDOMIZER_BYTES(N)];
-    uint32_t status;
+    slh_dsa_status status;
 
     if (!random_bytes(randomizer, sizeof randomizer))
         return 2;
@@ -54,7 +54,7 @@ static int sign_mapped(struct mapped key, struct mapped message, const char *sig
                                CONTEXT, CONTEXT_BYTES, randomizer, sizeof randomizer, signature,
                                sizeof signature);
     if (status != SLH_DSA_OK) {
-        fprintf(stderr, "sign_file: not signed, status %u\n", (unsigned)status);
+        fprintf(stderr, "sign_file: not signed: %s\n", slh_dsa_status_text(status));
         return 2;
     }
     return write_file(signature_path, signature, sizeof signature, 0644) ? 0 : 2;

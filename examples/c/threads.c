@@ -16,13 +16,13 @@ static uint8_t key[SLH_DSA_SIGNING_KEY_BYTES(N)], public_key[SLH_DSA_VERIFYING_K
 static uint8_t signature[SLH_DSA_SHA2_128F_SIGNATURE_BYTES];
 static const uint8_t message[] = "one message for all threads", context[] = "threads";
 
-static uint32_t verify(const uint8_t *of)
+static slh_dsa_status verify(const uint8_t *of)
 {
     return slh_dsa_sha2_verify(SET, SLH_DSA_PURE, public_key, sizeof public_key, message,
                                sizeof message, context, sizeof context, of, sizeof signature);
 }
 
-static uint32_t sign(uint8_t *to)
+static slh_dsa_status sign(uint8_t *to)
 {
     return slh_dsa_sha2_sign_deterministic(SET, SLH_DSA_PURE, key, sizeof key, message,
                                            sizeof message, context, sizeof context, to,

@@ -8,14 +8,14 @@
  */
 #define _DEFAULT_SOURCE
 #include "files.h"
-#include "slh_dsa.h"
+#include "slh_dsa_inline.h"
 
 static const uint8_t CONTEXT[] = "example.org firmware v1";
 #define CONTEXT_BYTES (sizeof CONTEXT - 1)
 
 static int verify(struct mapped public_key, struct mapped file, struct mapped signature)
 {
-    uint32_t status = slh_dsa_sha2_verify(SLH_DSA_SHA2_128F, SLH_DSA_PURE, public_key.bytes,
+    slh_dsa_status status = slh_dsa_sha2_verify(SLH_DSA_SHA2_128F, SLH_DSA_PURE, public_key.bytes,
                                           public_key.len, file.bytes, file.len, CONTEXT,
                                           CONTEXT_BYTES, signature.bytes, signature.len);
 
@@ -27,7 +27,7 @@ static int verify(struct mapped public_key, struct mapped file, struct mapped si
         puts("not accepted");
         return 1;
     }
-    fprintf(stderr, "verify_file: refused, status %u\n", (unsigned)status);
+    fprintf(stderr, "verify_file: refused: %s\n", slh_dsa_status_text(status));
     return 2;
 }
 

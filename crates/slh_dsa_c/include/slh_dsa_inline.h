@@ -1,0 +1,269 @@
+/*
+ * Inline functions over the calls of slh_dsa.h, WITHOUT A PROOF: forms that take NULL, a verdict
+ * for boot loaders, a status as text, a set by its name. They need no object file and no C library,
+ * and what isn't called takes no room.
+ */
+#ifndef SLH_DSA_INLINE_H
+#define SLH_DSA_INLINE_H
+
+#include "slh_dsa.h"
+
+#if defined(__cplusplus) || (defined(__STDC_VERSION__) && __STDC_VERSION__ >= 199901L)
+#define SLH_DSA_INLINE static inline
+#elif defined(__GNUC__)
+#define SLH_DSA_INLINE static __inline__
+#elif defined(_MSC_VER)
+#define SLH_DSA_INLINE static __inline
+#else
+#error "slh_dsa_inline.h wants a compiler with inline functions"
+#endif
+
+/* FORMS THAT TAKE NULL: the calls of slh_dsa.h, where a buffer of the length 0 may also be NULL.
+ * NULL with another length is answered by LENGTH, before all other causes. Evidence isn't NULL. */
+
+/* Whether bytes are told of and none can be there. */
+SLH_DSA_INLINE int slh_dsa_is_missing(const uint8_t *at, size_t bytes)
+{
+    return at == NULL && bytes != 0;
+}
+
+/* An address that isn't NULL. */
+SLH_DSA_INLINE const uint8_t *slh_dsa_read_at(const uint8_t *at, const uint8_t *nothing)
+{
+    return at != NULL ? at : nothing;
+}
+
+SLH_DSA_INLINE uint8_t *slh_dsa_write_at(uint8_t *at, uint8_t *nothing)
+{
+    return at != NULL ? at : nothing;
+}
+
+SLH_DSA_MUST_CHECK SLH_DSA_INLINE slh_dsa_status slh_dsa_sha2_keygen_nullable(
+    slh_dsa_set set,
+    const uint8_t *seeds, size_t seeds_bytes,
+    uint8_t *signing_key, size_t signing_key_bytes,
+    uint8_t *verifying_key, size_t verifying_key_bytes)
+{
+    uint8_t nothing = 0;
+
+    if (slh_dsa_is_missing(seeds, seeds_bytes) ||
+        slh_dsa_is_missing(signing_key, signing_key_bytes) ||
+        slh_dsa_is_missing(verifying_key, verifying_key_bytes))
+        return SLH_DSA_LENGTH;
+    return slh_dsa_sha2_keygen(
+        set,
+        slh_dsa_read_at(seeds, &nothing), seeds_bytes,
+        slh_dsa_write_at(signing_key, &nothing), signing_key_bytes,
+        slh_dsa_write_at(verifying_key, &nothing), verifying_key_bytes);
+}
+
+SLH_DSA_MUST_CHECK SLH_DSA_INLINE slh_dsa_status slh_dsa_sha2_sign_nullable(
+    slh_dsa_set set, slh_dsa_mode mode,
+    const uint8_t *signing_key, size_t signing_key_bytes,
+    const uint8_t *message, size_t message_bytes,
+    const uint8_t *context, size_t context_bytes,
+    const uint8_t *randomizer, size_t randomizer_bytes,
+    uint8_t *signature, size_t signature_bytes)
+{
+    uint8_t nothing = 0;
+
+    if (slh_dsa_is_missing(signing_key, signing_key_bytes) ||
+        slh_dsa_is_missing(message, message_bytes) ||
+        slh_dsa_is_missing(context, context_bytes) ||
+        slh_dsa_is_missing(randomizer, randomizer_bytes) ||
+        slh_dsa_is_missing(signature, signature_bytes))
+        return SLH_DSA_LENGTH;
+    return slh_dsa_sha2_sign(
+        set, mode,
+        slh_dsa_read_at(signing_key, &nothing), signing_key_bytes,
+        slh_dsa_read_at(message, &nothing), message_bytes,
+        slh_dsa_read_at(context, &nothing), context_bytes,
+        slh_dsa_read_at(randomizer, &nothing), randomizer_bytes,
+        slh_dsa_write_at(signature, &nothing), signature_bytes);
+}
+
+SLH_DSA_MUST_CHECK SLH_DSA_INLINE slh_dsa_status slh_dsa_sha2_sign_deterministic_nullable(
+    slh_dsa_set set, slh_dsa_mode mode,
+    const uint8_t *signing_key, size_t signing_key_bytes,
+    const uint8_t *message, size_t message_bytes,
+    const uint8_t *context, size_t context_bytes,
+    uint8_t *signature, size_t signature_bytes)
+{
+    uint8_t nothing = 0;
+
+    if (slh_dsa_is_missing(signing_key, signing_key_bytes) ||
+        slh_dsa_is_missing(message, message_bytes) ||
+        slh_dsa_is_missing(context, context_bytes) ||
+        slh_dsa_is_missing(signature, signature_bytes))
+        return SLH_DSA_LENGTH;
+    return slh_dsa_sha2_sign_deterministic(
+        set, mode,
+        slh_dsa_read_at(signing_key, &nothing), signing_key_bytes,
+        slh_dsa_read_at(message, &nothing), message_bytes,
+        slh_dsa_read_at(context, &nothing), context_bytes,
+        slh_dsa_write_at(signature, &nothing), signature_bytes);
+}
+
+SLH_DSA_MUST_CHECK SLH_DSA_INLINE slh_dsa_status slh_dsa_sha2_verify_nullable(
+    slh_dsa_set set, slh_dsa_mode mode,
+    const uint8_t *verifying_key, size_t verifying_key_bytes,
+    const uint8_t *message, size_t message_bytes,
+    const uint8_t *context, size_t context_bytes,
+    const uint8_t *signature, size_t signature_bytes)
+{
+    const uint8_t nothing = 0;
+
+    if (slh_dsa_is_missing(verifying_key, verifying_key_bytes) ||
+        slh_dsa_is_missing(message, message_bytes) ||
+        slh_dsa_is_missing(context, context_bytes) ||
+        slh_dsa_is_missing(signature, signature_bytes))
+        return SLH_DSA_LENGTH;
+    return slh_dsa_sha2_verify(
+        set, mode,
+        slh_dsa_read_at(verifying_key, &nothing), verifying_key_bytes,
+        slh_dsa_read_at(message, &nothing), message_bytes,
+        slh_dsa_read_at(context, &nothing), context_bytes,
+        slh_dsa_read_at(signature, &nothing), signature_bytes);
+}
+
+SLH_DSA_MUST_CHECK SLH_DSA_INLINE slh_dsa_status slh_dsa_sha2_audit_nullable(
+    slh_dsa_set set, slh_dsa_mode mode,
+    const uint8_t *signing_key, size_t signing_key_bytes,
+    const uint8_t *message, size_t message_bytes,
+    const uint8_t *context, size_t context_bytes,
+    const uint8_t *signature, size_t signature_bytes,
+    slh_dsa_evidence *evidence)
+{
+    const uint8_t nothing = 0;
+
+    if (slh_dsa_is_missing(signing_key, signing_key_bytes) ||
+        slh_dsa_is_missing(message, message_bytes) ||
+        slh_dsa_is_missing(context, context_bytes) ||
+        slh_dsa_is_missing(signature, signature_bytes))
+        return SLH_DSA_LENGTH;
+    return slh_dsa_sha2_audit(
+        set, mode,
+        slh_dsa_read_at(signing_key, &nothing), signing_key_bytes,
+        slh_dsa_read_at(message, &nothing), message_bytes,
+        slh_dsa_read_at(context, &nothing), context_bytes,
+        slh_dsa_read_at(signature, &nothing), signature_bytes,
+        evidence);
+}
+
+SLH_DSA_MUST_CHECK SLH_DSA_INLINE slh_dsa_status slh_dsa_sha2_check_evidence_nullable(
+    slh_dsa_set set, slh_dsa_mode mode,
+    const uint8_t *signing_key, size_t signing_key_bytes,
+    const uint8_t *message, size_t message_bytes,
+    const uint8_t *context, size_t context_bytes,
+    const uint8_t *signature, size_t signature_bytes,
+    const slh_dsa_evidence *evidence)
+{
+    const uint8_t nothing = 0;
+
+    if (slh_dsa_is_missing(signing_key, signing_key_bytes) ||
+        slh_dsa_is_missing(message, message_bytes) ||
+        slh_dsa_is_missing(context, context_bytes) ||
+        slh_dsa_is_missing(signature, signature_bytes))
+        return SLH_DSA_LENGTH;
+    return slh_dsa_sha2_check_evidence(
+        set, mode,
+        slh_dsa_read_at(signing_key, &nothing), signing_key_bytes,
+        slh_dsa_read_at(message, &nothing), message_bytes,
+        slh_dsa_read_at(context, &nothing), context_bytes,
+        slh_dsa_read_at(signature, &nothing), signature_bytes,
+        evidence);
+}
+
+/* A VERDICT FOR BOOT LOADERS. It verifies twice, so it takes twice the time, and answers one of two
+ * numbers that differ in each bit; slh_dsa_is_accepted compares it twice. That is meant against a
+ * skipped instruction or a flipped bit, and wasn't tried against such faults. */
+typedef uint32_t slh_dsa_verdict;
+
+#define SLH_DSA_VERDICT_ACCEPTED 0x3ca5965aUL
+#define SLH_DSA_VERDICT_REFUSED 0xc35a69a5UL
+
+SLH_DSA_MUST_CHECK SLH_DSA_NONNULL SLH_DSA_INLINE slh_dsa_verdict slh_dsa_sha2_verdict(
+    slh_dsa_set set, slh_dsa_mode mode,
+    const uint8_t *verifying_key, size_t verifying_key_bytes,
+    const uint8_t *message, size_t message_bytes,
+    const uint8_t *context, size_t context_bytes,
+    const uint8_t *signature, size_t signature_bytes)
+{
+    volatile slh_dsa_verdict verdict = SLH_DSA_VERDICT_REFUSED;
+    volatile slh_dsa_status first = SLH_DSA_INVALID, second = SLH_DSA_INVALID;
+
+    first = slh_dsa_sha2_verify(
+        set, mode, verifying_key, verifying_key_bytes, message, message_bytes,
+        context, context_bytes, signature, signature_bytes);
+    if (first != SLH_DSA_OK)
+        return SLH_DSA_VERDICT_REFUSED;
+    second = slh_dsa_sha2_verify(
+        set, mode, verifying_key, verifying_key_bytes, message, message_bytes,
+        context, context_bytes, signature, signature_bytes);
+    if (second == SLH_DSA_OK && first == SLH_DSA_OK)
+        verdict = SLH_DSA_VERDICT_ACCEPTED;
+    return verdict;
+}
+
+/* Whether a verdict is the good one, looked at twice. */
+SLH_DSA_MUST_CHECK SLH_DSA_INLINE int slh_dsa_is_accepted(slh_dsa_verdict verdict)
+{
+    volatile slh_dsa_verdict given = verdict;
+
+    if (given != SLH_DSA_VERDICT_ACCEPTED)
+        return 0;
+    return (given ^ SLH_DSA_VERDICT_REFUSED) == 0xffffffffUL;
+}
+
+/* TEXTS. What a status says, for people. */
+SLH_DSA_MUST_CHECK SLH_DSA_INLINE const char *slh_dsa_status_text(slh_dsa_status status)
+{
+    switch (status) {
+    case SLH_DSA_OK: return "done";
+    case SLH_DSA_INVALID: return "the signature is not one of this message under this key";
+    case SLH_DSA_FOREIGN: return "the signature is accepted, but the key does not make it";
+    case SLH_DSA_NOT_SHOWN: return "the evidence does not show";
+    case SLH_DSA_KEY_MISMATCH: return "the root of the key is not that of its seeds";
+    case SLH_DSA_LENGTH: return "the seeds, a key or the signature have a wrong length";
+    case SLH_DSA_CONTEXT_TOO_LONG: return "the context has more than 255 bytes";
+    case SLH_DSA_RANDOMIZER_LENGTH: return "the randomizer has a wrong length";
+    case SLH_DSA_MESSAGE_TOO_LONG: return "the message has more than 2^60 bytes";
+    case SLH_DSA_UNKNOWN_SET: return "no such parameter set";
+    case SLH_DSA_UNKNOWN_MODE: return "no such mode";
+    case SLH_DSA_UNKNOWN_EVIDENCE: return "no such evidence";
+    default: return "no such status";
+    }
+}
+
+/* The name of a set (FIPS 205, section 11), no characters where none has the number. */
+SLH_DSA_MUST_CHECK SLH_DSA_INLINE const char *slh_dsa_set_name(slh_dsa_set set)
+{
+    switch (set) {
+    case SLH_DSA_SHA2_128S: return "SLH-DSA-SHA2-128s";
+    case SLH_DSA_SHA2_128F: return "SLH-DSA-SHA2-128f";
+    case SLH_DSA_SHA2_192S: return "SLH-DSA-SHA2-192s";
+    case SLH_DSA_SHA2_192F: return "SLH-DSA-SHA2-192f";
+    case SLH_DSA_SHA2_256S: return "SLH-DSA-SHA2-256s";
+    case SLH_DSA_SHA2_256F: return "SLH-DSA-SHA2-256f";
+    default: return "";
+    }
+}
+
+/* The set of a name, 0 where none has it: each call answers UNKNOWN_SET to that. */
+SLH_DSA_MUST_CHECK SLH_DSA_NONNULL SLH_DSA_INLINE slh_dsa_set slh_dsa_set_named(const char *name)
+{
+    slh_dsa_set set;
+
+    for (set = SLH_DSA_SHA2_128S; set <= SLH_DSA_SHA2_256F; set++) {
+        const char *own = slh_dsa_set_name(set);
+        size_t at = 0;
+
+        while (own[at] != '\0' && own[at] == name[at])
+            at++;
+        if (own[at] == name[at])
+            return set;
+    }
+    return 0;
+}
+
+#endif
