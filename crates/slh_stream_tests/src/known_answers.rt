@@ -50,9 +50,7 @@ fn are_known<P: ParameterSet + MessageSuite>(
 ) -> Result<bool, Error> {
     chain_sizes::<P>();
     let key = key::<P>()?;
-    let mut out = key
-        .try_sign_with_context(alloc, b"", b"", None)?
-        .into_array();
+    let mut out = untouched::<P>(alloc)?;
     let out = out.as_mut_slice();
     let rand = Some(&NUMBERS[..P::N::USIZE]);
     let hello = b"Hello, world!";

@@ -29,7 +29,8 @@ fn are_accepted<P: ParameterSet + MessageSuite>(
     all
 }
 
-// Whether the pieces are signed as the message was, and accepted, and fewer bytes are not.
+// Whether the pieces are signed as the message was, and accepted, and those of fewer bytes are
+// answered alike.
 fn is_alike<P: ParameterSet + MessageSuite>(
     alloc: Global,
     key: &SigningKey<P>,
@@ -45,7 +46,8 @@ fn is_alike<P: ParameterSet + MessageSuite>(
         is_signed(key, mode, CONTEXT, None, message, &cut, out.as_mut_slice())
             && are_equal(out.as_slice(), sig)
             && are_accepted(&public, mode, sig, message)
-            && verified(&public, mode, CONTEXT, sig, &message[1..], &cut) == Err(Error::Invalid),
+            && verified(&public, mode, CONTEXT, sig, &message[1..], &cut)
+                == public.hash_verify_with_context(mode, &message[1..], CONTEXT, &made),
     )
 }
 
