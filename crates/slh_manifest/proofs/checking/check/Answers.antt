@@ -1,9 +1,16 @@
-use Rattle.std.proofs.Common.{inr}
+use Rattle.std.proofs.Common.{inr, refl}
 use Rattle.slh_manifest.specs.Reading.{entries_in}
 use Rattle.slh_manifest.specs.declared.error.CheckError.TheVariants.{Invalid}
 use Rattle.slh_manifest.proofs.Measures.{told_all, told_then}
 use Rattle.slh_manifest.proofs.Whole.{check_refused, decided_by_entries, decided_exactly, entries_are_of, entries_stand, never_form, never_invalid, none_unread, not_refused, refused_by_signature, refused_exactly}
 use Rattle.slh_manifest.proofs.checking.check.Goals as goal
+
+pub returns-then-not-is_valid-clause-invalid : goal.returns-then-not-is_valid-clause-invalid
+returns-then-not-is_valid-clause-invalid g c =
+    let Z = g.P.ForsParams.scheme in
+    let found = c.in-Some.ensures in
+    let refused = refused_by_signature Z c.args.vk.now c.args.manifest.now c.in-Some.parts.body.now c.in-Some.parts.signature.now found.form found.body found.signature c.is_valid.result c.is_valid.ensures c.if-not-is_valid.true in
+    (λ h. refused, λ h. refl)
 
 pub returns-then-not-is_valid-clause-told : goal.returns-then-not-is_valid-clause-told
 returns-then-not-is_valid-clause-told g c =
