@@ -36,10 +36,6 @@ name_refusal name = if is_name_size (length name) then None else Some Name
 abbrev pub depth_refusal : ℕ → Option LinkError
 depth_refusal depth = if nat_le depth 15 then None else Some Depth
 
-abbrev pub randomizer_refusal : Scheme → Option (List ℕ) → Option LinkError
-randomizer_refusal Z None = None
-randomizer_refusal Z (Some bytes) = if length bytes == Z.n then None else Some Randomizer
-
 abbrev pub delegate_refusal : Scheme → List ℕ → ℕ → Option (List ℕ) → Option LinkError
 delegate_refusal Z name depth opt_rand = first_refusal
     (name_refusal name ∷ depth_refusal depth ∷ randomizer_refusal Randomizer Z.n opt_rand ∷ [])

@@ -3,8 +3,11 @@ ghost use Rattle.std.specs.Prelude.{◌≡◌, ◌↔◌, ◌+◌, ◌*◌, ◌^
 ghost use Rattle.std.specs.Prelude.{IfOk, IfSome, IsSome, IsTrue};
 ghost use Rattle.std.specs.Option.{option_copied, ForSome};
 ghost use Rattle.slh_trees.specs.Checking.{signature_size};
+ghost use Rattle.slh_trees.specs.Frame.{frame};
+ghost use Rattle.slh_trees.specs.Signing.{signature_of};
 ghost use Rattle.slh_trees.specs.Refusals.{RefusedExactly, RefusedOrNoMemory};
-ghost use Rattle.slh_chain.specs.Links.{after_link, body_of, body_size};
+ghost use Rattle.slh_dsa.specs.Calls.{IsSignable};
+ghost use Rattle.slh_chain.specs.Links.{after_link, body_of, body_size, chain_context};
 ghost use Rattle.slh_chain.specs.Links.{delegate_refusal, has_form, link_body, link_depth};
 ghost use Rattle.slh_chain.specs.Links.{link_signature, link_subject, signed_link};
 ghost use Rattle.slh_chain.specs.declared.error.LinkError.TheVariants.{Memory};
@@ -68,6 +71,21 @@ fn write_body<P: ParameterSet>(name: &[u8], depth: u8, subject: &VerifyingKey<P>
     subject.write_to(back);
 }
 
+// Writes a link's signature after its body.
+fn sign_body<P: ParameterSet>(
+    key: &SigningKey<P>,
+    body: &[u8],
+    opt_rand: Option<&[u8]>,
+    out: &mut [u8],
+)
+    requires fits { IsSignable P.N.USIZE chain_context (option_copied opt_rand) body.now }
+    requires room { length out.old ≡ signature_size P.scheme }
+    ensures { let opt_rand = option_copied opt_rand.entry in
+        out.new ≡ signature_of P.scheme key.now opt_rand (frame chain_context body.now) }
+{
+    key.sign_checked_into(Mode::Pure, CONTEXT, body, opt_rand, out);
+}
+
 // Writes a whole link.
 fn write_link<P: ParameterSet>(
     key: &SigningKey<P>,
@@ -88,7 +106,7 @@ fn write_link<P: ParameterSet>(
     link_bound::<P>();
     let (body, signature) = out.split_at_mut(2 + name.len() + 2 * P::N::USIZE);
     write_body(name, depth, subject, body);
-    key.sign_checked_into(Mode::Pure, CONTEXT, body, opt_rand, signature);
+    sign_body(key, body, opt_rand, signature);
 }
 
 /// The link by which a key lets the subject act under a name of 1 to 64 bytes, and delegate with

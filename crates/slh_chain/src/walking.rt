@@ -1,12 +1,15 @@
 //! Walking a chain from its root key to its end.
-ghost use Rattle.std.specs.Prelude.{◌≡◌, ◌+◌, ◌≤◌, ◌<◌, length};
+ghost use Rattle.std.specs.Prelude.{◌≡◌, ◌+◌, ◌^◌, ◌≤◌, ◌<◌, length};
 ghost use Rattle.std.specs.Prelude.{IfOk, IfErr, OnOk, Ok, Err};
+ghost use Rattle.slh_trees.specs.Checking.{signature_size};
 ghost use Rattle.slh_trees.specs.Refusals.{RefusedExactly};
-ghost use Rattle.slh_chain.specs.Links.{after_link, link_depth, link_subject};
+ghost use Rattle.slh_dsa.specs.Calls.{is_valid};
+ghost use Rattle.slh_dsa.specs.declared.frame.Mode.TheVariants.{Pure};
+ghost use Rattle.slh_chain.specs.Links.{after_link, chain_context, link_depth, link_subject};
 ghost use Rattle.slh_chain.specs.Walks.{Place, link_fault, walk_answer};
 
 use crate::error::ChainError;
-use crate::link::{CONTEXT, read_link};
+use crate::link::{CONTEXT, Link, read_link};
 use slh_dsa::{Mode, ParameterSet, VerifyingKey};
 
 /// The budget of the first link.
@@ -22,6 +25,16 @@ pub struct End<P: ParameterSet> {
     pub budget: u8,
     /// How many links there are, at most 16.
     pub links: u32,
+}
+
+// Whether a link's signature is one of its body under a key.
+fn is_signed<P: ParameterSet>(key: &VerifyingKey<P>, link: &Link<'_>) -> bool
+    requires body { length link.now.body.now ≤ 2 ^ 60 }
+    requires signature { length link.now.signature.now ≡ signature_size P.scheme }
+    ensures { result ≡ is_valid P.scheme Pure key.now chain_context
+        link.now.body.now link.now.signature.now }
+{
+    key.is_valid(Mode::Pure, CONTEXT, link.body, link.signature)
 }
 
 impl<P: ParameterSet> End<P> {
@@ -60,8 +73,7 @@ impl<P: ParameterSet> End<P> {
         if link.depth >= self.budget {
             return Err(ChainError::Budget(self.links));
         }
-        let key = &self.key;
-        if !key.is_valid(Mode::Pure, CONTEXT, link.body, link.signature) {
+        if !is_signed(&self.key, &link) {
             return Err(ChainError::Invalid(self.links));
         }
         self.key = VerifyingKey::try_from(link.subject).unwrap();
