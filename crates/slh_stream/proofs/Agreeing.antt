@@ -3,7 +3,7 @@ use Rattle.std.proofs.Common.{◌≡◌, ℕ, ◌^◌, ◌≤◌, List, length, 
 use Rattle.std.proofs.lemmas.Bool.{le-ltb}
 use Rattle.std.proofs.lemmas.Slice.Eq.{bytes_eq-Decides}
 use Rattle.std.specs.Str.{bytes_eq}
-use Rattle.hmac_sha256.proofs.Digest.{length-sha256}
+use Rattle.sha256_lanes.proofs.Digest.{length-sha256}
 use Rattle.sha256_lanes.specs.Sha256.{sha256}
 use Rattle.sha2.proofs.Facts512.{length-sha512}
 use Rattle.sha2.specs.Sha512.{sha512}
