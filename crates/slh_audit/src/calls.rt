@@ -20,7 +20,7 @@ use crate::sizes::{check_lengths, check_sizes};
 use hybrid_array::ArraySize;
 use slh_core::nbytes::NBytes;
 use slh_core::params::{ForsParams, MAX_DIGEST_LEN, MAX_MESSAGE_LEN, forest_sizes};
-use slh_core::parts::part_of;
+use slh_core::equal_parts::part_of;
 use slh_core::steps::Steps;
 use slh_trees::check::{root_for_digest, write_digest};
 use slh_trees::sizes::frame_head;

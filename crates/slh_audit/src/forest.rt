@@ -15,7 +15,7 @@ use slh_core::address::{ForsRoots as ForsRootsAddress, ForsTree};
 use slh_core::digits::base_2b;
 use slh_core::nbytes::NBytes;
 use slh_core::params::{ForsParams, MAX_FORS_TREES, MAX_ROOTS_LEN, chain_sizes, forest_sizes};
-use slh_core::parts::{part_of, piece};
+use slh_core::equal_parts::{part_of, piece};
 use slh_core::steps::Steps;
 use slh_trees::climb::root_from_auth_path;
 use slh_trees::fors::{climb_all, fors_node, fors_sk_gen, index_of, opened_len, roots_len};

@@ -18,7 +18,7 @@ use slh_core::address::{Address, HashTree, WotsHash, WotsPk};
 use slh_core::digits::message_digits;
 use slh_core::nbytes::NBytes;
 use slh_core::params::{ForsParams, MAX_ENDS_LEN, WotsParams, XmssParams, chain_sizes, tree_sizes};
-use slh_core::parts::{part_of, put_part};
+use slh_core::equal_parts::{part_of, put_part};
 use slh_core::steps::Steps;
 use slh_core::suite::HashSuite;
 use slh_core::wots::{ends_len, own_chain, wots_chain, wots_pk_from_sig};

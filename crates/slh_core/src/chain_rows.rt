@@ -4,7 +4,7 @@ ghost use Rattle.std.specs.Prelude.{slice_index, if◌then◌else◌};
 ghost use Rattle.slh_core.specs.Bytes.{joined, part};
 
 use crate::params::MAX_CHAINS;
-use crate::parts::put_part;
+use crate::equal_parts::put_part;
 
 /// The numbers of all chains, from 0 on.
 pub(crate) fn chain_numbers() -> [u32; MAX_CHAINS]

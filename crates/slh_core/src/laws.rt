@@ -1,5 +1,4 @@
-//! Laws of digits and chains, each the contract of a function that does nothing, and of clones,
-//! each that of a function that makes them.
+//! Laws of digits and chains, each the contract of a function that does nothing.
 ghost use Rattle.std.specs.Prelude.{◌≡◌, ◌≢◌, ℕ, ◌+◌, ◌<◌, ◌≤◌, List, length, slice_index};
 ghost use Rattle.slh_core.specs.Digits.{IsBelowSomewhere};
 ghost use Rattle.slh_core.specs.Wots.{chain, wots_pk, wots_sig, wots_pk_from_sig};

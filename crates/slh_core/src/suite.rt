@@ -14,7 +14,7 @@ use crate::chain_rows::{chain_numbers, copy_reached, first_numbers};
 use crate::digits::no_digits;
 use crate::nbytes::NBytes;
 use crate::params::{MAX_DIGEST_LEN, MAX_ENDS_LEN, MAX_MESSAGE_LEN, MAX_N};
-use crate::parts::{part_of, put_part};
+use crate::equal_parts::{part_of, put_part};
 use crate::steps::Steps;
 use hybrid_array::ArraySize;
 use std::sync::ledger::Ledger;

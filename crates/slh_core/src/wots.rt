@@ -14,7 +14,7 @@ use crate::chain_rows::{chain_numbers, first_numbers};
 use crate::digits::message_digits;
 use crate::nbytes::NBytes;
 use crate::params::{MAX_ENDS_LEN, WotsParams, chain_sizes};
-use crate::parts::put_part;
+use crate::equal_parts::put_part;
 use crate::steps::Steps;
 use hybrid_array::ArraySize;
 use std::sync::ledger::Ledger;

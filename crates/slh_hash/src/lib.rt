@@ -48,15 +48,15 @@ mod mac;
 mod messages;
 mod mgf1;
 mod pairs;
+mod pairs_512;
 mod pieces_l1;
 mod pieces_l35;
-mod rows;
+mod rows_256;
+mod rows_512;
 mod sets;
 mod sha2_l1;
 mod sha2_l35;
 mod tweaked;
-mod wide_pairs;
-mod wide_rows;
 
 pub use keyed::{Sha2Keyed, Sha2Keyed512};
 pub use mac::{Hmac512, hmac_sha512};

@@ -3,10 +3,10 @@ ghost use Rattle.std.specs.Prelude.{◌≡◌, ℕ, ◌+◌, ◌*◌, ◌^◌, �
 ghost use Rattle.slh_core.specs.Address.{address_bytes, compressed_address, wots_pk_type};
 ghost use Rattle.slh_core.specs.Bytes.{joined, part};
 
-use crate::rows::ADDRESS_LEN;
+use crate::rows_256::ADDRESS_LEN;
 use slh_core::address::{Address, WotsHash};
+use slh_core::equal_parts::put_part;
 use slh_core::params::{MAX_CHAINS, MAX_ENDS_LEN};
-use slh_core::parts::put_part;
 
 /// The most bytes of one message, without the public seed.
 pub(crate) const MAX_MESSAGE_LEN: usize = ADDRESS_LEN + MAX_ENDS_LEN;

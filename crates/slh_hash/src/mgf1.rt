@@ -10,7 +10,7 @@ use hmac_sha256::{Hash, WrappedHash};
 use hybrid_array::ArrayMut;
 use hybrid_array::sizes::U32;
 use sha2::{Digest, Sha512};
-use slh_core::parts::put_part;
+use slh_core::equal_parts::put_part;
 
 const SHA256_LEN: usize = 32;
 

@@ -14,13 +14,13 @@ ghost use Rattle.slh_hash.specs.Sha2.{seed_block, tweaked_hash_256};
 
 use crate::keyed::Sha2Keyed;
 use crate::messages::{MAX_MESSAGE_LEN, put_messages};
-use crate::rows::{ADDRESS_LEN, put_hashes};
+use crate::rows_256::{ADDRESS_LEN, put_hashes};
 use hybrid_array::ArraySize;
 use sha256_lanes::{Begun, Eight, Heads};
 use slh_core::address::{Address, ForsTree, WotsHash};
+use slh_core::equal_parts::put_part;
 use slh_core::nbytes::NBytes;
 use slh_core::params::{MAX_CHAINS, MAX_ENDS_LEN};
-use slh_core::parts::put_part;
 use slh_core::steps::Steps;
 use std::sync::ledger::Ledger;
 

@@ -11,7 +11,7 @@ use crate::join::{put_three, put_two};
 use crate::keyed::Sha2Keyed;
 use crate::mgf1::mgf1_256;
 use crate::pairs::{EIGHT_ENDS_LEN, eight_leaves, keys_of_ends, run_eight};
-use crate::rows::{hash_each, hash_pairs, repeat};
+use crate::rows_256::{hash_each, hash_pairs, repeat};
 use crate::tweaked::{long_hash, short_hash, start};
 use digest_core::{FixedOutput, Update};
 use hmac_sha256::{HMAC, Hash, WrappedHash};

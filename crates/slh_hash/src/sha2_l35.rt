@@ -13,10 +13,10 @@ use crate::keyed::Sha2Keyed512;
 use crate::mac::hmac_sha512;
 use crate::mgf1::mgf1_512;
 use crate::pairs::{EIGHT_ENDS_LEN, eight_leaves, run_eight};
-use crate::rows::{hash_each, repeat};
-use crate::tweaked::{short_hash, start_35, wide_hash};
-use crate::wide_pairs::wide_keys_of_ends;
-use crate::wide_rows::hash_wide_pairs;
+use crate::pairs_512::keys_of_ends_512;
+use crate::rows_256::{hash_each, repeat};
+use crate::rows_512::hash_pairs_512;
+use crate::tweaked::{long_hash_512, short_hash, start_512};
 use hybrid_array::ArraySize;
 use sha2::{Digest, Sha512};
 use slh_core::address::{Address, ForsTree, RowAddress, WotsHash};
@@ -49,7 +49,7 @@ impl<N: ArraySize, M: ArraySize> HashSuite for Sha2L35<N, M> {
         seeded (sha2_category_3_5 N.USIZE M.USIZE) N.USIZE keyed.keyed.pk_seed };
 
     fn keyed(pk_seed: &NBytes<N>) -> Sha2Keyed512<N> {
-        start_35(pk_seed)
+        start_512(pk_seed)
     }
 
     #[inline]
@@ -73,7 +73,7 @@ impl<N: ArraySize, M: ArraySize> HashSuite for Sha2L35<N, M> {
         steps.tick();
         let mut both = [0u8; 64];
         let end = put_two(m1.as_slice(), m2.as_slice(), &mut both);
-        wide_hash(keyed, adrs, &both[..end])
+        long_hash_512(keyed, adrs, &both[..end])
     }
 
     fn t<A: Address, L: Ledger>(
@@ -83,7 +83,7 @@ impl<N: ArraySize, M: ArraySize> HashSuite for Sha2L35<N, M> {
         steps: &mut Steps<L>,
     ) -> NBytes<N> {
         steps.tick();
-        wide_hash(keyed, adrs, m)
+        long_hash_512(keyed, adrs, m)
     }
 
     #[inline]
@@ -115,7 +115,7 @@ impl<N: ArraySize, M: ArraySize> HashSuite for Sha2L35<N, M> {
         out: &mut [u8],
         steps: &mut Steps<L>,
     ) {
-        hash_wide_pairs(keyed, adrs, numbers, pairs, out, steps);
+        hash_pairs_512(keyed, adrs, numbers, pairs, out, steps);
     }
 
     fn prf_each<A: RowAddress + Drop, L: Ledger>(
@@ -153,7 +153,7 @@ impl<N: ArraySize, M: ArraySize> HashSuite for Sha2L35<N, M> {
             ends,
             steps,
         );
-        wide_keys_of_ends(keyed, adrs, ends, count, out, steps);
+        keys_of_ends_512(keyed, adrs, ends, count, out, steps);
     }
 
     fn finish_each<L: Ledger>(

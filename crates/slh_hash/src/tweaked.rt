@@ -48,7 +48,7 @@ pub(crate) fn start<N: ArraySize>(pk_seed: &NBytes<N>) -> Sha2Keyed<N>
 }
 
 /// The state for a public seed in the categories 3 and 5.
-pub(crate) fn start_35<N: ArraySize>(pk_seed: &NBytes<N>) -> Sha2Keyed512<N>
+pub(crate) fn start_512<N: ArraySize>(pk_seed: &NBytes<N>) -> Sha2Keyed512<N>
     ensures { result.keyed.pk_seed ≡ pk_seed.now }
 {
     let block = block_of::<N, SHA512_BLOCK_LEN>(pk_seed);
@@ -94,7 +94,7 @@ pub(crate) fn long_hash<N: ArraySize, A: Address>(
 }
 
 /// The SHA-512 hash of an address and an input.
-pub(crate) fn wide_hash<N: ArraySize, A: Address>(
+pub(crate) fn long_hash_512<N: ArraySize, A: Address>(
     keyed: &Sha2Keyed512<N>,
     adrs: &A,
     input: &[u8],

@@ -7,7 +7,7 @@ use hybrid_array::ArraySize;
 use slh_core::address::ForsTree;
 use slh_core::nbytes::NBytes;
 use slh_core::params::{ForsParams, MAX_DIGEST_LEN, chain_sizes, forest_sizes, layer_sizes};
-use slh_core::parts::part_of;
+use slh_core::equal_parts::part_of;
 use slh_core::steps::Steps;
 use slh_hash::Sha2_128f;
 use slh_trees::sizes::signature_len;

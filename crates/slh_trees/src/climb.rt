@@ -6,7 +6,7 @@ use crate::node::{NodeAddress, parent};
 use hybrid_array::ArraySize;
 use slh_core::nbytes::NBytes;
 use slh_core::params::{WotsParams, chain_sizes};
-use slh_core::parts::part_of;
+use slh_core::equal_parts::part_of;
 use slh_core::steps::Steps;
 use std::sync::ledger::Ledger;
 

@@ -11,7 +11,7 @@ use hybrid_array::ArraySize;
 use slh_core::address::ForsTree;
 use slh_core::nbytes::NBytes;
 use slh_core::params::{ForsParams, MAX_FORS_TREES, MAX_ROOTS_LEN, forest_sizes};
-use slh_core::parts::{part_of, piece, put_part};
+use slh_core::equal_parts::{part_of, piece, put_part};
 use slh_core::steps::Steps;
 use std::sync::ledger::Ledger;
 

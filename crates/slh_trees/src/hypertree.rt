@@ -10,7 +10,7 @@ use hybrid_array::ArraySize;
 use slh_core::address::WotsHash;
 use slh_core::nbytes::NBytes;
 use slh_core::params::{HypertreeParams, XmssParams, layer_sizes, tree_sizes};
-use slh_core::parts::piece;
+use slh_core::equal_parts::piece;
 use slh_core::steps::Steps;
 use std::sync::ledger::Ledger;
 

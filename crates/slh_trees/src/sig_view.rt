@@ -14,7 +14,7 @@ use crate::hypertree::layer_len;
 use crate::sizes::signature_len;
 use hybrid_array::{ArrayRef, ArraySize};
 use slh_core::params::{ForsParams, forest_sizes, layer_sizes};
-use slh_core::parts::piece;
+use slh_core::equal_parts::piece;
 use slh_core::wots::ends_len;
 use std::marker::{Model, PhantomData};
 

@@ -9,7 +9,7 @@ use crate::node::{NodeAddress, sibling};
 use hybrid_array::ArraySize;
 use slh_core::nbytes::NBytes;
 use slh_core::params::{MAX_N, WotsParams, chain_sizes};
-use slh_core::parts::{part_of, put_part};
+use slh_core::equal_parts::{part_of, put_part};
 use slh_core::steps::Steps;
 use std::sync::ledger::Ledger;
 

@@ -17,7 +17,7 @@ use slh_core::address::{HashTree, WotsHash};
 use slh_core::digits::{message_digits, no_digits};
 use slh_core::nbytes::NBytes;
 use slh_core::params::{MAX_ENDS_LEN, MAX_N, XmssParams, tree_sizes};
-use slh_core::parts::{part_of, put_part};
+use slh_core::equal_parts::{part_of, put_part};
 use slh_core::steps::Steps;
 use slh_core::wots::{ends_len, wots_pk_from_sig, wots_pk_gen, wots_sign, wots_sign_leaf};
 use std::sync::ledger::Ledger;

@@ -8,4 +8,4 @@ returns-clause-value g c =
     let n = g.N.ArraySize.USIZE in
     let numbers = c.args.numbers.now in
     let hash : ℕ → List ℕ → List ℕ = λ k x. tweaked_hash_512 n c.args.keyed.now.keyed.pk_seed (g.A.RowAddress.numbered c.args.adrs.now (slice_index numbers k)) x in
-    hashes_of_pairs hash n (length numbers) c.args.pairs.now c.hash_wide_pairs.new.out c.hash_wide_pairs.ensures.value
+    hashes_of_pairs hash n (length numbers) c.args.pairs.now c.hash_pairs_512.new.out c.hash_pairs_512.ensures.value

@@ -13,8 +13,8 @@ returns-clause-keys g c =
     let s = keyed.keyed.pk_seed in
     let a = c.args.adrs.now in
     keys_same (seeded (sha2_category_3_5 n m) n s) s (λ _ _. refl) (λ _ _. refl) c.args.sk_seed.now a.layer_adrs a.tree_adrs_low a.key_pair_adrs
-    (length c.args.digits.now) c.run_eight.new.ends c.wide_keys_of_ends.new.out (sha2_category_3_5_lengths n m c.requires.small) c.requires.count
-    c.run_eight.ensures.ends c.wide_keys_of_ends.ensures.keys
+    (length c.args.digits.now) c.run_eight.new.ends c.keys_of_ends_512.new.out (sha2_category_3_5_lengths n m c.requires.small) c.requires.count
+    c.run_eight.ensures.ends c.keys_of_ends_512.ensures.keys
 
 pub returns-clause-values : goal.returns-clause-values
 returns-clause-values g c =
