@@ -10,16 +10,13 @@ use Rattle.slh_core.proofs.DigitSteps.{digits_below}
 use Rattle.slh_core.proofs.Joins.{joined_same, length-joined, part-joined, take_front, drop_front}
 use Rattle.slh_trees.specs.Checking.{checked_fors_node, fors_pk_from_sig, forest_size}
 use Rattle.slh_trees.specs.Fors.{fors_place, leaf_index, fors_secret, fors_leaf, fors_node, fors_auth_path, fors_pk, fors_opened, opened_leaves, fors_sig}
+use Rattle.slh_trees.specs.Lengths.{length-fors_leaf}
 use Rattle.slh_trees.specs.Merkle.{merkle}
 use Rattle.slh_trees.proofs.Climbs.{climb-merkle_auth_path, length-merkle_auth_path}
 
 length-fors_secret : (K : Seeded) (sk : List ℕ) (t l i : ℕ) → HasLength K.suite K.n → length (fors_secret K sk t l i) ≡ K.n
 unfolding fors_secret
 length-fors_secret K sk t l i law = law.prf _ _ _
-
-length-fors_leaf : (K : Seeded) (sk : List ℕ) (t l i : ℕ) → HasLength K.suite K.n → length (fors_leaf K sk t l i) ≡ K.n
-unfolding fors_leaf
-length-fors_leaf K sk t l i law = law.f _ _ _
 
 length-fors_opened : (K : Seeded) (sk : List ℕ) (t l a : ℕ) (x : List ℕ) (i : ℕ) → HasLength K.suite K.n → length (fors_opened K sk t l a x i) ≡ (1 + a) * K.n
 unfolding fors_opened

@@ -2,6 +2,7 @@ pub mod Merkle
 pub mod Xmss
 pub mod Hypertree
 pub mod Fors
+pub mod Lengths
 pub mod MessageDigest
 pub mod Checking
 pub mod SignatureParts

@@ -4,9 +4,9 @@ ghost use Rattle.slh_trees.specs.Merkle.{climb as spec_climb};
 
 use crate::node::{NodeAddress, parent};
 use hybrid_array::ArraySize;
+use slh_core::equal_parts::part_of;
 use slh_core::nbytes::NBytes;
 use slh_core::params::{WotsParams, chain_sizes};
-use slh_core::equal_parts::part_of;
 use slh_core::steps::Steps;
 use std::sync::ledger::Ledger;
 

@@ -11,7 +11,7 @@ ghost use Rattle.slh_trees.specs.Fors.{fors_auth_path, fors_pk, opened_leaves, f
 
 use crate::climb_rows::{climb_level, leaf_indices, opened_secrets};
 use crate::laws::forest_leads_to_key;
-use crate::leaves::{Leaves, MAX_ROW, number_from};
+use crate::leaves::{Leaves, number_from};
 use crate::node::NodeAddress;
 use crate::treehash::{treehash, write_auth_path};
 use hybrid_array::ArraySize;
@@ -44,60 +44,8 @@ pub fn fors_sk_gen<P: ForsParams, L: Ledger>(
     P::prf_sk(keyed, sk_seed, &at, steps)
 }
 
-/// Writes the leaves from index `first` on, eight at a time.
-fn leaves_by_eight<P: ForsParams, L: Ledger>(
-    sk_seed: &NBytes<P::N>,
-    first: u32,
-    groups: usize,
-    keyed: &P::Keyed,
-    adrs: &ForsTree,
-    out: &mut [u8],
-    steps: &mut Steps<L>,
-)
-    requires inside { first + 8 * groups ≤ 2 ^ 32 }
-    requires room { length out.old ≡ groups * (8 * P.N.USIZE) }
-    ensures leaves { let K = P.keyed_suite keyed.now in
-        let a = adrs.now in
-        let leaf = fors_leaf K sk_seed.now a.tree_adrs_low a.key_pair_adrs in
-        out.new ≡ joined (λ k. leaf (first + k)) (8 * groups) }
-    ensures cost { steps.new ≡ steps.old + 8 * groups * fors_leaf_cost }
-{
-    forest_sizes::<P>();
-    let size = 8 * P::N::USIZE;
-    for g in 0..groups {
-        let leaves = &mut out[g * size..(g + 1) * size];
-        P::leaves_eight(keyed, sk_seed, adrs, first + 8 * g as u32, leaves, steps);
-    }
-}
-
-/// Writes the leaves from index `first` on, as a row.
-fn leaves_in_row<P: ForsParams, L: Ledger>(
-    sk_seed: &NBytes<P::N>,
-    first: u32,
-    count: usize,
-    keyed: &P::Keyed,
-    adrs: &ForsTree,
-    out: &mut [u8],
-    steps: &mut Steps<L>,
-)
-    requires few { count ≤ MAX_ROW }
-    requires inside { first + count ≤ 2 ^ 32 }
-    requires room { length out.old ≡ count * P.N.USIZE }
-    ensures leaves { let K = P.keyed_suite keyed.now in
-        let a = adrs.now in
-        let leaf = fors_leaf K sk_seed.now a.tree_adrs_low a.key_pair_adrs in
-        out.new ≡ joined (λ k. leaf (first + k)) count }
-    ensures cost { steps.new ≡ steps.old + count * fors_leaf_cost }
-{
-    forest_sizes::<P>();
-    let mut row = [0u32; MAX_ROW];
-    let numbers = &mut row[..count];
-    number_from(first, numbers);
-    P::prf_each(keyed, sk_seed, &adrs.prf_adrs(), numbers, out, steps);
-    P::f_each(keyed, &adrs.at_node(0, 0), numbers, out, steps);
-}
-
 impl<P: ForsParams> Leaves<P> for ForsTree {
+    ghost use Rattle.slh_trees.specs.Lengths.{length-fors_leaf};
     ghost use Rattle.std.proofs.Common.{rules};
 
     ghost trees = { P.K.USIZE };
@@ -108,7 +56,24 @@ impl<P: ForsParams> Leaves<P> for ForsTree {
 
     ghost leaf_cost = { fors_leaf_cost };
 
-    fn leaves<L: Ledger>(
+    fn write_eights<L: Ledger>(
+        &self,
+        sk_seed: &NBytes<P::N>,
+        first: u32,
+        groups: usize,
+        keyed: &P::Keyed,
+        out: &mut [u8],
+        steps: &mut Steps<L>,
+    ) {
+        forest_sizes::<P>();
+        let size = 8 * P::N::USIZE;
+        for g in 0..groups {
+            let leaves = &mut out[g * size..(g + 1) * size];
+            P::leaves_eight(keyed, sk_seed, self, first + 8 * g as u32, leaves, steps);
+        }
+    }
+
+    fn write_rest<L: Ledger>(
         &self,
         sk_seed: &NBytes<P::N>,
         first: u32,
@@ -118,16 +83,18 @@ impl<P: ForsParams> Leaves<P> for ForsTree {
         steps: &mut Steps<L>,
     ) {
         forest_sizes::<P>();
-        let groups = count / 8;
-        let (eights, rest) = out.split_at_mut(groups * (8 * P::N::USIZE));
-        leaves_by_eight::<P, L>(sk_seed, first, groups, keyed, self, eights, steps);
-        let next = first + 8 * groups as u32;
-        leaves_in_row::<P, L>(sk_seed, next, count % 8, keyed, self, rest, steps);
+        let mut row = [0u32; 8];
+        let numbers = &mut row[..count];
+        number_from(first, numbers);
+        P::prf_each(keyed, sk_seed, &self.prf_adrs(), numbers, out, steps);
+        P::f_each(keyed, &self.at_node(0, 0), numbers, out, steps);
     }
 
     ghost height_high = { Prim.search rules };
 
     ghost few = { Prim.search rules };
+
+    ghost leaf_length = { λ K sk a. length-fors_leaf K sk a.tree_adrs_low a.key_pair_adrs };
 }
 
 /// The node with index `i` at height `z` (FIPS 205, algorithm 15), where indices run through all

@@ -8,9 +8,9 @@ ghost use Rattle.slh_trees.specs.Hypertree.{ht_sig, layer_size};
 use crate::xmss::{xmss_pk_from_sig, xmss_sign_root};
 use hybrid_array::ArraySize;
 use slh_core::address::WotsHash;
+use slh_core::equal_parts::piece;
 use slh_core::nbytes::NBytes;
 use slh_core::params::{HypertreeParams, XmssParams, layer_sizes, tree_sizes};
-use slh_core::equal_parts::piece;
 use slh_core::steps::Steps;
 use std::sync::ledger::Ledger;
 

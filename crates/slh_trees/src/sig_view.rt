@@ -13,8 +13,8 @@ use crate::fors::{forest_len, opened_len};
 use crate::hypertree::layer_len;
 use crate::sizes::signature_len;
 use hybrid_array::{ArrayRef, ArraySize};
-use slh_core::params::{ForsParams, forest_sizes, layer_sizes};
 use slh_core::equal_parts::piece;
+use slh_core::params::{ForsParams, forest_sizes, layer_sizes};
 use slh_core::wots::ends_len;
 use std::marker::{Model, PhantomData};
 

@@ -4,12 +4,12 @@ ghost use Rattle.slh_core.specs.Bytes.{part};
 ghost use Rattle.slh_core.specs.Costs.{node_cost};
 ghost use Rattle.slh_trees.specs.Merkle.{merkle, merkle_auth_path, node_bytes};
 
-use crate::leaves::{Leaves, MAX_ROW, ROW_HEIGHT, leaf_numbers, number_from};
+use crate::leaves::{Leaves, MAX_ROW, ROW_HEIGHT, leaf_numbers, number_from, write_leaves};
 use crate::node::{NodeAddress, sibling};
 use hybrid_array::ArraySize;
+use slh_core::equal_parts::{part_of, put_part};
 use slh_core::nbytes::NBytes;
 use slh_core::params::{MAX_N, WotsParams, chain_sizes};
-use slh_core::equal_parts::{part_of, put_part};
 use slh_core::steps::Steps;
 use std::sync::ledger::Ledger;
 
@@ -165,7 +165,7 @@ pub(crate) fn subtree<P: WotsParams, A: Leaves<P> + Drop, L: Ledger>(
     let mut buffer = [0u8; MAX_ROW * MAX_N];
     let nodes = &mut buffer[..row_size::<P>(count)];
     let first = index_below(i, z, 0);
-    adrs.leaves(sk_seed, first, count, keyed, nodes, steps);
+    write_leaves::<P, A, L>(sk_seed, first, count, keyed, adrs, nodes, steps);
     hash_up::<P, A, L>(nodes, i, z, keyed, adrs, steps);
     part_of::<P::N>(nodes, 0)
 }

@@ -9,9 +9,9 @@ use crate::leaves::{Leaves, ROW_HEIGHT, leaf_numbers};
 use crate::node::{NodeAddress, parent, sibling};
 use crate::subtree::{index_below, subtree};
 use hybrid_array::ArraySize;
+use slh_core::equal_parts::put_part;
 use slh_core::nbytes::NBytes;
 use slh_core::params::{WotsParams, chain_sizes};
-use slh_core::equal_parts::put_part;
 use slh_core::steps::Steps;
 use std::sync::ledger::Ledger;
 

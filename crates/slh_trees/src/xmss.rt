@@ -15,9 +15,9 @@ use crate::treehash::{treehash, write_auth_path};
 use hybrid_array::ArraySize;
 use slh_core::address::{HashTree, WotsHash};
 use slh_core::digits::{message_digits, no_digits};
+use slh_core::equal_parts::{part_of, put_part};
 use slh_core::nbytes::NBytes;
 use slh_core::params::{MAX_ENDS_LEN, MAX_N, XmssParams, tree_sizes};
-use slh_core::equal_parts::{part_of, put_part};
 use slh_core::steps::Steps;
 use slh_core::wots::{ends_len, wots_pk_from_sig, wots_pk_gen, wots_sign, wots_sign_leaf};
 use std::sync::ledger::Ledger;
@@ -82,33 +82,8 @@ fn leaves_by_eight<P: XmssParams, L: Ledger>(
     }
 }
 
-/// Writes the leaves from index `first` on, one key pair at a time.
-fn leaves_one_by_one<P: XmssParams, L: Ledger>(
-    sk_seed: &NBytes<P::N>,
-    first: u32,
-    count: usize,
-    keyed: &P::Keyed,
-    adrs: &HashTree,
-    out: &mut [u8],
-    steps: &mut Steps<L>,
-)
-    requires inside { first + count ≤ 2 ^ 32 }
-    requires room { length out.old ≡ count * P.N.USIZE }
-    ensures leaves { let K = P.keyed_suite keyed.now in
-        let leaf = wots_pk K sk_seed.now adrs.now.layer_adrs adrs.now.tree_adrs_low in
-        out.new ≡ joined (λ k. leaf (first + k)) count }
-    ensures cost { steps.new ≡ steps.old + count * wots_pk_cost P.WotsSigLen.USIZE }
-{
-    tree_sizes::<P>();
-    let n = P::N::USIZE;
-    for k in 0..count {
-        let at = key_pair_of(adrs, first + k as u32);
-        let leaf = wots_pk_gen::<P, L>(sk_seed, keyed, &at, steps);
-        put_part(out, n, k, leaf.as_slice());
-    }
-}
-
 impl<P: XmssParams> Leaves<P> for HashTree {
+    ghost use Rattle.slh_core.proofs.Chains.{length-wots_pk};
     ghost use Rattle.std.proofs.Common.{rules};
 
     ghost trees = { 1 };
@@ -119,7 +94,25 @@ impl<P: XmssParams> Leaves<P> for HashTree {
 
     ghost leaf_cost = { wots_pk_cost P.WotsSigLen.USIZE };
 
-    fn leaves<L: Ledger>(
+    fn write_eights<L: Ledger>(
+        &self,
+        sk_seed: &NBytes<P::N>,
+        first: u32,
+        groups: usize,
+        keyed: &P::Keyed,
+        out: &mut [u8],
+        steps: &mut Steps<L>,
+    ) {
+        tree_sizes::<P>();
+        let mut store = [0u8; MAX_ENDS_LEN];
+        let sig = &mut store[..ends_len::<P>()];
+        let none = no_digits(P::WotsSigLen::USIZE);
+        leaves_by_eight::<P, L>(
+            sk_seed, first, groups, 0, none, keyed, self, sig, out, steps,
+        );
+    }
+
+    fn write_rest<L: Ledger>(
         &self,
         sk_seed: &NBytes<P::N>,
         first: u32,
@@ -129,21 +122,19 @@ impl<P: XmssParams> Leaves<P> for HashTree {
         steps: &mut Steps<L>,
     ) {
         tree_sizes::<P>();
-        let groups = count / 8;
-        let (eights, rest) = out.split_at_mut(groups * (8 * P::N::USIZE));
-        let mut store = [0u8; MAX_ENDS_LEN];
-        let sig = &mut store[..ends_len::<P>()];
-        let none = no_digits(P::WotsSigLen::USIZE);
-        leaves_by_eight::<P, L>(
-            sk_seed, first, groups, 0, none, keyed, self, sig, eights, steps,
-        );
-        let next = first + 8 * groups as u32;
-        leaves_one_by_one::<P, L>(sk_seed, next, count % 8, keyed, self, rest, steps);
+        let n = P::N::USIZE;
+        for k in 0..count {
+            let at = key_pair_of(self, first + k as u32);
+            let leaf = wots_pk_gen::<P, L>(sk_seed, keyed, &at, steps);
+            put_part(out, n, k, leaf.as_slice());
+        }
     }
 
     ghost height_high = { Prim.search rules };
 
     ghost few = { Prim.search rules };
+
+    ghost leaf_length = { λ K sk a. length-wots_pk K sk a.layer_adrs a.tree_adrs_low };
 }
 
 /// The node with index `node` at a height of the tree of an address (FIPS 205, algorithm 9).

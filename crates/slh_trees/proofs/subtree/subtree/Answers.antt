@@ -10,10 +10,10 @@ index_below-first-requires-clause-fits g c =
     let first = leaf_below_of c.args.i c.args.z g.A.Leaves.height g.A.Leaves.trees 0 c.requires.height c.requires.node (pow_pos c.args.z) in
     omega (arith, first, c.leaf_numbers.ensures.few)
 
-pub leaves-requires-clause-inside : goal.leaves-requires-clause-inside
-leaves-requires-clause-inside g c =
+pub write_leaves-requires-clause-inside : goal.write_leaves-requires-clause-inside
+write_leaves-requires-clause-inside g c =
     let last = leaf_below_of c.args.i c.args.z g.A.Leaves.height g.A.Leaves.trees (2 ^ c.args.z - 1) c.requires.height c.requires.node (omega (arith, pow_pos c.args.z)) in
-    omega (arith, last, pow_pos c.args.z, c.index_below-first.ensures, c.row_len-count.ensures.value)
+    omega (arith, last, pow_pos c.args.z, c.index_below-first.ensures, c.row_len-count.ensures.value, c.leaf_numbers.ensures.few)
 
 pub hash_up-requires-clause-indices : goal.hash_up-requires-clause-indices
 hash_up-requires-clause-indices g c =
@@ -25,16 +25,16 @@ part_of-requires-clause-fits g c =
     let n = g.P.N.ArraySize.USIZE in
     let count = c.row_len-count.result in
     let one : (0 + 1) * n ≤ count * n = mul-le (0 + 1) n count n (omega (arith, pow_pos c.args.z, c.row_len-count.ensures.value)) (omega arith) in
-    omega (arith, one, c.row_size.ensures.value, c.row_size.ensures.small, c.row_len-count.ensures.few, c.leaves.auto.out, c.hash_up.auto.nodes, length-take {A = ℕ}, length-replicate {A = ℕ})
+    omega (arith, one, c.row_size.ensures.value, c.row_size.ensures.small, c.row_len-count.ensures.few, c.write_leaves.auto.out, c.hash_up.auto.nodes, length-take {A = ℕ}, length-replicate {A = ℕ})
 
 pub returns-clause-value : goal.returns-clause-value
 returns-clause-value g c =
     let leaf = g.A.Leaves.leaf (g.P.HashSuite.keyed_suite c.args.keyed.now) c.args.sk_seed.now c.args.adrs.now in
     c.part_of.ensures ∙ c.hash_up.ensures.node leaf (λ k below.
     let place : c.index_below-first.result + k ≡ c.args.i * 2 ^ c.args.z + k = omega (arith, c.index_below-first.ensures) in
-    c.leaves.ensures.each k (rw c.row_len-count.ensures.value below) ∙ ap leaf place)
+    c.write_leaves.ensures.each k (rw c.row_len-count.ensures.value below) ∙ ap leaf place)
 
 pub returns-clause-cost : goal.returns-clause-cost
 returns-clause-cost g c =
-    let made = rw c.row_len-count.ensures.value at c.leaves.ensures.cost in
-    node_cost-leaves c.args.steps.now g.A.Leaves.leaf_cost c.args.z c.leaves.new.steps c.hash_up.new.steps made c.hash_up.ensures.cost
+    let made = rw c.row_len-count.ensures.value at c.write_leaves.ensures.cost in
+    node_cost-leaves c.args.steps.now g.A.Leaves.leaf_cost c.args.z c.write_leaves.new.steps c.hash_up.new.steps made c.hash_up.ensures.cost

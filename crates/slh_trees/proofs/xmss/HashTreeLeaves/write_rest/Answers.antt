@@ -4,7 +4,7 @@ use Rattle.slh_core.proofs.Joins.{joined_more}
 use Rattle.slh_trees.proofs.CostSteps.{one_more}
 use Rattle.slh_trees.proofs.Layers.{part_fits}
 use Rattle.slh_trees.proofs.Rows.{none_joined, whole_front}
-use Rattle.slh_trees.proofs.xmss.leaves_one_by_one.Goals as goal
+use Rattle.slh_trees.proofs.xmss.HashTreeLeaves.write_rest.Goals as goal
 
 pub put_part-requires-clause-fits : goal.put_part-requires-clause-fits
 put_part-requires-clause-fits g c =

@@ -4,7 +4,7 @@ use Rattle.slh_core.specs.Bytes.{joined, part}
 use Rattle.slh_core.specs.Suite.{HasLength}
 use Rattle.slh_core.proofs.Joins.{joined_same, part-joined}
 use Rattle.slh_trees.specs.Fors.{fors_secret, fors_leaf}
-use Rattle.slh_trees.proofs.fors.leaves_in_row.Goals as goal
+use Rattle.slh_trees.proofs.fors.ForsTreeLeaves.write_rest.Goals as goal
 
 pub returns-clause-leaves : goal.returns-clause-leaves
 unfolding fors_leaf fors_secret

@@ -3,7 +3,7 @@ use Rattle.std.proofs.lemmas.Slice.{take-put_mid}
 use Rattle.slh_trees.specs.Fors.{fors_leaf, fors_secret}
 use Rattle.slh_trees.proofs.Layers.{part_fits}
 use Rattle.slh_trees.proofs.Rows.{eights_few, none_joined, rows_joined, whole_front}
-use Rattle.slh_trees.proofs.fors.leaves_by_eight.Goals as goal
+use Rattle.slh_trees.proofs.fors.ForsTreeLeaves.write_eights.Goals as goal
 
 pub overflow_mul-leaves : goal.overflow_mul-leaves
 overflow_mul-leaves g c =
@@ -25,7 +25,7 @@ pub loop-g-preserved : goal.loop-g-preserved
 unfolding fors_leaf fors_secret
 loop-g-preserved g c =
     let K = g.P.HashSuite.keyed_suite c.args.keyed.now in
-    let leaf = fors_leaf K c.args.sk_seed.now c.args.adrs.now.tree_adrs_low c.args.adrs.now.key_pair_adrs in
+    let leaf = fors_leaf K c.args.sk_seed.now c.args.self.now.tree_adrs_low c.args.self.now.key_pair_adrs in
     let at = c.loop-g.g in
     let size = 8 * c.USIZE-size.result in
     let whole : length c.args.out.now ≡ c.args.groups * size = rw c.USIZE-size.ensures c.requires.room in

@@ -1,20 +1,17 @@
 use Rattle.std.proofs.Common.{arith, ◌≡◌, ◌∙◌, ◌+◌, ◌*◌, ◌/◌, ◌%◌, ap}
 use Rattle.slh_core.specs.Bytes.{part}
-use Rattle.slh_core.specs.Costs.{wots_pk_cost}
 use Rattle.slh_core.specs.Suite.{HasLength}
-use Rattle.slh_core.specs.Wots.{wots_pk}
-use Rattle.slh_core.proofs.Chains.{length-wots_pk}
 use Rattle.slh_core.proofs.Joins.{part-joined}
 use Rattle.slh_trees.proofs.CostSteps.{rows_cost}
 use Rattle.slh_trees.proofs.Rows.{eights_fit, in_eights, rows_joined}
-use Rattle.slh_trees.proofs.xmss.HashTreeLeaves.leaves.Goals as goal
+use Rattle.slh_trees.proofs.leaves.write_leaves.Goals as goal
 
 pub split_at_mut-eights-requires : goal.split_at_mut-eights-requires
 split_at_mut-eights-requires g c =
     rw (c.requires.room, c.USIZE.ensures) (eights_fit c.args.count g.P.N.ArraySize.USIZE)
 
-pub leaves_one_by_one-requires-clause-room : goal.leaves_one_by_one-requires-clause-room
-leaves_one_by_one-requires-clause-room g c =
+pub write_rest-requires-clause-room : goal.write_rest-requires-clause-room
+write_rest-requires-clause-room g c =
     let n = g.P.N.ArraySize.USIZE in
     let back = rw c.USIZE.ensures at c.split_at_mut-eights.ensures.back_len in
     let all = in_eights c.args.count (c.args.count / 8) (c.args.count % 8) n (omega arith) in
@@ -23,7 +20,7 @@ leaves_one_by_one-requires-clause-room g c =
 pub returns-clause-cost : goal.returns-clause-cost
 returns-clause-cost g c =
     let count = c.args.count in
-    c.leaves_one_by_one.ensures.cost ∙ rw c.leaves_by_eight.ensures.cost (rows_cost c.args.steps.now (8 * (count / 8)) (count % 8) (wots_pk_cost g.P.WotsSigLen.ArraySize.USIZE) count (omega arith))
+    c.write_rest.ensures.cost ∙ rw c.write_eights.ensures.cost (rows_cost c.args.steps.now (8 * (count / 8)) (count % 8) g.A.Leaves.leaf_cost count (omega arith))
 
 pub returns-clause-each : goal.returns-clause-each
 returns-clause-each g c = λ k below.
@@ -31,11 +28,11 @@ returns-clause-each g c = λ k below.
     let n = g.P.N.ArraySize.USIZE in
     let same = g.met.P.HashSuite.keyed_suite_is c.args.keyed.now in
     let size : K.n ≡ n = ap (λ k. k.n) same in
-    let law : HasLength K.suite K.n = rw same (g.met.P.HashSuite.lengths c.tree_sizes.ensures.n_high) in
-    let sk = c.args.sk_seed.now in
-    let j = c.args.self.now.layer_adrs in
-    let t = c.args.self.now.tree_adrs_low in
+    let law : HasLength K.suite K.n = rw same (g.met.P.HashSuite.lengths c.chain_sizes.ensures.n_high) in
     let count = c.args.count in
     let first = c.args.first in
-    ap (λ xs. part n xs k) (rw (c.leaves_by_eight.ensures.leaves, c.leaves_one_by_one.ensures.leaves) (rows_joined (wots_pk K sk j t) first (8 * (count / 8)) (count % 8) count (omega arith)))
-    ∙ part-joined (λ q. wots_pk K sk j t (first + q)) n count k (λ q. length-wots_pk K sk j t (first + q) law ∙ size) below
+    let sk = c.args.sk_seed.now in
+    let at = c.args.adrs.now in
+    let leaf = g.A.Leaves.leaf K sk at in
+    ap (λ xs. part n xs k) (rw (c.write_eights.ensures.leaves, c.write_rest.ensures.leaves) (rows_joined leaf first (8 * (count / 8)) (count % 8) count (omega arith)))
+    ∙ part-joined (λ q. leaf (first + q)) n count k (λ q. g.met.A.Leaves.leaf_length K sk at (first + q) law ∙ size) below
