@@ -2,6 +2,7 @@
 -- up a last node that has no other beside it.
 use Rattle.std.specs.Prelude.{ℕ, zero, suc, ◌+◌, ◌-◌, ◌/◌, ◌%◌, ◌==◌, List, [], ◌∷◌, ◌++◌, length}
 use Rattle.std.specs.Prelude.{Bool, nat_lt, if◌then◌else◌}
+use Rattle.slh_trees.specs.Merkle.{sibling_of}
 use Rattle.slh_batch.specs.Tree.{batch_node}
 
 -- the level above a level
@@ -19,10 +20,6 @@ unfoldable pub levels_within : ℕ → List (List ℕ) → List (List ℕ)
 levels_within zero q = q
 levels_within (suc z) q = if nat_lt 1 (length q) then q ++ levels_within z (pair_up q) else q
 
--- the index beside i
-abbrev pub beside : ℕ → ℕ
-beside i = if i % 2 == 0 then i + 1 else i - 1
-
 -- whether there is a sibling beside node i of n, and whether it is on the left
 abbrev pub side_here : ℕ → ℕ → List Bool
-side_here i n = if nat_lt (beside i) n then (i % 2 == 1) ∷ [] else []
+side_here i n = if nat_lt (sibling_of i) n then (i % 2 == 1) ∷ [] else []

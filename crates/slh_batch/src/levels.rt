@@ -7,7 +7,8 @@ ghost use Rattle.slh_batch.specs.Sealing.{AreLevels};
 ghost use Rattle.slh_batch.specs.Tree.{batch_path, batch_tree};
 
 use crate::hashing::{DIGEST_LEN, node_digest};
-use crate::sides::{MAX_HEIGHT, MAX_MESSAGES, beside};
+use crate::sides::{MAX_HEIGHT, MAX_MESSAGES};
+use slh_trees::node::sibling;
 use std::alloc::AllocError;
 use std::marker::Model;
 
@@ -70,9 +71,9 @@ fn push_path(
         if count == 1 {
             break;
         }
-        let sibling = beside(at);
-        if sibling < count {
-            out.extend_from_slice(&nodes[start + sibling as usize])?;
+        let beside = sibling(at);
+        if beside < count {
+            out.extend_from_slice(&nodes[start + beside as usize])?;
         }
         start += count as usize;
         at /= 2;

@@ -1,8 +1,8 @@
 //! On which sides the siblings stand on the way up from a leaf.
 ghost use Rattle.std.specs.Prelude.{◌≡◌, ◌<◌, ◌≤◌, length, slice_index_or, false};
 ghost use Rattle.slh_batch.specs.Climb.{batch_sides};
-ghost use Rattle.slh_batch.specs.Levels.{beside};
 
+use slh_trees::node::sibling;
 use std::marker::Model;
 
 /// The largest number of messages of a batch, 2^20.
@@ -47,15 +47,6 @@ impl Sides {
     }
 }
 
-/// The index beside `i`.
-#[inline]
-pub(crate) fn beside(i: u32) -> u32
-    requires { i < MAX_MESSAGES }
-    ensures { result ≡ beside i }
-{
-    if i % 2 == 0 { i + 1 } else { i - 1 }
-}
-
 /// The sides on the way up from leaf `i` of `n`.
 pub(crate) fn sides_of(i: u32, n: u32) -> Sides
     requires low { i < n }
@@ -66,7 +57,7 @@ pub(crate) fn sides_of(i: u32, n: u32) -> Sides
     let mut len = 0;
     let (mut at, mut count) = (i, n);
     'each_height: for _height in 0..MAX_HEIGHT {
-        if beside(at) < count {
+        if sibling(at) < count {
             left[len] = at % 2 == 1;
             len += 1;
         }
