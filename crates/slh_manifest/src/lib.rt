@@ -62,4 +62,4 @@ pub use entry::{Entry, MAX_ENTRIES, MAX_LEN, MAX_NAME, entry_name};
 pub use error::{BuildError, CheckError};
 pub use line_serve::Failed;
 pub use memory::MemStore;
-pub use store::Store;
+pub use store::{Store, copy_from};

@@ -1,14 +1,14 @@
 //! A store in memory. It numbers its reads from 0, and fails at those whose numbers it was given,
 //! so that a test can try each fault in turn.
-ghost use Rattle.std.specs.Prelude.{◌≡◌, ◌↔◌, ◌+◌, ◌^◌, ◌≤◌, Some, min, Contains, IsErr, is_ok};
-ghost use Rattle.std.specs.Prelude.{OnOk, OnErr, if◌then◌else◌, length};
+ghost use Rattle.std.specs.Prelude.{◌≡◌, ◌↔◌, ◌+◌, ◌^◌, Some, min, Contains, IsErr, is_ok};
+ghost use Rattle.std.specs.Prelude.{OnOk, OnErr, if◌then◌else◌};
 ghost use Rattle.std.specs.FinMap as map;
 ghost use Rattle.line_serve.specs.Causes.{HasCause};
 ghost use Rattle.line_serve.specs.Memory.{one_more};
-ghost use Rattle.slh_manifest.specs.Files.{Reads, ReadsFrom, ReadsWithin};
+ghost use Rattle.slh_manifest.specs.Files.{Reads, ReadsWithin};
 ghost use Rattle.slh_manifest.specs.Memory.{store_faults, store_files, store_fails, store_number};
 
-use crate::store::Store;
+use crate::store::{Store, copy_from};
 use line_serve::{ByteString, Failed, MemSource, Source};
 use std::alloc::{AllocError, Global};
 use std::collections::BTreeMap;
@@ -56,20 +56,6 @@ impl MemStore {
             Err(_) => Err(AllocError),
         }
     }
-}
-
-// Copies the bytes from a place on, as many as fit, and says how many.
-fn copy_from(bytes: &[u8], at: u64, buf: &mut [u8]) -> usize
-    ensures bound { result ≤ length buf.new }
-    ensures reads { ReadsFrom (Some bytes.now) at (Some result) buf.new }
-{
-    if at >= bytes.len() as u64 {
-        return 0;
-    }
-    let rest = &bytes[at as usize..];
-    let count = rest.len().min(buf.len());
-    buf[..count].copy_from_slice(&rest[..count]);
-    count
 }
 
 impl Store for MemStore {

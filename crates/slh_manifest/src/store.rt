@@ -1,7 +1,7 @@
 //! Where bytes stand under names.
-ghost use Rattle.std.specs.Prelude.{◌≡◌, Option, ℕ};
+ghost use Rattle.std.specs.Prelude.{◌≡◌, ◌≤◌, Option, Some, ℕ, length};
 ghost use Rattle.line_serve.specs.Causes.{HasCause};
-ghost use Rattle.slh_manifest.specs.Files.{Files, Reads, ReadsWithin};
+ghost use Rattle.slh_manifest.specs.Files.{Files, Reads, ReadsFrom, ReadsWithin};
 
 use line_serve::Failed;
 
@@ -21,4 +21,19 @@ pub trait Store {
         ensures bytes { Reads (files self.old) name.now at result buf.new }
         ensures kept { files self.new ≡ files self.old }
         ensures cause { HasCause (faults self.old) (faults self.new) result };
+}
+
+/// Copies the bytes from a place on, as many as fit, and says how many: what [`Store::read`] answers
+/// for a name that has these bytes.
+pub fn copy_from(bytes: &[u8], at: u64, buf: &mut [u8]) -> usize
+    ensures bound { result ≤ length buf.new }
+    ensures reads { ReadsFrom (Some bytes.now) at (Some result) buf.new }
+{
+    if at >= bytes.len() as u64 {
+        return 0;
+    }
+    let rest = &bytes[at as usize..];
+    let count = rest.len().min(buf.len());
+    buf[..count].copy_from_slice(&rest[..count]);
+    count
 }
