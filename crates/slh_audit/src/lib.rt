@@ -41,9 +41,11 @@ mod forest;
 pub mod laws;
 mod layer;
 mod made;
-mod places;
 mod search;
-mod sizes;
+mod showing;
+mod size_checks;
 
-pub use calls::{audit, audit_framed, check_evidence, check_evidence_framed};
+pub use calls::{
+    audit, audit_framed, check_evidence, check_evidence_framed, hash_audit, hash_check_evidence,
+};
 pub use evidence::{AuditError, Evidence, Verdict};

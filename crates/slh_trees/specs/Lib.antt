@@ -9,5 +9,4 @@ pub mod Treehash
 pub mod ToySuite
 pub mod Keys
 pub mod Signing
-pub mod Frame
 pub mod Refusals
