@@ -9,5 +9,5 @@ returns-in-Ok-clause-genuine g c =
     let scheme = g.met.P.ForsParams.scheme_is in
     let n_high = g.met.P.WotsParams.valid_wots.n_high in
     let message = mode_frame c.args.mode c.args.ctx.now c.args.msg.now in
-    let answered = rw (scheme, c.in-Ok.ensures.sig, c.frame_head-head.ensures) at c.audit_message.ensures in
+    let answered = rw (scheme, c.in-Ok.ensures.sig, c.head-head.ensures, c.ctx-ctx.ensures, c.tail-tail.ensures, c.new-frame.ensures.head, c.new-frame.ensures.ctx, c.new-frame.ensures.tail) at c.audit_message.ensures in
     rw scheme (if_genuine Z c.args.key.now message c.args.sig.now c.audit_message.result (g.met.P.HashSuite.lengths n_high) g.met.P.HashSuite.value_bytes n_high g.met.P.HypertreeParams.valid_hypertree.layers g.met.P.XmssParams.valid_xmss.height_low (rw scheme at c.in-Ok.ensures.whole) answered)
