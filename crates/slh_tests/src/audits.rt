@@ -2,8 +2,9 @@
 // hand.
 use crate::trees::is_root;
 use crate::worked::{KEY, MESSAGE, SIGNATURE, changed, signing_key};
-use slh_audit::{AuditError, Evidence, Verdict, audit, check_evidence};
-use slh_audit::{hash_audit, hash_check_evidence};
+use slh_audit::{
+    AuditError, Evidence, Verdict, audit, check_evidence, hash_audit, hash_check_evidence,
+};
 use slh_dsa::{Error, Mode, Signature};
 use slh_trees::toy::Toy;
 use std::alloc::Global;
