@@ -9,7 +9,7 @@ use Rattle.slh_core.specs.Digits.{wots_digits}
 use Rattle.slh_trees.specs.Checking.{checked_node, checked_message, checked_root, fors_pk_from_sig}
 use Rattle.slh_trees.specs.Checking.{forest_size, signature_size}
 use Rattle.slh_trees.specs.Fors.{fors_secret, fors_node as project_fors_node, fors_sig}
-use Rattle.slh_trees.specs.Frame.{frame}
+use Rattle.slh_frames.specs.Frames.{frame}
 use Rattle.slh_trees.specs.Hypertree.{layer_size, ht_sig}
 use Rattle.slh_trees.specs.Keys.{signing_key_bytes, top_root}
 use Rattle.slh_trees.specs.Signing.{signature_of}

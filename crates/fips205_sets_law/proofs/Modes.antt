@@ -7,11 +7,11 @@ use Rattle.std.specs.Str.{bytes_eq}
 use Rattle.slh_core.specs.Bytes.{part}
 use Rattle.slh_core.specs.Parameters.{Scheme}
 use Rattle.slh_dsa.specs.Calls.{hash_verify_error, opt_rand_refusal, root_refusal, sign_input_refusal, verify_refusal}
-use Rattle.slh_dsa.specs.Frames.{mode_frame, sha256_identifier, sha512_identifier}
+use Rattle.slh_frames.specs.Frames.{mode_frame, sha256_identifier, sha512_identifier}
 use Rattle.slh_dsa.specs.declared.error.Error.{Error}
 use Rattle.slh_dsa.specs.declared.error.Error.TheVariants.{Length, ContextTooLong, MessageTooLong}
-use Rattle.slh_dsa.specs.declared.frame.Mode.{Mode}
-use Rattle.slh_dsa.specs.declared.frame.Mode.TheVariants.{Pure, Sha256, Sha512}
+use Rattle.slh_frames.specs.declared.frame.Mode.{Mode}
+use Rattle.slh_frames.specs.declared.frame.Mode.TheVariants.{Pure, Sha256, Sha512}
 use Rattle.slh_trees.proofs.Refusals.{first_none, at_most, passed}
 use Rattle.slh_trees.specs.Checking.{checked_root, signature_size}
 use Rattle.slh_trees.specs.Signing.{signature_of}

@@ -6,9 +6,9 @@ use Rattle.sha256_lanes.specs.Sha256.{sha256}
 use Rattle.sha2.specs.Sha512.{sha512}
 use Rattle.slh_core.specs.Parameters.{Scheme}
 use Rattle.slh_dsa.specs.Calls.{hash_verify_error, sign_input_refusal}
-use Rattle.slh_dsa.specs.Frames.{mode_frame}
+use Rattle.slh_frames.specs.Frames.{mode_frame}
 use Rattle.slh_dsa.specs.declared.error.Error.TheVariants.{ContextTooLong}
-use Rattle.slh_dsa.specs.declared.frame.Mode.{Mode}
+use Rattle.slh_frames.specs.declared.frame.Mode.{Mode}
 use Rattle.slh_hash.specs.HmacSha512.{hmac_sha512}
 use Rattle.slh_hash.specs.Sets.{sha2_128s, sha2_128f, sha2_192s, sha2_192f, sha2_256s, sha2_256f}
 use Rattle.slh_trees.specs.Checking.{checked_root, signature_size}

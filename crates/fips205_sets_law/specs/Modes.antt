@@ -3,8 +3,8 @@ use Rattle.std.specs.Prelude.{ℕ, List, Option}
 use Rattle.sha256_lanes.specs.Sha256.{sha256}
 use Rattle.sha2.specs.Sha512.{sha512}
 use Rattle.slh_core.specs.Bytes.{part}
-use Rattle.slh_dsa.specs.declared.frame.Mode.{Mode}
-use Rattle.slh_dsa.specs.declared.frame.Mode.TheVariants.{Pure, Sha256, Sha512}
+use Rattle.slh_frames.specs.declared.frame.Mode.{Mode}
+use Rattle.slh_frames.specs.declared.frame.Mode.TheVariants.{Pure, Sha256, Sha512}
 use Rattle.fips205_law.specs.External.{PreHash, sha256_oid, sha512_oid}
 use Rattle.fips205_law.specs.External.{slh_sign, slh_verify, hash_slh_sign, hash_slh_verify}
 use Rattle.fips205_law.specs.Law.{public_key_of}

@@ -14,10 +14,12 @@ use Rattle.slh_audit.specs.Places.{first_evidence}
 use Rattle.slh_core.specs.Bytes.{part}
 use Rattle.slh_core.specs.Parameters.{Scheme}
 use Rattle.slh_trees.specs.Checking.{checked_root, signature_size}
-use Rattle.slh_trees.specs.Frame.{frame}
+use Rattle.slh_frames.specs.Frames.{frame, mode_frame}
+use Rattle.slh_frames.specs.declared.frame.Mode.{Mode}
 use Rattle.slh_trees.specs.Keys.{top_root}
 use Rattle.slh_trees.specs.Signing.{digest_signature, signature_with}
 use Rattle.slh_trees.specs.Refusals.{context_refusal, first_refusal, length_refusal, message_refusal}
+use Rattle.slh_trees.specs.Refusals.{unless_refused}
 
 -- the first refusal by size, where there is one
 abbrev pub size_refusal : Scheme → List ℕ → List ℕ → List ℕ → List ℕ → Option AuditError
@@ -63,12 +65,6 @@ abbrev pub IsGenuineExactly : Scheme → List ℕ → List ℕ → List ℕ → 
 IsGenuineExactly Z key message sig given =
     (given ≡ Genuine) ↔ (sig ≡ signature_with Z key (take Z.n sig) message)
 
--- an answer, unless there is a refusal
-abbrev pub unless_refused : {T : Type 0} → Option AuditError → Result T AuditError
-    → Result T AuditError
-unless_refused None answer = answer
-unless_refused (Some refusal) answer = Err refusal
-
 -- the refusals where the signed message is given whole, which are those of the lengths of the key
 -- and of the signature
 abbrev pub length_refusals : Scheme → List ℕ → List ℕ → Option AuditError
@@ -95,3 +91,16 @@ abbrev pub check_answer : Scheme → List ℕ → List ℕ → List ℕ → List
 check_answer Z key context message sig e =
     unless_refused (size_refusal Z key context message sig)
     (Ok (shows (dispute_of Z key (frame context message) sig) e))
+
+-- the same for what was signed in a mode
+abbrev pub hash_audit_answer : Scheme → Mode → List ℕ → List ℕ → List ℕ → List ℕ
+    → Result Verdict AuditError
+hash_audit_answer Z mode key context message sig =
+    unless_refused (size_refusal Z key context message sig)
+    (message_audit Z key (mode_frame mode context message) sig)
+
+abbrev pub hash_check_answer : Scheme → Mode → List ℕ → List ℕ → List ℕ → List ℕ → Evidence
+    → Result Bool AuditError
+hash_check_answer Z mode key context message sig e =
+    unless_refused (size_refusal Z key context message sig)
+    (Ok (shows (dispute_of Z key (mode_frame mode context message) sig) e))

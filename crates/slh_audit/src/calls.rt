@@ -5,25 +5,26 @@ ghost use Rattle.slh_audit.specs.Evidence.{dispute, dispute_of, shows};
 ghost use Rattle.slh_audit.specs.Verdicts.{IsGenuineExactly, audit_answer, check_answer};
 ghost use Rattle.slh_audit.specs.Verdicts.{message_audit};
 ghost use Rattle.slh_audit.specs.Verdicts.{framed_audit_answer, framed_check_answer};
+ghost use Rattle.slh_audit.specs.Verdicts.{hash_audit_answer, hash_check_answer};
 ghost use Rattle.slh_audit.specs.Verdicts.{digest_verdict as spec_digest_verdict};
 ghost use Rattle.slh_audit.specs.Verdicts.{foreign_by as spec_foreign_by};
 ghost use Rattle.slh_core.specs.Bytes.{part};
 ghost use Rattle.slh_core.specs.Steps.{IsFresh};
 ghost use Rattle.slh_trees.specs.Checking.{forest_of, layers_of, signature_size};
-ghost use Rattle.slh_trees.specs.Frame.{frame};
+ghost use Rattle.slh_frames.specs.Frames.{frame, mode_frame};
 ghost use Rattle.slh_trees.specs.MessageDigest.{split_digest as spec_split_digest};
 
 use crate::dispute::Dispute;
 use crate::evidence::{AuditError, Evidence, Verdict};
 use crate::layer::same_value;
-use crate::sizes::{check_lengths, check_sizes};
+use crate::size_checks::{check_lengths, check_sizes};
 use hybrid_array::ArraySize;
 use slh_core::nbytes::NBytes;
 use slh_core::params::{ForsParams, MAX_DIGEST_LEN, MAX_MESSAGE_LEN, forest_sizes};
 use slh_core::equal_parts::part_of;
 use slh_core::steps::Steps;
+use slh_frames::{Frame, Mode};
 use slh_trees::check::{root_for_digest, write_digest};
-use slh_trees::sizes::frame_head;
 use slh_trees::{SigView, split_digest, top_root};
 use std::marker::Brand;
 use std::sync::ledger::{Blank, Ledger};
@@ -193,10 +194,26 @@ pub fn audit<P: ForsParams>(
     ensures genuine { let message = frame ctx.now msg.now in
         IfOk result (λ verdict. IsGenuineExactly P.scheme key.now message sig.now verdict) }
 {
+    hash_audit::<P>(Mode::Pure, key, ctx, msg, sig)
+}
+
+/// As `audit`, of what was signed in a mode: of the message, or of its digest.
+pub fn hash_audit<P: ForsParams>(
+    mode: Mode,
+    key: &[u8],
+    ctx: &[u8],
+    msg: &[u8],
+    sig: &[u8],
+) -> Result<Verdict, AuditError>
+    ensures value { result ≡ hash_audit_answer P.scheme mode key.now ctx.now msg.now sig.now }
+    ensures genuine { let message = mode_frame mode ctx.now msg.now in
+        IfOk result (λ verdict. IsGenuineExactly P.scheme key.now message sig.now verdict) }
+{
     match check_sizes::<P>(key, ctx, msg, sig) {
         Ok(sig) => {
-            let head = frame_head(ctx);
-            audit_message::<P, Brand>(key, &head, ctx, msg, &sig, Blank::new(1))
+            let frame = Frame::new(mode, ctx, msg);
+            let (head, ctx, tail) = (frame.head(), frame.ctx(), frame.tail());
+            audit_message::<P, Brand>(key, head, ctx, tail, &sig, Blank::new(1))
         }
         Err(refusal) => Err(refusal),
     }
@@ -214,18 +231,34 @@ pub fn check_evidence<P: ForsParams>(
 ) -> Result<bool, AuditError>
     ensures { result ≡ check_answer P.scheme key.now ctx.now msg.now sig.now evidence.now }
 {
+    hash_check_evidence::<P>(Mode::Pure, key, ctx, msg, sig, evidence)
+}
+
+/// As `check_evidence`, of what was signed in a mode.
+pub fn hash_check_evidence<P: ForsParams>(
+    mode: Mode,
+    key: &[u8],
+    ctx: &[u8],
+    msg: &[u8],
+    sig: &[u8],
+    evidence: &Evidence,
+) -> Result<bool, AuditError>
+    ensures { let e = evidence.now in
+        result ≡ hash_check_answer P.scheme mode key.now ctx.now msg.now sig.now e }
+{
     match check_sizes::<P>(key, ctx, msg, sig) {
         Ok(sig) => {
-            let head = frame_head(ctx);
+            let frame = Frame::new(mode, ctx, msg);
+            let (head, ctx, tail) = (frame.head(), frame.ctx(), frame.tail());
             let place = *evidence;
-            Ok(check_message::<P, Brand>(key, &head, ctx, msg, &sig, place, Blank::new(1)))
+            Ok(check_message::<P, Brand>(key, head, ctx, tail, &sig, place, Blank::new(1)))
         }
         Err(refusal) => Err(refusal),
     }
 }
 
-/// As `audit`, of a signature of the message that `head`, `ctx` and `msg` joined are, as
-/// `slh_dsa`'s frames have them. `Length`, `KeyMismatch`, `Invalid`.
+/// As `audit`, of a signature of the message that `head`, `ctx` and `msg` joined are, as a `Frame`
+/// has them. `Length`, `KeyMismatch`, `Invalid`.
 pub fn audit_framed<P: ForsParams>(
     key: &[u8],
     head: &[u8],
@@ -245,8 +278,8 @@ pub fn audit_framed<P: ForsParams>(
     }
 }
 
-/// As `check_evidence`, of a signature of the message that `head`, `ctx` and `msg` joined are, as
-/// `slh_dsa`'s frames have them. `Length`.
+/// As `check_evidence`, of a signature of the message that `head`, `ctx` and `msg` joined are, as a
+/// `Frame` has them. `Length`.
 pub fn check_evidence_framed<P: ForsParams>(
     key: &[u8],
     head: &[u8],

@@ -29,8 +29,9 @@
 //!
 //! Where byte 9 of the key's own signature is 0x48 in place of 0x49, the key accepts it, and the
 //! verdict is `Foreign` with [`Evidence::ChainStep`]: a value that the key doesn't make, from which
-//! a step of the chain leads where it leads from the key's. Each refusal comes for the cause that
-//! its variant of [`AuditError`] names, the first in the order of the variants.
+//! a step of the chain leads where it leads from the key's. [`hash_audit`] and
+//! [`hash_check_evidence`] do the same of what was signed in a mode. Each refusal comes for the
+//! cause that its variant of [`AuditError`] names, the first in the order of the variants.
 #![tactic(auto)]
 
 mod calls;
@@ -41,9 +42,11 @@ mod forest;
 pub mod laws;
 mod layer;
 mod made;
-mod places;
 mod search;
-mod sizes;
+mod showing;
+mod size_checks;
 
-pub use calls::{audit, audit_framed, check_evidence, check_evidence_framed};
+pub use calls::{
+    audit, audit_framed, check_evidence, check_evidence_framed, hash_audit, hash_check_evidence,
+};
 pub use evidence::{AuditError, Evidence, Verdict};

@@ -1,7 +1,7 @@
 //! Batches of messages under one signature.
 ghost use Rattle.std.specs.Prelude.{◌≡◌, ◌++◌, ◌∷◌, [], length, IfErr, IfOk, OnErr, OnOk};
 ghost use Rattle.std.specs.Option.{option_copied, ForSome};
-ghost use Rattle.slh_trees.specs.Frame.{frame};
+ghost use Rattle.slh_frames.specs.Frames.{frame};
 ghost use Rattle.slh_trees.specs.Signing.{signature_of};
 ghost use Rattle.slh_trees.specs.Refusals.{RefusedExactly, RefusedOrNoMemory};
 ghost use Rattle.slh_batch.specs.Calls.{push_refusal};
@@ -18,7 +18,7 @@ use crate::sealed::Sealed;
 use crate::sides::MAX_MESSAGES;
 use hybrid_array::ArraySize;
 use slh_dsa::{ParameterSet, Signature, SigningKey, check_opt_rand};
-use slh_trees::sizes::MAX_MESSAGE;
+use slh_frames::MAX_MESSAGE;
 use std::alloc::Global;
 use std::marker::Model;
 

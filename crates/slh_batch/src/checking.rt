@@ -2,7 +2,7 @@
 ghost use Rattle.std.specs.Prelude.{◌≡◌, ◌≤◌, ◌++◌, length, if◌then◌else◌, None, Some};
 ghost use Rattle.slh_core.specs.Bytes.{big_endian};
 ghost use Rattle.slh_dsa.specs.Calls.{is_valid};
-ghost use Rattle.slh_dsa.specs.declared.frame.Mode.TheVariants.{Pure};
+ghost use Rattle.slh_frames.specs.declared.frame.Mode.TheVariants.{Pure};
 ghost use Rattle.slh_trees.specs.Checking.{signature_size};
 ghost use Rattle.slh_trees.specs.Refusals.{RefusedExactly};
 ghost use Rattle.slh_batch.specs.Calls.{accept_error};
@@ -14,7 +14,7 @@ use crate::error::ReceiptError;
 use crate::hashing::{DIGEST_LEN, leaf_digest};
 use crate::parts::parts_of;
 use slh_dsa::{Mode, ParameterSet, VerifyingKey};
-use slh_trees::sizes::MAX_MESSAGE;
+use slh_frames::MAX_MESSAGE;
 
 /// The context under which the root of a batch is signed.
 pub(crate) const CONTEXT: &[u8] = b"slh-batch";

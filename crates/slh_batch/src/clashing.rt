@@ -11,7 +11,7 @@ use crate::hashing::{DIGEST_LEN, leaf_digest};
 use crate::parts::parts_of;
 use crate::sides::Sides;
 use slh_dsa::ParameterSet;
-use slh_trees::sizes::MAX_MESSAGE;
+use slh_frames::MAX_MESSAGE;
 
 // Whether a node and its sibling are another node and its sibling.
 fn are_same(a: &[u8; DIGEST_LEN], sibling_a: &[u8], b: &[u8; DIGEST_LEN], sibling_b: &[u8]) -> bool

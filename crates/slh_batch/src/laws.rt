@@ -4,7 +4,7 @@ ghost use Rattle.std.specs.Prelude.{◌≡◌, ◌≢◌, ℕ, ◌+◌, ◌-◌,
 ghost use Rattle.std.specs.Prelude.{length, take, drop, map, slice_index_or, true, false};
 ghost use Rattle.std.specs.Prelude.{Option, None, Some};
 ghost use Rattle.slh_core.specs.Parameters.{Scheme};
-ghost use Rattle.slh_trees.specs.Frame.{frame};
+ghost use Rattle.slh_frames.specs.Frames.{frame};
 ghost use Rattle.slh_trees.specs.Keys.{IsTrueKey};
 ghost use Rattle.slh_trees.specs.Signing.{signature_of};
 ghost use Rattle.slh_batch.specs.Calls.{accept_error, clash_height};

@@ -7,7 +7,7 @@ use Rattle.std.specs.Prelude.{if◌then◌else◌}
 use Rattle.slh_core.specs.Parameters.{Scheme}
 use Rattle.slh_trees.specs.Refusals.{first_refusal}
 use Rattle.slh_dsa.specs.Calls.{is_valid}
-use Rattle.slh_dsa.specs.declared.frame.Mode.TheVariants.{Pure}
+use Rattle.slh_frames.specs.declared.frame.Mode.TheVariants.{Pure}
 use Rattle.slh_chain.specs.Links.{after_link, body_of, chain_context, has_form}
 use Rattle.slh_chain.specs.Links.{link_depth, link_signature, link_subject}
 use Rattle.slh_chain.specs.declared.error.ChainError.{ChainError}

@@ -3,7 +3,7 @@ ghost use Rattle.std.specs.Prelude.{◌≡◌, ◌↔◌, ◌+◌, ◌*◌, ◌^
 ghost use Rattle.std.specs.Prelude.{IfOk, IfSome, IsSome, IsTrue};
 ghost use Rattle.std.specs.Option.{option_copied, ForSome};
 ghost use Rattle.slh_trees.specs.Checking.{signature_size};
-ghost use Rattle.slh_trees.specs.Frame.{frame};
+ghost use Rattle.slh_frames.specs.Frames.{frame};
 ghost use Rattle.slh_trees.specs.Signing.{signature_of};
 ghost use Rattle.slh_trees.specs.Refusals.{RefusedExactly, RefusedOrNoMemory};
 ghost use Rattle.slh_dsa.specs.Calls.{IsSignable};

@@ -4,7 +4,7 @@ ghost use Rattle.std.specs.Prelude.{IfOk, IfErr, OnOk, Ok, Err};
 ghost use Rattle.slh_trees.specs.Checking.{signature_size};
 ghost use Rattle.slh_trees.specs.Refusals.{RefusedExactly};
 ghost use Rattle.slh_dsa.specs.Calls.{is_valid};
-ghost use Rattle.slh_dsa.specs.declared.frame.Mode.TheVariants.{Pure};
+ghost use Rattle.slh_frames.specs.declared.frame.Mode.TheVariants.{Pure};
 ghost use Rattle.slh_chain.specs.Links.{after_link, chain_context, link_depth, link_subject};
 ghost use Rattle.slh_chain.specs.Walks.{Place, link_fault, walk_answer};
 

@@ -10,8 +10,8 @@ use Rattle.slh_core.specs.Parameters.{Scheme}
 use Rattle.slh_core.specs.Suite.{HasLength}
 use Rattle.slh_dsa.proofs.KeyParts.{part_first, part_later, part_only, key_parts}
 use Rattle.slh_dsa.specs.Calls.{hash_verify_error}
-use Rattle.slh_dsa.specs.Frames.{mode_frame}
-use Rattle.slh_dsa.specs.declared.frame.Mode.{Mode}
+use Rattle.slh_frames.specs.Frames.{mode_frame}
+use Rattle.slh_frames.specs.declared.frame.Mode.{Mode}
 use Rattle.slh_trees.proofs.Signatures.{checked_root-signature, length-digest_signature}
 use Rattle.slh_trees.specs.Checking.{checked_root, signature_size}
 use Rattle.slh_trees.specs.Keys.{IsTrueKey, top_root}

@@ -1,4 +1,3 @@
 mod KeyParts
 mod Accepted
-mod FrameParts
 pub mod Equality

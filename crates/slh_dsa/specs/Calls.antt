@@ -10,12 +10,12 @@ use Rattle.slh_trees.specs.Checking.{checked_root, signature_size}
 use Rattle.slh_trees.specs.Keys.{IsTrueKey, signing_key_bytes}
 use Rattle.slh_trees.specs.Refusals.{RefusedExactly, context_refusal, first_refusal, length_refusal}
 use Rattle.slh_trees.specs.Refusals.{message_refusal, randomizer_refusal}
-use Rattle.slh_dsa.specs.Frames.{mode_frame}
+use Rattle.slh_frames.specs.Frames.{mode_frame}
 use Rattle.slh_dsa.specs.declared.error.Error.{Error}
 use Rattle.slh_dsa.specs.declared.error.Error.TheVariants.{Length, ContextTooLong, RandomizerLength}
 use Rattle.slh_dsa.specs.declared.error.Error.TheVariants.{MessageTooLong, Invalid}
-use Rattle.slh_dsa.specs.declared.frame.Mode.{Mode}
-use Rattle.slh_dsa.specs.declared.frame.Mode.TheVariants.{Pure}
+use Rattle.slh_frames.specs.declared.frame.Mode.{Mode}
+use Rattle.slh_frames.specs.declared.frame.Mode.TheVariants.{Pure}
 
 -- opt_rand has n bytes where it is given
 abbrev pub opt_rand_refusal : Scheme → Option (List ℕ) → Option Error

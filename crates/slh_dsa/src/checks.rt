@@ -11,7 +11,7 @@ use crate::error::Error;
 use crate::parameter_set::ParameterSet;
 use hybrid_array::{Array, ArraySize};
 use slh_core::params::chain_sizes;
-use slh_trees::sizes::{MAX_CONTEXT, MAX_MESSAGE};
+use slh_frames::{MAX_CONTEXT, MAX_MESSAGE};
 use std::alloc::{AllocError, Global};
 
 /// `ContextTooLong` for a context of more than 255 bytes.

@@ -34,7 +34,6 @@
 mod checks;
 pub mod clones;
 mod error;
-mod frame;
 pub mod laws;
 mod parameter_set;
 mod sets;
@@ -45,9 +44,9 @@ mod verifying_key;
 
 pub use checks::check_opt_rand;
 pub use error::Error;
-pub use frame::{Frame, Mode};
 pub use parameter_set::ParameterSet;
 pub use signature::Signature;
 pub use signing_key::SigningKey;
+pub use slh_frames::{Frame, Mode};
 pub use slh_hash::{Sha2_128f, Sha2_128s, Sha2_192f, Sha2_192s, Sha2_256f, Sha2_256s};
 pub use verifying_key::VerifyingKey;

@@ -3,7 +3,7 @@
 ghost use Rattle.std.specs.Prelude.{◌≡◌, ◌*◌, ◌^◌, ◌≤◌, [], None, Some, length, drop, unwrap_or};
 ghost use Rattle.rand_core.specs.Stream.{fill_bytes};
 ghost use Rattle.slh_core.specs.Steps.{IsFresh};
-ghost use Rattle.slh_trees.specs.Frame.{frame};
+ghost use Rattle.slh_frames.specs.Frames.{frame};
 ghost use Rattle.slh_trees.specs.Keys.{IsTrueKey, signing_key_bytes};
 ghost use Rattle.slh_trees.specs.Signing.{signature_of};
 ghost use Rattle.slh_trees.specs.Refusals.{message_refusal};
@@ -12,7 +12,6 @@ ghost use Rattle.slh_dsa.specs.declared.error.Error.TheVariants.{Memory, Message
 
 use crate::checks::{check_message, zeros};
 use crate::error::Error;
-use crate::frame::Mode;
 use crate::parameter_set::ParameterSet;
 use crate::signature::Signature;
 use crate::signing_key::SigningKey;
@@ -22,6 +21,7 @@ use rand_core::Rng;
 use signature_core::{KeypairRef, RandomizedSigner, SignatureEncoding, Signer, Verifier};
 use slh_core::params::{MAX_N, chain_sizes};
 use slh_core::steps::Steps;
+use slh_frames::Mode;
 use std::alloc::{AllocError, Global};
 use std::marker::Brand;
 use std::sync::ledger::{Blank, Ledger};

@@ -13,13 +13,13 @@ ghost use Rattle.slh_dsa.specs.declared.error.Error.TheVariants.{Invalid};
 
 use crate::checks::{check_context, check_message, check_signature, zeros};
 use crate::error::Error;
-use crate::frame::{Frame, Mode};
 use crate::parameter_set::ParameterSet;
 use crate::signature::Signature;
 use hybrid_array::{Array, ArraySize};
 use slh_core::nbytes::NBytes;
 use slh_core::params::{MAX_MESSAGE_LEN, chain_sizes};
 use slh_core::steps::Steps;
+use slh_frames::{Frame, Mode};
 use slh_trees::{SigView, check_root};
 use std::alloc::{AllocError, Global};
 use std::marker::{Brand, Model};

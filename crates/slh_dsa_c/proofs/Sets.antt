@@ -5,7 +5,7 @@ use Rattle.std.specs.Prelude.{IfSome, MatchOption}
 use Rattle.slh_audit.specs.declared.evidence.Evidence.{Evidence}
 use Rattle.slh_audit.specs.declared.evidence.Verdict.{Verdict}
 use Rattle.slh_core.specs.Parameters.{Scheme}
-use Rattle.slh_dsa.specs.declared.frame.Mode.{Mode}
+use Rattle.slh_frames.specs.declared.frame.Mode.{Mode}
 use Rattle.slh_dsa_c.specs.Evidence.{IfForeign}
 use Rattle.slh_dsa_c.specs.Status.{audit_number, in_mode, in_set}
 use Rattle.slh_sets.specs.Sets.{scheme_for}

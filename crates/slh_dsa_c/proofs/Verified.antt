@@ -9,10 +9,10 @@ use Rattle.slh_trees.specs.Signing.{signature_of}
 use Rattle.slh_trees.specs.Refusals.{context_refusal, message_refusal}
 use Rattle.slh_trees.proofs.Refusals.{at_most, first_none, no_cause, none_first, passed}
 use Rattle.slh_dsa.specs.Calls.{hash_verify_error, opt_rand_refusal, sign_input_refusal, sign_refusal, signature_refusal, signing_key_refusal}
-use Rattle.slh_dsa.specs.Frames.{mode_frame}
+use Rattle.slh_frames.specs.Frames.{mode_frame}
 use Rattle.slh_dsa.specs.declared.error.Error.{Error}
 use Rattle.slh_dsa.specs.declared.error.Error.TheVariants.{ContextTooLong, Invalid, Length, Memory, MessageTooLong, RandomizerLength}
-use Rattle.slh_dsa.specs.declared.frame.Mode.{Mode}
+use Rattle.slh_frames.specs.declared.frame.Mode.{Mode}
 use Rattle.slh_sets.specs.Sets.{scheme_for}
 use Rattle.slh_sets.specs.declared.set.Set.{Set}
 use Rattle.slh_dsa_c.specs.Status.{in_mode, in_set, number_of_refusal, sign_refusal_by_key, verify_error_by_key}

@@ -3,8 +3,8 @@
 ghost use Rattle.std.specs.Prelude.{◌≡◌, ℕ, ◌*◌, ◌^◌, ◌≤◌, List, length, drop, Option, None};
 ghost use Rattle.std.specs.Prelude.{IfSome};
 ghost use Rattle.slh_dsa.specs.Calls.{hash_verify_error};
-ghost use Rattle.slh_dsa.specs.Frames.{mode_frame};
-ghost use Rattle.slh_dsa.specs.declared.frame.Mode.{Mode as SigningMode};
+ghost use Rattle.slh_frames.specs.Frames.{mode_frame};
+ghost use Rattle.slh_frames.specs.declared.frame.Mode.{Mode as SigningMode};
 ghost use Rattle.slh_dsa_c.specs.Numbers.{mode_numbered};
 ghost use Rattle.slh_dsa_c.specs.Status.{sign_status, verify_status};
 ghost use Rattle.slh_sets.specs.Sets.{scheme_numbered};

@@ -15,9 +15,9 @@ use Rattle.slh_core.specs.Bytes.{part}
 use Rattle.slh_core.specs.Parameters.{Scheme}
 use Rattle.slh_core.specs.Suite.{HasLength}
 use Rattle.slh_dsa.specs.Calls.{opt_rand_refusal, sign_input_refusal, signing_key_refusal}
-use Rattle.slh_dsa.specs.Frames.{mode_frame}
+use Rattle.slh_frames.specs.Frames.{mode_frame}
 use Rattle.slh_dsa.specs.declared.error.Error.{Error as KeyError}
-use Rattle.slh_dsa.specs.declared.frame.Mode.{Mode}
+use Rattle.slh_frames.specs.declared.frame.Mode.{Mode}
 use Rattle.slh_run.specs.Judgement.{judgement, refused_or, verdict_answer}
 use Rattle.slh_run.specs.declared.job.Answer.{Answer}
 use Rattle.slh_run.specs.declared.job.Answer.TheVariants.{Accepted, Key, Shown, Signature}

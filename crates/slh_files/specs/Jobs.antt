@@ -6,7 +6,7 @@ use Rattle.slh_audit.specs.declared.evidence.Verdict.{Verdict}
 use Rattle.slh_audit.specs.declared.evidence.Verdict.TheVariants.{Genuine}
 use Rattle.slh_core.specs.Bytes.{part}
 use Rattle.slh_core.specs.Parameters.{Scheme}
-use Rattle.slh_dsa.specs.declared.frame.Mode.{Mode}
+use Rattle.slh_frames.specs.declared.frame.Mode.{Mode}
 use Rattle.slh_sets.specs.Sets.{scheme_for}
 use Rattle.slh_sets.specs.declared.set.Set.{Set}
 use Rattle.slh_run.specs.Judgement.{judgement}

@@ -6,7 +6,7 @@ ghost use Rattle.std.specs.Str.{bytes_eq};
 ghost use Rattle.slh_audit.specs.Verdicts.{message_audit};
 ghost use Rattle.slh_audit.specs.declared.evidence.Verdict.TheVariants.{Genuine};
 ghost use Rattle.slh_dsa.specs.Calls.{is_valid};
-ghost use Rattle.slh_dsa.specs.Frames.{mode_frame};
+ghost use Rattle.slh_frames.specs.Frames.{mode_frame};
 ghost use Rattle.slh_sets.specs.Sets.{scheme_for};
 ghost use Rattle.slh_trees.specs.Signing.{signature_of};
 ghost use Rattle.slh_run.specs.Judgement.{judgement};

@@ -1,7 +1,7 @@
 -- The parts of a manifest that was made.
 use Rattle.std.proofs.Common.{◌≡◌, ℕ, List, ◌++◌, ◌∙◌, ap, Option}
 use Rattle.slh_core.specs.Parameters.{Scheme}
-use Rattle.slh_trees.specs.Frame.{frame}
+use Rattle.slh_frames.specs.Frames.{frame}
 use Rattle.slh_trees.specs.Signing.{signature_of}
 use Rattle.slh_manifest.specs.Building.{manifest_of}
 use Rattle.slh_manifest.specs.Manifest.{body_bytes, manifest_context}

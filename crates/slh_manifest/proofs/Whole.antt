@@ -4,7 +4,7 @@ use Rattle.slh_core.specs.Parameters.{Scheme}
 use Rattle.slh_trees.specs.Checking.{signature_size}
 use Rattle.slh_trees.specs.Refusals.{RefusedExactly, first_refusal}
 use Rattle.slh_dsa.specs.Calls.{is_valid}
-use Rattle.slh_dsa.specs.declared.frame.Mode.TheVariants.{Pure}
+use Rattle.slh_frames.specs.declared.frame.Mode.TheVariants.{Pure}
 use Rattle.slh_manifest.specs.Checking.{RefusedOrFault, SpeaksOfEntries, body_part, check_error, count_of, entries_error, entries_of, has_count, is_manifest, manifest_refusal, signature_part, signature_refusal}
 use Rattle.slh_manifest.specs.Files.{Files}
 use Rattle.slh_manifest.specs.Manifest.{manifest_context}

@@ -4,7 +4,7 @@ use Rattle.std.specs.Prelude.{Option, None, Some, Result, MatchResult, if◌then
 use Rattle.std.specs.Prelude.{◌⊎◌, ◌==◌}
 use Rattle.sha256_lanes.specs.Sha256.{sha256}
 use Rattle.slh_core.specs.Parameters.{Scheme}
-use Rattle.slh_trees.specs.Frame.{frame}
+use Rattle.slh_frames.specs.Frames.{frame}
 use Rattle.slh_trees.specs.Signing.{signature_of}
 use Rattle.slh_trees.specs.Refusals.{first_refusal, randomizer_refusal}
 use Rattle.slh_manifest.specs.Files.{Files, bytes_of}

@@ -10,7 +10,7 @@ use Rattle.slh_core.specs.Parameters.{Scheme}
 use Rattle.slh_trees.specs.Checking.{signature_size}
 use Rattle.slh_trees.specs.Refusals.{first_refusal}
 use Rattle.slh_dsa.specs.Calls.{is_valid}
-use Rattle.slh_dsa.specs.declared.frame.Mode.TheVariants.{Pure}
+use Rattle.slh_frames.specs.declared.frame.Mode.TheVariants.{Pure}
 use Rattle.slh_manifest.specs.Building.{entry_of}
 use Rattle.slh_manifest.specs.Files.{Files, bytes_of}
 use Rattle.slh_manifest.specs.Manifest.{manifest_context}

@@ -3,7 +3,7 @@ ghost use Rattle.std.specs.Prelude.{◌≡◌, ◌≢◌, ◌↔◌, ◌≤◌, 
 ghost use Rattle.std.specs.Prelude.{IsErrOf, OnOk, OnErr, IfOk, IfErr, IfSome, IsTrue, length};
 ghost use Rattle.std.specs.Option.{option_copied, ForSome};
 ghost use Rattle.line_serve.specs.Causes.{Rose};
-ghost use Rattle.slh_trees.specs.Frame.{frame};
+ghost use Rattle.slh_frames.specs.Frames.{frame};
 ghost use Rattle.slh_trees.specs.Signing.{signature_of};
 ghost use Rattle.slh_trees.specs.Refusals.{RefusedExactly, RefusedOrNoMemory};
 ghost use Rattle.slh_manifest.specs.Building.{IsAdded, IsBuilt, RefusedOrFault};

@@ -4,13 +4,13 @@ use Rattle.std.proofs.lemmas.Cmp.{nat_list_cmp_total, eq_by_cmp_equiv}
 use Rattle.std.proofs.lemmas.List.{drop_more}
 use Rattle.std.specs.FinMap.{get, insert, get-insert}
 use Rattle.line_serve.specs.Causes.{Rose}
-use Rattle.slh_trees.specs.Refusals.{RefusedOrNoMemory, first_refusal}
+use Rattle.slh_trees.specs.Refusals.{RefusedOrNoMemory, first_refusal, unless_refused}
 use Rattle.slh_manifest.specs.Building.{add_refusal, bytes_refusal, entry_of, name_refusal}
 use Rattle.slh_manifest.specs.Files.{Files, bytes_of}
 use Rattle.slh_manifest.specs.declared.entry.Entry.{Entry}
 use Rattle.slh_manifest.specs.declared.error.BuildError.{BuildError}
 use Rattle.slh_manifest.specs.declared.error.BuildError.TheVariants.{Memory}
-use Rattle.slh_manifest_cli.specs.Replies.{entries_with, files_with, pair_refusal, unless}
+use Rattle.slh_manifest_cli.specs.Replies.{entries_with, files_with, pair_refusal}
 
 -- the count of a store that never fails doesn't rise
 pub quiet : ¬ Rose 0 0
@@ -63,7 +63,7 @@ two_more words i inside =
 
 pub entries_more : (entries : List Entry) (words : List (List ℕ)) (i : ℕ) → 2 * i + 1 < length words
     → entries_with entries (drop (2 * i) words)
-    ≡ unless (pair_refusal entries (get_or words (2 * i) []) (get_or words (2 * i + 1) []))
+    ≡ unless_refused (pair_refusal entries (get_or words (2 * i) []) (get_or words (2 * i + 1) []))
     (entries_with (entries ++ entry_of (get_or words (2 * i) []) (get_or words (2 * i + 1) []) ∷ []) (drop (2 * (i + 1)) words))
 unfolding entries_with
 entries_more entries words i inside = ap (entries_with entries) (two_more words i inside)
@@ -95,14 +95,14 @@ files_all files words i past = files_none files (drop (2 * i) words) (omega (ari
 -- a turn of the loops
 module _ (words : List (List ℕ)) (i : ℕ) (name bytes : List ℕ) (inside : 2 * i + 1 < length words) (name_is : name ≡ get_or words (2 * i) []) (bytes_is : bytes ≡ get_or words (2 * i + 1) []) where
   entries_next : (entries : List Entry) → entries_with entries (drop (2 * i) words)
-      ≡ unless (pair_refusal entries name bytes) (entries_with (entries ++ entry_of name bytes ∷ []) (drop (2 * (i + 1)) words))
+      ≡ unless_refused (pair_refusal entries name bytes) (entries_with (entries ++ entry_of name bytes ∷ []) (drop (2 * (i + 1)) words))
   entries_next entries = rw (name_is, bytes_is) (entries_more entries words i inside)
 
   pub entries_step : (all : Result (List Entry) BuildError) (entries new : List Entry) → all ≡ entries_with entries (drop (2 * i) words) → pair_refusal entries name bytes ≡ None → new ≡ entries ++ entry_of name bytes ∷ []
       → all ≡ entries_with new (drop (2 * (i + 1)) words)
   entries_step all entries new so_far fits added =
       so_far ∙ entries_next entries
-      ∙ ap (λ (o : Option BuildError). unless o (entries_with (entries ++ entry_of name bytes ∷ []) (drop (2 * (i + 1)) words))) fits
+      ∙ ap (λ (o : Option BuildError). unless_refused o (entries_with (entries ++ entry_of name bytes ∷ []) (drop (2 * (i + 1)) words))) fits
       ∙ ap (λ (es : List Entry). entries_with es (drop (2 * (i + 1)) words)) (sym added)
 
   pub entries_end : (all : Result (List Entry) BuildError) (entries : List Entry) (e : BuildError) → all ≡ entries_with entries (drop (2 * i) words)
@@ -110,7 +110,7 @@ module _ (words : List (List ℕ)) (i : ℕ) (name bytes : List ℕ) (inside : 2
   entries_end all entries e so_far (inl is) = inl is
   entries_end all entries e so_far (inr is) =
       inr (so_far ∙ entries_next entries
-      ∙ ap (λ (o : Option BuildError). unless o (entries_with (entries ++ entry_of name bytes ∷ []) (drop (2 * (i + 1)) words))) is)
+      ∙ ap (λ (o : Option BuildError). unless_refused o (entries_with (entries ++ entry_of name bytes ∷ []) (drop (2 * (i + 1)) words))) is)
 
   pub files_step : (all files after : Files) → all ≡ files_with files (drop (2 * i) words) → after ≡ insert files name bytes → all ≡ files_with after (drop (2 * (i + 1)) words)
   files_step all files after so_far put =

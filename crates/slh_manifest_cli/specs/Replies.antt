@@ -6,7 +6,7 @@ use Rattle.std.specs.Str.{bytes_eq}
 use Rattle.line_serve.specs.Fields.{field_at}
 use Rattle.line_serve.specs.Texts.{hex_line, number_line}
 use Rattle.slh_core.specs.Parameters.{Scheme}
-use Rattle.slh_trees.specs.Refusals.{first_refusal}
+use Rattle.slh_trees.specs.Refusals.{first_refusal, unless_refused}
 use Rattle.slh_manifest.specs.Building.{bytes_refusal, entry_of, manifest_of, name_refusal}
 use Rattle.slh_manifest.specs.Checking.{check_error}
 use Rattle.slh_manifest.specs.Files.{Files}
@@ -35,17 +35,13 @@ abbrev pub pair_refusal : List Entry → List ℕ → List ℕ → Option BuildE
 pair_refusal entries name bytes =
     first_refusal (name_refusal entries name ∷ bytes_refusal (Some bytes) ∷ [])
 
-abbrev pub unless : {T : Type 0} → Option BuildError → Result T BuildError → Result T BuildError
-unless None later = later
-unless (Some refusal) later = Err refusal
-
 -- the entries, and after them those of pairs of a name and its bytes, in their order; or why the
 -- first pair that isn't added isn't
 unfoldable pub entries_with : List Entry → List (List ℕ) → Result (List Entry) BuildError
 entries_with entries [] = Ok entries
 entries_with entries (name ∷ []) = Ok entries
 entries_with entries (name ∷ bytes ∷ later) =
-    unless (pair_refusal entries name bytes)
+    unless_refused (pair_refusal entries name bytes)
     (entries_with (entries ++ entry_of name bytes ∷ []) later)
 
 -- what is answered to pairs that a manifest is made of, or not. No line has more than 2^32 bytes,

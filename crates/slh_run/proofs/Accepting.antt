@@ -11,7 +11,7 @@ use Rattle.slh_core.specs.Parameters.{Scheme}
 use Rattle.slh_core.specs.Suite.{HasLength, seeded}
 use Rattle.slh_core.specs.Wots.{wots_pk}
 use Rattle.slh_trees.proofs.Climbs.{length-merkle}
-use Rattle.slh_trees.specs.Frame.{frame}
+use Rattle.slh_frames.specs.Frames.{frame}
 use Rattle.slh_trees.specs.Keys.{IsTrueKey, signing_key_bytes, top_root}
 use Rattle.slh_trees.specs.Signing.{signature_of}
 use Rattle.slh_trees.specs.Refusals.{first_refusal}

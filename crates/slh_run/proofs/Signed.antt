@@ -3,8 +3,8 @@ use Rattle.std.proofs.Common.{◌≡◌, ℕ, List, ◌++◌, length, take, drop
 use Rattle.std.proofs.Math.Seq.{take-append_seam}
 use Rattle.slh_core.specs.Parameters.{Scheme}
 use Rattle.slh_dsa.specs.Calls.{sign_input_refusal, signing_key_refusal}
-use Rattle.slh_dsa.specs.Frames.{mode_frame}
-use Rattle.slh_dsa.specs.declared.frame.Mode.{Mode}
+use Rattle.slh_frames.specs.Frames.{mode_frame}
+use Rattle.slh_frames.specs.declared.frame.Mode.{Mode}
 use Rattle.slh_run.specs.Judgement.{IsJudged}
 use Rattle.slh_run.specs.declared.job.Answer.TheVariants.{Signature}
 use Rattle.slh_run.specs.declared.job.Job.TheVariants.{Sign}

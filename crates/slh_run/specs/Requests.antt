@@ -3,7 +3,7 @@ use Rattle.std.specs.Prelude.{◌==◌, ℕ, List, length, drop, Bool, true, Opt
 use Rattle.std.specs.Prelude.{Result, Ok, Err, codes, if◌then◌else◌}
 use Rattle.std.specs.Str.{bytes_eq}
 use Rattle.line_serve.specs.Fields.{field_at}
-use Rattle.slh_dsa.specs.declared.frame.Mode.TheVariants.{Pure, Sha256, Sha512}
+use Rattle.slh_frames.specs.declared.frame.Mode.TheVariants.{Pure, Sha256, Sha512}
 use Rattle.slh_line.specs.Readings.{and_then, bytes_at, randomizer_at, some_or_fields}
 use Rattle.slh_line.specs.declared.line_error.LineError.{LineError}
 use Rattle.slh_line.specs.declared.line_error.LineError.TheVariants as line_error

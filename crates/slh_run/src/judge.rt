@@ -1,18 +1,16 @@
 //! Answers single jobs.
-ghost use Rattle.std.specs.Prelude.{◌≡◌, ◌≤◌, ◌*◌, ◌^◌, length, OnOk};
+ghost use Rattle.std.specs.Prelude.{◌≡◌};
 ghost use Rattle.slh_run.specs.Errors.{audit_error_of, error_of};
-ghost use Rattle.slh_run.specs.Judgement.{IsJudged, NeedsMemory, audit_refusal, judgement};
+ghost use Rattle.slh_run.specs.Judgement.{IsJudged, NeedsMemory, judgement};
 ghost use Rattle.slh_sets.specs.Sets.{scheme_for};
-ghost use Rattle.slh_trees.specs.Checking.{signature_size};
-ghost use Rattle.slh_trees.specs.Refusals.{RefusedExactly};
 ghost use Rattle.slh_run.specs.declared.job.Job.TheVariants.{Keygen, Sign, Verify, Audit, Check};
 
 use crate::job::{Answer, Error, Job};
 use hybrid_array::ArraySize;
 use line_serve::ByteString;
-use slh_audit::{AuditError, Evidence, audit_framed, check_evidence_framed};
+use slh_audit::{AuditError, Evidence, hash_audit, hash_check_evidence};
 use slh_core::params::chain_sizes;
-use slh_dsa::{Frame, Mode, ParameterSet, SigningKey, VerifyingKey};
+use slh_dsa::{Mode, ParameterSet, SigningKey, VerifyingKey};
 use slh_line::as_bytes;
 use slh_sets::{OnSet, Set};
 use std::alloc::{AllocError, Global};
@@ -109,27 +107,6 @@ fn verify<P: ParameterSet>(
     Ok(Answer::Accepted)
 }
 
-// The refusals of an audit and of a check by size.
-fn check_sizes<P: ParameterSet>(
-    key: &[u8],
-    ctx: &[u8],
-    msg: &[u8],
-    signature: &[u8],
-) -> Result<(), slh_dsa::Error>
-    ensures refusal { RefusedExactly result
-        (audit_refusal P.scheme key.now ctx.now msg.now signature.now) }
-    ensures key { OnOk result (length key.now ≡ 4 * P.N.USIZE) }
-    ensures sig { OnOk result (length signature.now ≡ signature_size P.scheme) }
-    ensures ctx { OnOk result (length ctx.now ≤ 255) }
-    ensures msg { OnOk result (length msg.now ≤ 2 ^ 60) }
-{
-    chain_sizes::<P>();
-    if key.len() != 4 * P::N::USIZE {
-        return Err(slh_dsa::Error::Length);
-    }
-    VerifyingKey::<P>::check_verify(msg, ctx, signature)
-}
-
 // Whether a key made a signature.
 fn audit<P: ParameterSet>(
     mode: Mode,
@@ -143,9 +120,7 @@ fn audit<P: ParameterSet>(
 {
     let (key, sig) = (key.as_slice(), signature.as_slice());
     let (msg, ctx) = (message.as_slice(), context.as_slice());
-    check_sizes::<P>(key, ctx, msg, sig)?;
-    let frame = Frame::new(mode, ctx, msg);
-    let verdict = audit_framed::<P>(key, frame.head(), frame.ctx(), frame.tail(), sig)?;
+    let verdict = hash_audit::<P>(mode, key, ctx, msg, sig)?;
     Ok(Answer::Verdict(verdict))
 }
 
@@ -163,10 +138,7 @@ fn check<P: ParameterSet>(
 {
     let (key, sig) = (key.as_slice(), signature.as_slice());
     let (msg, ctx) = (message.as_slice(), context.as_slice());
-    check_sizes::<P>(key, ctx, msg, sig)?;
-    let frame = Frame::new(mode, ctx, msg);
-    let (head, ctx, tail) = (frame.head(), frame.ctx(), frame.tail());
-    let shown = check_evidence_framed::<P>(key, head, ctx, tail, sig, evidence)?;
+    let shown = hash_check_evidence::<P>(mode, key, ctx, msg, sig, evidence)?;
     Ok(Answer::Shown(shown))
 }
 

@@ -9,10 +9,10 @@ use Rattle.sha2.proofs.Facts512.{length-sha512}
 use Rattle.sha2.specs.Sha512.{sha512}
 use Rattle.slh_core.specs.Parameters.{Scheme}
 use Rattle.slh_dsa.specs.Calls.{hash_verify_error, root_refusal, signature_refusal}
-use Rattle.slh_dsa.specs.Frames.{mode_frame}
+use Rattle.slh_frames.specs.Frames.{mode_frame}
 use Rattle.slh_dsa.specs.declared.error.Error.{Error}
 use Rattle.slh_dsa.specs.declared.error.Error.TheVariants.{Length, ContextTooLong, MessageTooLong}
-use Rattle.slh_dsa.specs.declared.frame.Mode.TheVariants.{Sha256, Sha512}
+use Rattle.slh_frames.specs.declared.frame.Mode.TheVariants.{Sha256, Sha512}
 use Rattle.slh_stream.specs.Digests.{verify_digest_error}
 use Rattle.slh_trees.specs.Refusals.{context_refusal, first_refusal, length_refusal, message_refusal}
 

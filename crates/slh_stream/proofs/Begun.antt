@@ -1,8 +1,8 @@
 -- A verifier that has begun.
 use Rattle.std.proofs.Common.{◌≡◌, ℕ, ◌≤◌, List, [], ◌++◌, length, take, refl, append-nil}
 use Rattle.slh_core.specs.Bytes.{part}
-use Rattle.slh_dsa.specs.Frames.{head_of}
-use Rattle.slh_dsa.specs.declared.frame.Mode.{Mode}
+use Rattle.slh_frames.specs.Frames.{head_of}
+use Rattle.slh_frames.specs.declared.frame.Mode.{Mode}
 use Rattle.slh_stream.specs.Tails.{IsTailOf, mode_of, passed_on}
 use Rattle.slh_stream.specs.Verifying.{IsVerifying}
 use Rattle.slh_stream.specs.declared.tail.Tail.{Tail}

@@ -1,8 +1,8 @@
 -- What a signer by the digest of a message in pieces stands for.
 use Rattle.std.specs.Prelude.{◌≡◌, ℕ, List, Option, length, unwrap_or}
 use Rattle.slh_core.specs.Bytes.{part}
-use Rattle.slh_dsa.specs.declared.frame.Mode.{Mode}
-use Rattle.slh_dsa.specs.declared.frame.Mode.TheVariants.{Pure, Sha256, Sha512}
+use Rattle.slh_frames.specs.declared.frame.Mode.{Mode}
+use Rattle.slh_frames.specs.declared.frame.Mode.TheVariants.{Pure, Sha256, Sha512}
 use Rattle.slh_stream.specs.Tails.{IsTailOf, mode_of}
 use Rattle.slh_stream.specs.declared.tail.Tail.{Tail}
 

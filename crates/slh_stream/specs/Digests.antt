@@ -4,11 +4,11 @@ use Rattle.sha256_lanes.specs.Sha256.{sha256}
 use Rattle.sha2.specs.Sha512.{sha512}
 use Rattle.slh_core.specs.Parameters.{Scheme}
 use Rattle.slh_dsa.specs.Calls.{opt_rand_refusal, root_refusal, signature_refusal}
-use Rattle.slh_dsa.specs.Frames.{head_of, sha256_identifier, sha512_identifier}
+use Rattle.slh_frames.specs.Frames.{head_of, sha256_identifier, sha512_identifier}
 use Rattle.slh_dsa.specs.declared.error.Error.{Error}
 use Rattle.slh_dsa.specs.declared.error.Error.TheVariants.{Length, ContextTooLong}
-use Rattle.slh_dsa.specs.declared.frame.Mode.{Mode}
-use Rattle.slh_dsa.specs.declared.frame.Mode.TheVariants.{Pure, Sha256, Sha512}
+use Rattle.slh_frames.specs.declared.frame.Mode.{Mode}
+use Rattle.slh_frames.specs.declared.frame.Mode.TheVariants.{Pure, Sha256, Sha512}
 use Rattle.slh_trees.specs.Refusals.{context_refusal, first_refusal, length_refusal}
 
 -- the digest of a message in a mode that has one

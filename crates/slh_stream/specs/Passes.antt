@@ -7,7 +7,7 @@ use Rattle.slh_core.specs.Parameters.{Scheme}
 use Rattle.slh_stream.specs.declared.pass_error.PassError.{PassError}
 use Rattle.slh_stream.specs.declared.pass_error.PassError.TheVariants.{Length, Changed}
 use Rattle.slh_trees.specs.Checking.{signature_size}
-use Rattle.slh_trees.specs.Frame.{frame}
+use Rattle.slh_frames.specs.Frames.{frame}
 use Rattle.slh_trees.specs.Refusals.{first_refusal, length_refusal}
 
 -- The first pass stands for a signing key, a randomizer, or none, a context and a message: PRF_msg

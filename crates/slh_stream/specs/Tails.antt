@@ -2,8 +2,8 @@
 use Rattle.std.specs.Prelude.{ℕ, List, [], ◌++◌}
 use Rattle.hmac_sha256.specs.Hash.{StandsFor, absorbed_bytes}
 use Rattle.sha2.specs.Hashers.{Holds512}
-use Rattle.slh_dsa.specs.declared.frame.Mode.{Mode}
-use Rattle.slh_dsa.specs.declared.frame.Mode.TheVariants.{Pure, Sha256, Sha512}
+use Rattle.slh_frames.specs.declared.frame.Mode.{Mode}
+use Rattle.slh_frames.specs.declared.frame.Mode.TheVariants.{Pure, Sha256, Sha512}
 use Rattle.slh_stream.specs.declared.tail.Tail.{Tail}
 use Rattle.slh_stream.specs.declared.tail.Tail.TheVariants.{Whole, By256, By512}
 

@@ -1,8 +1,8 @@
 -- What a verifier of a message in pieces stands for.
 use Rattle.std.specs.Prelude.{◌≡◌, ℕ, ◌≤◌, List, ◌++◌, length, take}
 use Rattle.slh_core.specs.Bytes.{part}
-use Rattle.slh_dsa.specs.Frames.{head_of}
-use Rattle.slh_dsa.specs.declared.frame.Mode.{Mode}
+use Rattle.slh_frames.specs.Frames.{head_of}
+use Rattle.slh_frames.specs.declared.frame.Mode.{Mode}
 use Rattle.slh_stream.specs.Tails.{StandsAfter, mode_of}
 use Rattle.slh_stream.specs.declared.tail.Tail.{Tail}
 

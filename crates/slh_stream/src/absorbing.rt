@@ -1,6 +1,6 @@
 //! H_msg of a message with a context, as the message comes.
 ghost use Rattle.std.specs.Prelude.{◌≡◌, ℕ, ◌+◌, ◌-◌, ◌≤◌, ◌^◌, List, [], ◌++◌, length};
-ghost use Rattle.slh_dsa.specs.Frames.{head_of, tail_of};
+ghost use Rattle.slh_frames.specs.Frames.{head_of, tail_of};
 ghost use Rattle.slh_stream.specs.Tails.{IsTailOf, StandsAfter, hashed_count, mode_of, passed_on};
 
 use crate::tail::Tail;

@@ -2,7 +2,7 @@
 ghost use Rattle.std.specs.Prelude.{◌≡◌, ◌++◌, OnOk, true};
 ghost use Rattle.std.specs.Option.{option_copied};
 ghost use Rattle.slh_dsa.specs.Calls.{hash_verify_error};
-ghost use Rattle.slh_trees.specs.Frame.{frame};
+ghost use Rattle.slh_frames.specs.Frames.{frame};
 ghost use Rattle.slh_trees.specs.Signing.{signature_of};
 ghost use Rattle.slh_trees.specs.Refusals.{RefusedExactly};
 

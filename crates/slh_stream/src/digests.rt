@@ -3,7 +3,7 @@ ghost use Rattle.std.specs.Prelude.{◌≡◌, ◌+◌, ◌≤◌, ◌++◌, len
 ghost use Rattle.std.specs.Option.{option_copied};
 ghost use Rattle.slh_core.specs.Costs.{slh_sign_cost, slh_verify_bound};
 ghost use Rattle.slh_core.specs.Steps.{IsFresh};
-ghost use Rattle.slh_dsa.specs.Frames.{head_of};
+ghost use Rattle.slh_frames.specs.Frames.{head_of};
 ghost use Rattle.slh_stream.specs.Digests.{digest_frame, digest_refusal, digest_tail};
 ghost use Rattle.slh_stream.specs.Digests.{sign_digest_refusal, verify_digest_error};
 ghost use Rattle.slh_trees.specs.Signing.{signature_of};

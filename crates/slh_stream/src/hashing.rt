@@ -1,6 +1,6 @@
 //! The hash of a message that is signed by its digest, as the message comes.
 ghost use Rattle.std.specs.Prelude.{◌≡◌, ℕ, ◌+◌, ◌-◌, ◌≤◌, ◌^◌, List, ◌++◌, length, take};
-ghost use Rattle.slh_dsa.specs.Frames.{tail_of};
+ghost use Rattle.slh_frames.specs.Frames.{tail_of};
 ghost use Rattle.slh_stream.specs.Digesting.{HasDigest};
 ghost use Rattle.slh_stream.specs.Tails.{IsTailOf, hashed_count, mode_of};
 

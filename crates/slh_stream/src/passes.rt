@@ -10,7 +10,7 @@ ghost use Rattle.slh_dsa.specs.declared.error.Error.TheVariants.{MessageTooLong}
 ghost use Rattle.slh_stream.specs.declared.pass_error.PassError.TheVariants.{Length};
 ghost use Rattle.slh_stream.specs.Passes.{IsFirst, IsSecond, pass_refusal, randomizer_for};
 ghost use Rattle.slh_trees.specs.Checking.{signature_size};
-ghost use Rattle.slh_trees.specs.Frame.{frame, frame_head};
+ghost use Rattle.slh_frames.specs.Frames.{frame, frame_head};
 ghost use Rattle.slh_trees.specs.Signing.{signature_of};
 ghost use Rattle.slh_trees.specs.Refusals.{RefusedExactly, message_refusal};
 
@@ -24,8 +24,8 @@ use slh_core::params::{MAX_DIGEST_LEN, chain_sizes, forest_sizes};
 use slh_core::pieces::MessageSuite;
 use slh_core::steps::Steps;
 use slh_dsa::{Error, Mode, ParameterSet, SigningKey};
+use slh_frames::MAX_MESSAGE;
 use slh_trees::sign::sign_digest;
-use slh_trees::sizes::MAX_MESSAGE;
 use std::marker::Brand;
 use std::sync::ledger::{Blank, Ledger};
 

@@ -1,9 +1,13 @@
 // The worked signature with bytes changed so that it is still accepted. All values were worked by
 // hand.
 use crate::trees::is_root;
-use crate::worked::{KEY, MESSAGE, SIGNATURE, changed};
-use slh_audit::{AuditError, Evidence, Verdict, audit, check_evidence};
+use crate::worked::{KEY, MESSAGE, SIGNATURE, changed, signing_key};
+use slh_audit::{
+    AuditError, Evidence, Verdict, audit, check_evidence, hash_audit, hash_check_evidence,
+};
+use slh_dsa::{Error, Mode, Signature};
 use slh_trees::toy::Toy;
+use std::alloc::Global;
 
 fn answer(key: &[u8; 4], ctx: &[u8], sig: &[u8]) -> Result<Verdict, AuditError> {
     audit::<Toy>(key, ctx, &MESSAGE, sig)
@@ -141,4 +145,24 @@ fn are_refused() -> bool {
 #[test]
 fn audits_refuse_by_their_causes(rt: HostRuntime) {
     assert!(rt; are_refused());
+}
+
+fn signed_in(alloc: Global, mode: Mode) -> Result<Signature<Toy>, Error> {
+    signing_key(&KEY)?.hash_sign_with_context(alloc, mode, &MESSAGE, &[7], None)
+}
+
+// Whether what the key signs in a mode is genuine there, and nothing shows.
+fn is_genuine_in(alloc: Global, mode: Mode) -> bool {
+    let Ok(sig) = signed_in(alloc, mode) else {
+        return false;
+    };
+    let sig = sig.as_slice();
+    hash_audit::<Toy>(mode, &KEY, &[7], &MESSAGE, sig) == Ok(Verdict::Genuine)
+        && hash_check_evidence::<Toy>(mode, &KEY, &[7], &MESSAGE, sig, &leaf(1)) == Ok(false)
+}
+
+#[test]
+fn what_is_signed_in_a_mode_is_genuine_in_it(rt: HostRuntime) {
+    assert!(rt; is_genuine_in(rt.alloc(), Mode::Sha256));
+    assert!(rt; is_genuine_in(rt.alloc(), Mode::Sha512));
 }

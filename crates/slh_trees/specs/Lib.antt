@@ -10,5 +10,4 @@ pub mod Treehash
 pub mod ToySuite
 pub mod Keys
 pub mod Signing
-pub mod Frame
 pub mod Refusals

@@ -1,12 +1,17 @@
 -- Refusals for the sizes of what a call is given. Each call says by which of its errors it refuses.
 use Rattle.std.specs.Prelude.{◌≡◌, ◌==◌, ℕ, ◌^◌, List, [], ◌∷◌, length, nat_lt}
-use Rattle.std.specs.Prelude.{Option, None, Some, Result, MatchResult, if◌then◌else◌, unwrap_or}
+use Rattle.std.specs.Prelude.{Option, None, Some, Result, Err, MatchResult, if◌then◌else◌, unwrap_or}
 
 -- the first of the refusals that stand
 abbrev pub first_refusal : {E : Type 0} → List (Option E) → Option E
 first_refusal [] = None
 first_refusal (None ∷ later) = first_refusal later
 first_refusal (Some refusal ∷ later) = Some refusal
+
+-- an answer, unless there is a refusal
+abbrev pub unless_refused : {T E : Type 0} → Option E → Result T E → Result T E
+unless_refused None answer = answer
+unless_refused (Some refusal) answer = Err refusal
 
 -- the call is refused for exactly this cause, and not at all where there is none
 abbrev pub RefusedExactly : {T E : Type 0} → Result T E → Option E → Type 0

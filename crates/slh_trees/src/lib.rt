@@ -10,17 +10,19 @@
 //! `example_of_the_page_of_trees` of `slh_tests` runs this:
 //!
 //! ```
-//! use slh_trees::sizes::frame_head;
 //! use slh_trees::toy::Toy;
 //! use slh_trees::uncounted::check_root;
 //! use slh_trees::{NBytes, SigView};
+//!
+//! // what stands before an empty context (FIPS 205, algorithm 22)
+//! const HEAD: [u8; 2] = [0, 0];
 //!
 //! fn accepts(signature: &[u8]) -> bool {
 //!     let Some(view) = SigView::<Toy>::new(signature) else {
 //!         return false;
 //!     };
 //!     let (seed, root) = (NBytes::exact(&[3]), NBytes::exact(&[0xe1]));
-//!     let found = check_root::<Toy>(&seed, &root, &frame_head(&[]), &[], &[0x48], &view);
+//!     let found = check_root::<Toy>(&seed, &root, &HEAD, &[], &[0x48], &view);
 //!     found == root
 //! }
 //! ```

@@ -1,6 +1,6 @@
 use Rattle.std.proofs.Common.{arith}
 use Rattle.slh_core.specs.Parameters.{scheme_of}
-use Rattle.slh_dsa.specs.declared.frame.Mode.TheVariants.{Pure}
+use Rattle.slh_frames.specs.declared.frame.Mode.TheVariants.{Pure}
 use Rattle.slh_manifest.specs.Manifest.{manifest_context}
 use Rattle.slh_manifest.proofs.Accepted.{SignatureHasSize, accepted, signature_len}
 use Rattle.slh_manifest.proofs.laws.sealed_is_accepted.Goals as goal

@@ -1,5 +1,5 @@
 use Rattle.slh_core.specs.Parameters.{scheme_of}
-use Rattle.slh_dsa.specs.declared.frame.Mode.TheVariants.{Pure}
+use Rattle.slh_frames.specs.declared.frame.Mode.TheVariants.{Pure}
 use Rattle.slh_run.proofs.Accepting.{accepts_all}
 use Rattle.slh_run.proofs.laws.accepts_all_in.Goals as goal
 

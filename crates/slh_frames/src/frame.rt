@@ -1,12 +1,18 @@
 //! What is signed for a message with a context (FIPS 205, algorithms 22 and 23).
 ghost use Rattle.std.specs.Prelude.{◌≡◌, ℕ, ◌+◌, ◌≤◌, ◌^◌, List, [], ◌∷◌, ◌++◌, length, take};
-ghost use Rattle.slh_dsa.specs.Frames.{head_of, kept_tail, tail_of};
+ghost use Rattle.slh_frames.specs.Frames.{head_of, kept_tail, tail_of};
 
 use digest_core::{AssociatedOid, ObjectIdentifier};
 use hmac_sha256::Hash;
 use sha2::{Digest, Sha512};
 use slh_core::params::MAX_MESSAGE_LEN;
 use std::marker::Model;
+
+/// The most bytes of a context (FIPS 205, algorithm 22).
+pub const MAX_CONTEXT: usize = 255;
+
+/// The most bytes of a message, well within what the hash functions take.
+pub const MAX_MESSAGE: usize = 1 << 60;
 
 /// The bytes of an identifier of a hash function.
 const IDENTIFIER_LEN: usize = 11;
@@ -79,7 +85,7 @@ pub struct Frame<'a> {
 }
 
 impl<'a> Model for Frame<'a> {
-    ghost use Rattle.slh_dsa.specs.Frames.{Framed, kept_tail};
+    ghost use Rattle.slh_frames.specs.Frames.{Framed, kept_tail};
 
     ghost Value = { Framed };
 

@@ -1,6 +1,6 @@
 use Rattle.std.proofs.Common.{◌≡◌, ◌+◌, ◌∷◌, ◌++◌, length, drop, take, ◌∙◌, ap, sym, arith, append_assoc, length-append}
 use Rattle.slh_core.proofs.Joins.{take_front}
-use Rattle.slh_dsa.proofs.frame.put_digest.Goals as goal
+use Rattle.slh_frames.proofs.frame.put_digest.Goals as goal
 
 pub returns : goal.returns
 returns c =

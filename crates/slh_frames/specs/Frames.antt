@@ -3,9 +3,16 @@
 use Rattle.std.specs.Prelude.{ℕ, List, [], ◌∷◌, ◌++◌, length, take}
 use Rattle.sha256_lanes.specs.Sha256.{sha256}
 use Rattle.sha2.specs.Sha512.{sha512}
-use Rattle.slh_trees.specs.Frame.{frame_head}
-use Rattle.slh_dsa.specs.declared.frame.Mode.{Mode}
-use Rattle.slh_dsa.specs.declared.frame.Mode.TheVariants.{Pure, Sha256, Sha512}
+use Rattle.slh_frames.specs.declared.frame.Mode.{Mode}
+use Rattle.slh_frames.specs.declared.frame.Mode.TheVariants.{Pure, Sha256, Sha512}
+
+-- the byte 0, which says that the message is signed as it is, and the number of the context's bytes
+abbrev pub frame_head : List ℕ → List ℕ
+frame_head context = 0 ∷ length context ∷ []
+
+-- what is signed of a message as it is, for a context of at most 255 bytes
+abbrev pub frame : List ℕ → List ℕ → List ℕ
+frame context message = frame_head context ++ context ++ message
 
 -- the object identifiers of SHA-256 and SHA-512, as algorithm 23 writes them
 abbrev pub sha256_identifier : List ℕ
@@ -28,7 +35,7 @@ tail_of Pure message = message
 tail_of Sha256 message = sha256_identifier ++ sha256 message
 tail_of Sha512 message = sha512_identifier ++ sha512 message
 
--- the whole, for a context of at most 255 bytes
+-- what is signed in a mode, for a context of at most 255 bytes
 abbrev pub mode_frame : Mode → List ℕ → List ℕ → List ℕ
 mode_frame mode context message = head_of mode context ++ context ++ tail_of mode message
 

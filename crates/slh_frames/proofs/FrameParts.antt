@@ -4,9 +4,9 @@ use Rattle.std.proofs.lemmas.List.{append_cancel_left}
 use Rattle.sha256_lanes.specs.Sha256.{sha256}
 use Rattle.sha2.specs.Sha512.{sha512}
 use Rattle.slh_core.proofs.Joins.{take_front, drop_front}
-use Rattle.slh_dsa.specs.Frames.{mode_frame, tail_of, sha256_identifier, sha512_identifier}
-use Rattle.slh_dsa.specs.declared.frame.Mode.{Mode}
-use Rattle.slh_dsa.specs.declared.frame.Mode.TheVariants.{Pure, Sha256, Sha512}
+use Rattle.slh_frames.specs.Frames.{mode_frame, tail_of, sha256_identifier, sha512_identifier}
+use Rattle.slh_frames.specs.declared.frame.Mode.{Mode}
+use Rattle.slh_frames.specs.declared.frame.Mode.TheVariants.{Pure, Sha256, Sha512}
 
 abbrev first : List ℕ → ℕ
 first [] = 0

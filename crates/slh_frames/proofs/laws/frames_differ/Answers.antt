@@ -1,5 +1,5 @@
-use Rattle.slh_dsa.proofs.FrameParts.{same_context, same_message, same_mode, same_sha256, same_sha512}
-use Rattle.slh_dsa.proofs.laws.frames_differ.Goals as goal
+use Rattle.slh_frames.proofs.FrameParts.{same_context, same_message, same_mode, same_sha256, same_sha512}
+use Rattle.slh_frames.proofs.laws.frames_differ.Goals as goal
 
 pub returns-clause-modes : goal.returns-clause-modes
 returns-clause-modes c = same_mode

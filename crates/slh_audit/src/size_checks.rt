@@ -7,8 +7,8 @@ ghost use Rattle.slh_trees.specs.Refusals.{RefusedExactly};
 use crate::evidence::AuditError;
 use hybrid_array::ArraySize;
 use slh_core::params::{ForsParams, forest_sizes};
+use slh_frames::{MAX_CONTEXT, MAX_MESSAGE};
 use slh_trees::SigView;
-use slh_trees::sizes::{MAX_CONTEXT, MAX_MESSAGE};
 
 /// A view of the signature, where the key and the signature have their lengths.
 pub(crate) fn check_lengths<'a, P: ForsParams>(
