@@ -2,7 +2,7 @@
 use Rattle.std.specs.Prelude.{ℕ, List, [], ◌∷◌, Bool, not, ◌&&◌}
 use Rattle.std.specs.Prelude.{Option, None, Some, if◌then◌else◌}
 use Rattle.std.specs.Str.{bytes_eq}
-use Rattle.sha256_lanes.specs.Sha256.{sha256}
+use Rattle.merkle_tree.specs.Hashes.{HashFunction}
 
 -- two inputs that are compared
 pub record Inputs : Type 0 where
@@ -10,10 +10,10 @@ pub record Inputs : Type 0 where
   pub second : List ℕ
 
 -- the inputs differ, and their digests don't
-abbrev pub is_clash : Inputs → Bool
-is_clash p = not (bytes_eq p.first p.second) && bytes_eq (sha256 p.first) (sha256 p.second)
+abbrev pub is_clash : HashFunction → Inputs → Bool
+is_clash H p = not (bytes_eq p.first p.second) && bytes_eq (H p.first) (H p.second)
 
 -- the first of some pairs of inputs that clashes
-unfoldable pub first_clash : List Inputs → Option Inputs
-first_clash [] = None
-first_clash (p ∷ ps) = if is_clash p then Some p else first_clash ps
+unfoldable pub first_clash : HashFunction → List Inputs → Option Inputs
+first_clash H [] = None
+first_clash H (p ∷ ps) = if (is_clash H) p then Some p else first_clash H ps
