@@ -36,7 +36,7 @@ path_checks H i q h =
     (Decides-and _ _ (Decides-and _ _ (Decides-ltb i (length q)) (Decides-eqb (length (inclusion_path H q i)) (length (path_sides i (length q))))) (bytes_eq-Decides (path_climb H (get_or q i []) i (length q) (inclusion_path H q i)) (tree_root H q))).1
     ((h, path_length H i q h), path_leads H i q h)
 
-same_node : (side : Bool) (x e y f : List ℕ) → length e ≡ length f → node_input side x e ≡ node_input side y f → x ≡ y
+pub same_node : (side : Bool) (x e y f : List ℕ) → length e ≡ length f → node_input side x e ≡ node_input side y f → x ≡ y
 same_node true x e y f size same = let body : e ++ x ≡ f ++ y = ap (drop 1) same in (same_parts e x f y size body).1
 same_node false x e y f size same = let body : x ++ e ≡ y ++ f = ap (drop 1) same in (same_parts_back x e y f size body).0
 

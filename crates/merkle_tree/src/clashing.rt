@@ -1,5 +1,6 @@
 //! Where two ways up clash: different inputs that are hashed to one digest.
-ghost use Rattle.std.specs.Prelude.{◌≡◌, ◌<◌, ◌+◌, ◌&&◌, length, not, Some, None, MatchOption};
+ghost use Rattle.std.specs.Prelude.{◌≡◌, ◌<◌, ◌+◌, ◌&&◌, length, not, Some, None};
+ghost use Rattle.std.specs.Prelude.{IfSome, MatchOption};
 ghost use Rattle.std.specs.Str.{bytes_eq};
 ghost use Rattle.merkle_tree.specs.Binding.{climb_pairs, paths_clash};
 ghost use Rattle.merkle_tree.specs.Clashes.{clash_place, first_clash};
@@ -101,6 +102,7 @@ fn first_on_the_way<H: TreeHash>(
 ) -> Option<WayClash>
     requires path_x { length path_x.now ≡ length sides.now }
     requires path_y { length path_y.now ≡ length sides.now }
+    ensures low { IfSome result (λ found. found.height < 64) }
     ensures height { let place = clash_place H.hash
         (inputs_along H.hash x.now sides.now path_x.now)
         (inputs_along H.hash y.now sides.now path_y.now) in
@@ -141,6 +143,7 @@ pub fn paths_clash<H: TreeHash>(
     requires inside { index < size }
     requires path_x { length path_x.now ≡ length (path_sides index size) }
     requires path_y { length path_y.now ≡ length (path_sides index size) }
+    ensures low { IfSome result (λ found. found.height < 64) }
     ensures height { let sides = path_sides index size in
         let place = clash_place H.hash (inputs_along H.hash x.now sides path_x.now)
         (inputs_along H.hash y.now sides path_y.now) in

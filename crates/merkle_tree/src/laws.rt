@@ -2,12 +2,12 @@
 //! do nothing.
 ghost use Rattle.std.specs.Prelude.{◌≡◌, ◌≢◌, ℕ, ◌+◌, ◌-◌, ◌^◌, ◌<◌, ◌≤◌, List, [], ◌∷◌, ◌++◌};
 ghost use Rattle.std.specs.Prelude.{length, take, drop, All, Bool, false};
-ghost use Rattle.std.specs.Prelude.{slice_index_or, true, Some};
+ghost use Rattle.std.specs.Prelude.{slice_index_or, true, None, Some};
 ghost use Rattle.merkle_tree.specs.Binding.{entries_clash, entries_root_clash, entry_clash};
 ghost use Rattle.merkle_tree.specs.Binding.{growth_clash, inclusion_clash, paths_clash};
 ghost use Rattle.merkle_tree.specs.Binding.{roots_clash};
 ghost use Rattle.merkle_tree.specs.Climb.{is_included, path_climb, path_sides};
-ghost use Rattle.merkle_tree.specs.Clashes.{Inputs, first_clash};
+ghost use Rattle.merkle_tree.specs.Clashes.{Inputs, clash_place, clashes, first_clash};
 ghost use Rattle.merkle_tree.specs.Consistency.{consistency_proof, is_consistent, proof_len, subproof};
 ghost use Rattle.merkle_tree.specs.Consistency.{proof_roots, roots_of};
 ghost use Rattle.merkle_tree.specs.Peaks.{bag, peaks_of};
@@ -152,4 +152,17 @@ pub fn clash_is_one()
         → c.first ≢ c.second }
     ensures digest { (H : HashFunction) (ps : List Inputs) (c : Inputs) → first_clash H ps ≡ Some c
         → H c.first ≡ H c.second }
+{}
+
+/// The first clash of two lists is a place at which they clash, and they clash at no earlier one.
+pub fn clash_is_least()
+    ensures clash { (H : HashFunction) (xs ys : List (List ℕ)) (h : ℕ)
+        → clash_place H xs ys ≡ Some h
+        → clashes H (slice_index_or xs h []) (slice_index_or ys h []) ≡ true }
+    ensures least { (H : HashFunction) (xs ys : List (List ℕ)) (h k : ℕ)
+        → clash_place H xs ys ≡ Some h → k < h
+        → clashes H (slice_index_or xs k []) (slice_index_or ys k []) ≡ false }
+    ensures none { (H : HashFunction) (xs ys : List (List ℕ)) (k : ℕ)
+        → clash_place H xs ys ≡ None → k < length xs → k < length ys
+        → clashes H (slice_index_or xs k []) (slice_index_or ys k []) ≡ false }
 {}
