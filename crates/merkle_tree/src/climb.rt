@@ -4,6 +4,7 @@ ghost use Rattle.merkle_tree.specs.Ascent.{climb_left, reaches};
 ghost use Rattle.merkle_tree.specs.Climb.{climb_along, node_input};
 
 use crate::hashing::{DIGEST_LEN, TreeHash};
+use crate::node_input::{digest_of, input_of};
 use crate::sides::Sides;
 
 // The node above `x` and a sibling, which stands on the left or on the right.
@@ -14,11 +15,7 @@ fn parent<H: TreeHash>(
 ) -> [u8; DIGEST_LEN]
     ensures { result ≡ H.hash (node_input left x.now sibling.now) }
 {
-    if left {
-        H::node(sibling, x)
-    } else {
-        H::node(x, sibling)
-    }
+    digest_of::<H>(&input_of(left, x, sibling))
 }
 
 /// The root that a path leads to from a leaf.
