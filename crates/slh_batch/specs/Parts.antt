@@ -1,18 +1,17 @@
 -- What a receipt of right form is cut into.
-use Rattle.std.specs.Prelude.{◌≡◌, ℕ, ◌*◌, List, length}
+use Rattle.std.specs.Prelude.{◌≡◌, ℕ, ◌<◌, List, length}
 use Rattle.slh_core.specs.Parameters.{Scheme}
 use Rattle.slh_trees.specs.Checking.{signature_size}
-use Rattle.slh_batch.specs.Climb.{batch_sides}
-use Rattle.slh_batch.specs.Receipts.{digests, receipt_count, receipt_index, receipt_path}
-use Rattle.slh_batch.specs.Receipts.{receipt_path_len, receipt_sig}
+use Rattle.slh_batch.specs.Receipts.{receipt_count, receipt_index, receipt_path, receipt_sig}
+use Rattle.slh_batch.specs.Tree.{batch_sides}
 use Rattle.slh_batch.specs.declared.parts.Parts.{Parts}
 
 -- the parts are those of the receipt, for a scheme Z
 pub record ArePartsOf (Z : Scheme) (receipt : List ℕ) (parts : Parts) : Type 0 where
   pub index : parts.index ≡ receipt_index receipt
   pub count : parts.count ≡ receipt_count receipt
-  pub sides : parts.sides ≡ batch_sides (receipt_index receipt) (receipt_count receipt)
-  pub path : digests (receipt_path_len receipt) parts.path.now ≡ receipt_path receipt
-  pub path_len : length parts.path.now ≡ 32 * receipt_path_len receipt
+  pub inside : parts.index < parts.count
+  pub path_len : length parts.path.now ≡ length (batch_sides parts.index parts.count)
+  pub path : parts.path.now ≡ receipt_path receipt
   pub sig : parts.sig.now ≡ receipt_sig receipt
   pub sig_len : length parts.sig.now ≡ signature_size Z

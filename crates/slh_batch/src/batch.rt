@@ -12,15 +12,16 @@ ghost use Rattle.slh_batch.specs.declared.error.BatchError.TheVariants.{Memory};
 
 use crate::checking::{CONTEXT, ROOT_MESSAGE_LEN, root_message};
 use crate::error::BatchError;
-use crate::hashing::{DIGEST_LEN, leaf_digest};
-use crate::levels::Levels;
 use crate::sealed::Sealed;
-use crate::sides::MAX_MESSAGES;
 use hybrid_array::ArraySize;
+use merkle_tree::{DIGEST_LEN, Levels, Sha256, TreeHash};
 use slh_dsa::{ParameterSet, Signature, SigningKey, check_opt_rand};
 use slh_frames::MAX_MESSAGE;
 use std::alloc::Global;
 use std::marker::Model;
+
+/// The largest number of messages of a batch, 2^20.
+pub const MAX_MESSAGES: u32 = 1 << 20;
 
 /// Messages that are to be signed together, at most [`MAX_MESSAGES`]. Clauses see it as the list of
 /// their digests.
@@ -62,7 +63,7 @@ impl Batch {
         if self.leaves.len() >= MAX_MESSAGES as usize {
             return Err(BatchError::Full);
         }
-        match self.leaves.push(leaf_digest(msg)) {
+        match self.leaves.push(Sha256::leaf(msg)) {
             Ok(()) => Ok(()),
             Err(_) => Err(BatchError::Memory),
         }
@@ -89,8 +90,8 @@ impl Batch {
             return Err(BatchError::Empty);
         }
         check_opt_rand::<P, BatchError>(opt_rand, BatchError::Randomizer)?;
-        let levels = Levels::over(leaves)?;
-        let message = root_message(levels.len(), levels.root());
+        let levels = Levels::<Sha256>::over(leaves)?;
+        let message = root_message(levels.len() as u32, levels.root());
         let signature = sign_root(alloc, key, &message, opt_rand)?;
         Ok(Sealed { levels, signature })
     }

@@ -9,10 +9,9 @@ ghost use Rattle.slh_batch.specs.Calls.{accept_error};
 ghost use Rattle.slh_batch.specs.Receipts.{batch_context, root_message};
 ghost use Rattle.slh_batch.specs.declared.error.ReceiptError.TheVariants.{Invalid};
 
-use crate::climb::climb;
 use crate::error::ReceiptError;
-use crate::hashing::{DIGEST_LEN, leaf_digest};
 use crate::parts::parts_of;
+use merkle_tree::{DIGEST_LEN, Sha256, TreeHash, path_root};
 use slh_dsa::{Mode, ParameterSet, VerifyingKey};
 use slh_frames::MAX_MESSAGE;
 
@@ -64,7 +63,8 @@ pub fn accept<P: ParameterSet>(
     if msg.len() > MAX_MESSAGE {
         return Err(ReceiptError::Message);
     }
-    let root = climb(&leaf_digest(msg), &parts.sides, parts.path);
+    let (index, count) = (u64::from(parts.index), u64::from(parts.count));
+    let root = path_root::<Sha256>(index, count, &Sha256::leaf(msg), parts.path);
     let message = root_message(parts.count, &root);
     verify_root(vk, &message, parts.sig)
 }

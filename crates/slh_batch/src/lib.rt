@@ -47,19 +47,14 @@
 mod batch;
 mod checking;
 mod clashing;
-mod climb;
 pub mod clones;
 mod error;
-mod hashing;
 pub mod laws;
-mod levels;
 mod parts;
 mod sealed;
-mod sides;
 
-pub use batch::Batch;
+pub use batch::{Batch, MAX_MESSAGES};
 pub use checking::accept;
 pub use clashing::clash;
 pub use error::{BatchError, ReceiptError};
 pub use sealed::Sealed;
-pub use sides::MAX_MESSAGES;

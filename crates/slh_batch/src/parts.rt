@@ -5,9 +5,9 @@ ghost use Rattle.slh_core.specs.Bytes.{number_of};
 ghost use Rattle.slh_batch.specs.Parts.{ArePartsOf};
 ghost use Rattle.slh_batch.specs.Receipts.{has_right_form};
 
-use crate::hashing::DIGEST_LEN;
-use crate::sides::{MAX_MESSAGES, Sides, sides_of};
+use crate::batch::MAX_MESSAGES;
 use hybrid_array::ArraySize;
+use merkle_tree::{DIGEST_LEN, path_len};
 use slh_dsa::ParameterSet;
 
 /// How many bytes stand before the path.
@@ -18,8 +18,7 @@ pub(crate) const NUMBERS_LEN: usize = 8;
 pub(crate) struct Parts<'a> {
     pub(crate) index: u32,
     pub(crate) count: u32,
-    pub(crate) sides: Sides,
-    pub(crate) path: &'a [u8],
+    pub(crate) path: &'a [[u8; DIGEST_LEN]],
     pub(crate) sig: &'a [u8],
 }
 
@@ -44,8 +43,7 @@ pub(crate) fn parts_of<P: ParameterSet>(receipt: &[u8]) -> Option<Parts<'_>>
     if count > MAX_MESSAGES || index >= count {
         return None;
     }
-    let sides = sides_of(index, count);
-    let path_len = DIGEST_LEN * sides.len();
+    let path_len = DIGEST_LEN * path_len(u64::from(index), u64::from(count));
     let rest = &receipt[NUMBERS_LEN..];
     if rest.len() < path_len {
         return None;
@@ -57,8 +55,7 @@ pub(crate) fn parts_of<P: ParameterSet>(receipt: &[u8]) -> Option<Parts<'_>>
     Some(Parts {
         index,
         count,
-        sides,
-        path,
+        path: path.as_chunks().0,
         sig,
     })
 }

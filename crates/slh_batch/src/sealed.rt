@@ -1,15 +1,13 @@
 //! Signed batches, and the receipts of their messages.
-ghost use Rattle.std.specs.Prelude.{◌≡◌, ◌<◌, length, IfOk};
+ghost use Rattle.std.specs.Prelude.{◌≡◌, ◌<◌, ◌≤◌, ◌^◌, length, IfOk};
 ghost use Rattle.slh_batch.specs.Calls.{index_refusal};
 ghost use Rattle.slh_batch.specs.Receipts.{receipt_of};
 ghost use Rattle.slh_trees.specs.Refusals.{RefusedOrNoMemory};
 ghost use Rattle.slh_batch.specs.declared.error.BatchError.TheVariants.{Memory};
 
 use crate::error::BatchError;
-use crate::hashing::DIGEST_LEN;
-use crate::levels::Levels;
 use crate::parts::NUMBERS_LEN;
-use crate::sides::sides_of;
+use merkle_tree::{DIGEST_LEN, Levels, Sha256, path_len};
 use slh_dsa::{ParameterSet, Signature};
 use std::alloc::{AllocError, Global};
 use std::marker::Model;
@@ -17,33 +15,40 @@ use std::marker::Model;
 /// A signed batch. Clauses see it as the list of its messages' digests and the signature.
 #[derive(Drop)]
 pub struct Sealed<P: ParameterSet> {
-    pub(crate) levels: Levels,
+    pub(crate) levels: Levels<Sha256>,
     pub(crate) signature: Signature<P>,
 }
 
 impl<P: ParameterSet> Model for Sealed<P> {
+    ghost use Rattle.std.specs.Prelude.{◌≤◌, ◌^◌, length};
     ghost use Rattle.slh_batch.specs.Sealing.{SealedBatch};
 
     ghost Value = { SealedBatch };
 
     ghost view = { λ s. record { leaves = s.levels; signature = s.signature } };
+
+    ghost invariant = { λ s. length s.levels ≤ 2 ^ 20 };
 }
 
 // The receipt of leaf `i` with a signature.
 fn write_receipt(
     alloc: Global,
-    levels: &Levels,
+    levels: &Levels<Sha256>,
     signature: &[u8],
     i: u32,
 ) -> Result<Vec<u8>, AllocError>
-    requires { i < length levels.now }
+    requires few { length levels.now ≤ 2 ^ 20 }
+    requires inside { i < length levels.now }
     ensures { IfOk result (λ receipt. receipt.items ≡ receipt_of levels.now signature.now i) }
 {
-    let path_len = DIGEST_LEN * sides_of(i, levels.len()).len();
-    let mut out = Vec::with_capacity(alloc, NUMBERS_LEN + path_len + signature.len())?;
+    let count = levels.len() as u32;
+    let mut path = Vec::with_capacity(alloc, path_len(u64::from(i), u64::from(count)))?;
+    levels.push_path(&mut path, i as usize)?;
+    let path = path.as_flattened();
+    let mut out = Vec::with_capacity(alloc, NUMBERS_LEN + path.len() + signature.len())?;
     out.extend_from_slice(&i.to_be_bytes())?;
-    out.extend_from_slice(&levels.len().to_be_bytes())?;
-    levels.push_path(&mut out, i)?;
+    out.extend_from_slice(&count.to_be_bytes())?;
+    out.extend_from_slice(path)?;
     out.extend_from_slice(signature)?;
     Ok(out)
 }
@@ -56,7 +61,7 @@ impl<P: ParameterSet> Sealed<P> {
         ensures value { IfOk result (λ receipt. receipt.items
             ≡ receipt_of self.now.leaves self.now.signature i) }
     {
-        if i >= self.levels.len() {
+        if i as usize >= self.levels.len() {
             return Err(BatchError::Index);
         }
         Ok(write_receipt(alloc, &self.levels, self.signature.as_slice(), i)?)
