@@ -3,10 +3,10 @@
 //! The SHA-256 digests of the messages are the leaves of a binary tree, in their order. A leaf is
 //! the digest of the byte 0 and the message, and a node the digest of the byte 1 and the two
 //! digests below it. Of several leaves, the left half has as many as the largest power of two below
-//! their number. The number of messages, in 4 bytes, and the tree's root are signed under the
-//! context `slh-batch`. A receipt is the message's index and the number of messages, 4 bytes each
-//! with the highest first, the siblings on the way from the leaf to the root, 32 bytes each, and
-//! the signature.
+//! their number: it is the tree of RFC 9162 (2.1), which `merkle_tree` has. The number of messages,
+//! in 4 bytes, and the tree's root are signed under the context `slh-batch`. A receipt is the
+//! message's index and the number of messages, 4 bytes each with the highest first, the siblings on
+//! the way from the leaf to the root, 32 bytes each, and the signature.
 //!
 //! The receipt of one of several messages, and what a verifying key says of it. The test
 //! `example_of_the_page_of_batches` of `slh_batch_tests` runs this:
