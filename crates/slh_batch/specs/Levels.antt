@@ -1,6 +1,6 @@
 -- The tree level by level, from its leaves: each level pairs the nodes of the one below, and hands
 -- up a last node that has no other beside it.
-use Rattle.std.specs.Prelude.{ℕ, zero, suc, ◌+◌, ◌-◌, ◌/◌, ◌%◌, ◌==◌, List, [], ◌∷◌, ◌++◌, length}
+use Rattle.std.specs.Prelude.{ℕ, zero, suc, ◌+◌, ◌/◌, ◌%◌, ◌==◌, List, [], ◌∷◌, ◌++◌, length}
 use Rattle.std.specs.Prelude.{Bool, nat_lt, if◌then◌else◌}
 use Rattle.slh_trees.specs.Merkle.{sibling_of}
 use Rattle.slh_batch.specs.Tree.{batch_node}
