@@ -9,9 +9,9 @@ ghost use Rattle.slh_trees.specs.Hypertree.{layer_size, leaf_at, tree_at};
 
 use hybrid_array::ArraySize;
 use slh_core::address::{ForsTree, WotsHash};
+use slh_core::equal_parts::{piece, put_part};
 use slh_core::nbytes::NBytes;
 use slh_core::params::{ForsParams, MAX_ROOTS_LEN, forest_sizes, layer_sizes};
-use slh_core::equal_parts::{piece, put_part};
 use slh_core::steps::Steps;
 use slh_trees::fors::{fors_node, fors_pk_from_sig, roots_len};
 use slh_trees::hypertree::{layer_len, next_place, tree_adrs_of};

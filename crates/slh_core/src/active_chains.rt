@@ -5,8 +5,8 @@ ghost use Rattle.std.specs.Prelude.{slice_set};
 ghost use Rattle.slh_core.specs.Bytes.{joined, part};
 ghost use Rattle.slh_core.specs.ActiveChains.{AreActive, count_below};
 
-use crate::params::{MAX_CHAINS, MAX_ENDS_LEN};
 use crate::equal_parts::put_part;
+use crate::params::{MAX_CHAINS, MAX_ENDS_LEN};
 
 /// The chains of a signature that are under way, in the order of their digits. Their values stand
 /// in that order too, so that each step goes over a row without gaps.

@@ -3,8 +3,8 @@ ghost use Rattle.std.specs.Prelude.{◌≡◌, ◌==◌, ℕ, ◌*◌, ◌≤◌
 ghost use Rattle.std.specs.Prelude.{slice_index, if◌then◌else◌};
 ghost use Rattle.slh_core.specs.Bytes.{joined, part};
 
-use crate::params::MAX_CHAINS;
 use crate::equal_parts::put_part;
+use crate::params::MAX_CHAINS;
 
 /// The numbers of all chains, from 0 on.
 pub(crate) fn chain_numbers() -> [u32; MAX_CHAINS]

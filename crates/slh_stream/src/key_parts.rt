@@ -3,9 +3,9 @@ ghost use Rattle.std.specs.Prelude.{◌≡◌};
 ghost use Rattle.slh_core.specs.Bytes.{part};
 
 use hybrid_array::ArraySize;
+use slh_core::equal_parts::part_of;
 use slh_core::nbytes::NBytes;
 use slh_core::params::chain_sizes;
-use slh_core::equal_parts::part_of;
 use slh_dsa::{ParameterSet, SigningKey, VerifyingKey};
 
 /// The public seed and the root of a verifying key.
