@@ -35,10 +35,15 @@
 //! No call can fail; the contracts say that each digest is that of the whole message.
 #![tactic(auto)]
 
+mod blocks;
+mod bulk;
 mod compression;
+mod hash;
 mod hashing;
 mod rows;
 mod word;
 
-pub use hashing::{BLOCK_BYTES, MAX_TAIL, Midstate};
+pub use blocks::{BLOCK_BYTES, absorb_blocks};
+pub use hash::Hash512;
+pub use hashing::{MAX_TAIL, Midstate};
 pub use rows::MAX_ROW;
