@@ -1,11 +1,11 @@
 -- The schedules of four blocks, and blocks four at a time.
-use Rattle.std.proofs.Common.{◌≡◌, ℕ, zero, suc, ◌+◌, ◌-◌, ◌*◌, ◌/◌, ◌%◌, ◌^◌, ◌<◌, ◌≤◌, List, [], length, take, drop, slice_index, slice_index_or, slice_set, refl, sym, ap, ◌∙◌, arith, inl, inr, get_or-take, get_or-drop, length-drop}
+use Rattle.std.proofs.Common.{◌≡◌, ℕ, zero, suc, ◌+◌, ◌-◌, ◌*◌, ◌/◌, ◌%◌, ◌^◌, ◌<◌, ◌≤◌, List, [], length, take, drop, replicate, slice_index, slice_index_or, slice_set, refl, sym, ap, ◌∙◌, arith, inl, inr, get_or-take, get_or-drop, length-drop}
 use Rattle.std.proofs.lemmas.Bool.{cases_lt}
 use Rattle.std.proofs.lemmas.List.{drop-drop, get_or-replicate, get_or-set_same, get_or-set_other, length-take-le, take-append-drop}
 use Rattle.sha2.proofs.Absorbing512.{hash_after-append, hash_after_next}
 use Rattle.sha2.proofs.Schedule512.{slice_index-schedule_first, slice_index-schedule_next}
 use Rattle.sha2.specs.Sha512.{add64, compress, hash_after, round_constants, schedule, word_at}
-use Rattle.sha512_lanes.specs.Batches.{HasConstants, IsFilled, batch_at, block_in, word_in}
+use Rattle.sha512_lanes.specs.Batches.{IsFilled, batch_at, block_in, word_in}
 use Rattle.sha512_lanes.specs.Steps.{next_in}
 use Rattle.sha512_lanes.specs.declared.bulk.Schedules.{Schedules}
 
@@ -37,13 +37,9 @@ first_word p j t start low is =
     ) refl)
 
 -- no word yet
-pub filled_none : (s : Schedules) (p : List ℕ) → HasConstants s → IsFilled s p 0
+pub filled_none : (s : Schedules) (p : List ℕ) → IsFilled s p 0
 unfolding IsFilled
-filled_none s p all = (all, λ t j low. absurd (omega (arith, low)), λ t j low. absurd (omega (arith, low)))
-
-pub filled_constants : (s : Schedules) (p : List ℕ) (n : ℕ) → IsFilled s p n → HasConstants s
-unfolding IsFilled
-filled_constants s p n filled = filled.0
+filled_none s p = (λ t j low. absurd (omega (arith, low)), λ t j low. absurd (omega (arith, low)))
 
 pub filled_at : (s : Schedules) (p : List ℕ) (n k : ℕ) → n ≡ k → IsFilled s p n → IsFilled s p k
 filled_at s p n k same filled = rw (← same) filled
@@ -55,12 +51,12 @@ filled_of s p q n same filled = rw (← same) filled
 pub filled_word : (s : Schedules) (p : List ℕ) (n t j : ℕ) → IsFilled s p n → t < n → j < 4
     → word_in (slice_index_or s.words t []) j ≡ slice_index (schedule (block_in p j) 64) t
 unfolding IsFilled
-filled_word s p n t j filled low lane = filled.1 t j low lane
+filled_word s p n t j filled low lane = filled.0 t j low lane
 
 pub filled_keyed : (s : Schedules) (p : List ℕ) (n t j : ℕ) → IsFilled s p n → t < n → j < 4
     → word_in (slice_index_or s.keyed t []) j ≡ add64 (slice_index (schedule (block_in p j) 64) t) (slice_index round_constants t)
 unfolding IsFilled
-filled_keyed s p n t j filled low lane = filled.2 t j low lane
+filled_keyed s p n t j filled low lane = filled.1 t j low lane
 
 -- a later word of a schedule, from the places before it
 pub filled_next : (s : Schedules) (p : List ℕ) (t j x : ℕ) → IsFilled s p t → 16 ≤ t → t < 80 → j < 4
@@ -85,23 +81,14 @@ put_in xs x t i F inside before here low =
           rw same (get_or-set_same xs t x [] inside ∙ here)
     ]
 
--- a word with the constant of its round
 sum_constant : (w k : ℕ) → add64 w (k % 2 ^ 64) ≡ add64 w k
 sum_constant w k = omega arith
 
-pub keyed_is : (s : Schedules) (p : List ℕ) (t j x : ℕ) (word : List ℕ) → IsFilled s p t → t < 80 → j < 4
-    → word_in word j ≡ slice_index (schedule (block_in p j) 64) t
-    → x ≡ add64 (word_in word j) (word_in (slice_index_or s.constants t []) j)
-    → x ≡ add64 (slice_index (schedule (block_in p j) 64) t) (slice_index round_constants t)
-unfolding IsFilled HasConstants
-keyed_is s p t j x word filled low lane word_is made =
-    let w : ℕ = slice_index (schedule (block_in p j) 64) t in
-    let k : ℕ = slice_index round_constants t in
-    made
-    ∙ ap (λ (y : ℕ). add64 y (word_in (slice_index_or s.constants t []) j)) word_is
-    ∙ ap (λ (l : List ℕ). add64 w (word_in l j)) (filled.0 t low)
-    ∙ ap (λ (y : ℕ). add64 w (y % 2 ^ 64)) (get_or-replicate {A = ℕ} 4 j k 0 lane)
-    ∙ sum_constant w k
+-- a word with the constant of its round, which stands in each lane
+pub keyed_is : (w k x j : ℕ) (word : List ℕ) → j < 4 → word_in word j ≡ w → x ≡ add64 (word_in word j) (word_in (replicate 4 k) j) → x ≡ add64 w k
+keyed_is w k x j word lane word_is made =
+    made ∙ ap (λ (y : ℕ). add64 y (word_in (replicate 4 k) j)) word_is
+    ∙ ap (λ (y : ℕ). add64 w (y % 2 ^ 64)) (get_or-replicate {A = ℕ} 4 j k 0 lane) ∙ sum_constant w k
 
 placed : (xs : List (List ℕ)) (x : List ℕ) (t i j f : ℕ) (F : ℕ → ℕ) → t < length xs
     → ((k : ℕ) → k < t → word_in (slice_index_or xs k []) j ≡ F k) → word_in x j ≡ F t → i < t + 1
@@ -117,18 +104,17 @@ placed xs x t i j f F inside before here low =
 -- one place more
 pub filled_more : (old next : Schedules) (p : List ℕ) (t : ℕ) (word keyed : List ℕ) → IsFilled old p t
     → t < length old.words → t < length old.keyed
-    → next.words ≡ slice_set old.words t word → next.keyed ≡ slice_set old.keyed t keyed → next.constants ≡ old.constants
+    → next.words ≡ slice_set old.words t word → next.keyed ≡ slice_set old.keyed t keyed
     → ((j : ℕ) → j < 4 → word_in word j ≡ slice_index (schedule (block_in p j) 64) t)
     → ((j : ℕ) → j < 4 → word_in keyed j ≡ add64 (slice_index (schedule (block_in p j) 64) t) (slice_index round_constants t))
     → IsFilled next p (t + 1)
-unfolding IsFilled HasConstants
-filled_more old next p t word keyed filled in_words in_keyed words keys same word_is keyed_is = (
-  rw same filled.0,
+unfolding IsFilled
+filled_more old next p t word keyed filled in_words in_keyed words keys word_is keyed_is = (
   λ i j low lane.
-      rw words (placed old.words word t i j 0 (λ k. slice_index (schedule (block_in p j) 64) k) in_words (λ k below. filled.1 k j below lane) (word_is j lane) low),
+      rw words (placed old.words word t i j 0 (λ k. slice_index (schedule (block_in p j) 64) k) in_words (λ k below. filled.0 k j below lane) (word_is j lane) low),
   λ i j low lane.
       rw keys (placed old.keyed keyed t i j 0 (λ k. add64 (slice_index (schedule (block_in p j) 64) k) (slice_index round_constants k)) in_keyed
-      (λ k below. filled.2 k j below lane) (keyed_is j lane) low),
+      (λ k below. filled.1 k j below lane) (keyed_is j lane) low),
 )
 
 -- ---- blocks one after the other

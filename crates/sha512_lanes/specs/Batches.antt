@@ -1,5 +1,5 @@
 -- The schedules of four blocks, place by place.
-use Rattle.std.specs.Prelude.{◌≡◌, ℕ, ◌*◌, ◌%◌, ◌^◌, ◌<◌, List, [], drop, replicate}
+use Rattle.std.specs.Prelude.{◌≡◌, ℕ, ◌*◌, ◌%◌, ◌^◌, ◌<◌, List, [], drop}
 use Rattle.std.specs.Prelude.{slice_index, slice_index_or, take}
 use Rattle.sha2.specs.Sha512.{add64, round_constants, schedule}
 use Rattle.sha512_lanes.specs.declared.bulk.Schedules.{Schedules}
@@ -16,18 +16,11 @@ block_in p j = take 128 (drop (j * 128) p)
 abbrev pub batch_at : List ℕ → ℕ → List ℕ
 batch_at p i = take 512 (drop (512 * i) p)
 
--- the constant of each round stands four times in its place
-unfoldable pub HasConstants : Schedules → Type 0
-HasConstants s =
-    (t : ℕ) → t < 80
-    → slice_index_or s.constants t [] ≡ replicate 4 (slice_index round_constants t)
-
--- the constants are there, and in the first n places word t of the schedule of each of the four
--- blocks of p, without and with the constant of its round
+-- the first n places have word t of the schedule of each of the four blocks of p, without and with
+-- the constant of its round
 unfoldable pub IsFilled : Schedules → List ℕ → ℕ → Type 0
 IsFilled s p n =
-    HasConstants s
-    × ((t j : ℕ) → t < n → j < 4
+    ((t j : ℕ) → t < n → j < 4
     → word_in (slice_index_or s.words t []) j ≡ slice_index (schedule (block_in p j) 64) t)
     × ((t j : ℕ) → t < n → j < 4
     → word_in (slice_index_or s.keyed t []) j

@@ -4,7 +4,7 @@
 ghost use Rattle.std.specs.Prelude.{◌≡◌, ℕ, ◌+◌, ◌*◌, ◌%◌, ◌^◌, ◌<◌, ◌≤◌, List, length, slice_index};
 ghost use Rattle.sha2.specs.Sha512.{add64, big_sigma0, big_sigma1, ch, compress, hash_after, maj};
 ghost use Rattle.sha2.specs.Sha512.{round, rounds, schedule, word_at};
-ghost use Rattle.sha512_lanes.specs.Batches.{HasConstants, IsFilled, batch_at, block_in, word_in};
+ghost use Rattle.sha512_lanes.specs.Batches.{IsFilled, batch_at, block_in, word_in};
 ghost use Rattle.sha512_lanes.specs.Lanes.{variables};
 
 use crate::compression::{CONSTANTS, Variables, later_word};
@@ -19,8 +19,6 @@ pub(crate) const BATCH_BYTES: usize = 512;
 struct Schedules {
     words: [[u64; 4]; 80],
     keyed: [[u64; 4]; 80],
-    // The constant of each round, four times.
-    constants: [[u64; 4]; 80],
 }
 
 #[inline(always)]
@@ -122,7 +120,7 @@ fn put(next: &mut Schedules, t: usize, word: u64x4)
         → IsFilled next.new p (t + 1) }
 {
     next.words[t] = word.to_array();
-    next.keyed[t] = word.sum(u64x4::from_array(next.constants[t])).to_array();
+    next.keyed[t] = word.sum(u64x4::splat(CONSTANTS[t])).to_array();
 }
 
 // Word `t` of each block.
@@ -185,7 +183,7 @@ fn first_rounds(
     ensures value { (p : List ℕ) → IsFilled now.now p 80
         → variables (λ x. x) result
         ≡ rounds (variables (λ x. x) v) (schedule (block_in p 0) 64) 64 }
-    ensures next { HasConstants next.old → IsFilled next.new blocks.now 16 }
+    ensures next { IsFilled next.new blocks.now 16 }
 {
     let mut v = v;
     'groups: for k in 0..8 {
@@ -262,7 +260,7 @@ fn named(words: &[u64; 8]) -> Variables<u64>
 fn turn(state: &mut [u64; 8], now: &Schedules, next: &mut Schedules, blocks: &[u8; BATCH_BYTES])
     ensures state { (p : List ℕ) → IsFilled now.now p 80
         → state.new ≡ hash_after state.old p 4 }
-    ensures next { HasConstants next.old → IsFilled next.new blocks.now 80 }
+    ensures next { IsFilled next.new blocks.now 80 }
 {
     let s = named(state);
     let v = first_rounds(s, now, next, blocks);
@@ -287,7 +285,7 @@ fn last_turn(state: &mut [u64; 8], now: &Schedules)
 
 // The words of the blocks themselves.
 fn expand_first(next: &mut Schedules, blocks: &[u8; BATCH_BYTES])
-    ensures { HasConstants next.old → IsFilled next.new blocks.now 16 }
+    ensures { IsFilled next.new blocks.now 16 }
 {
     'firsts: for t in 0..16 {
         put_first(next, blocks, t);
@@ -303,29 +301,21 @@ fn expand_later(next: &mut Schedules)
     }
 }
 
-// The constants of the rounds, with no words.
-fn empty() -> Schedules
-    ensures { HasConstants result }
+// The schedules of four blocks.
+fn expand(next: &mut Schedules, blocks: &[u8; BATCH_BYTES])
+    ensures { IsFilled next.new blocks.now 80 }
 {
-    let mut constants = [[0u64; 4]; 80];
-    'each: for t in 0..80 {
-        constants[t] = [CONSTANTS[t]; 4];
-    }
+    expand_first(next, blocks);
+    expand_later(next);
+}
+
+// No words yet.
+#[inline(always)]
+fn empty() -> Schedules {
     Schedules {
         words: [[0; 4]; 80],
         keyed: [[0; 4]; 80],
-        constants,
     }
-}
-
-// The schedules of four blocks.
-fn schedules_of(blocks: &[u8; BATCH_BYTES]) -> Schedules
-    ensures { IsFilled result blocks.now 80 }
-{
-    let mut made = empty();
-    expand_first(&mut made, blocks);
-    expand_later(&mut made);
-    made
 }
 
 // Four blocks, from block `4 * i` on.
@@ -344,8 +334,9 @@ pub(crate) fn absorb_batches(state: &mut [u64; 8], blocks: &[u8], count: usize)
     requires inside { 512 * count ≤ length blocks.now }
     ensures { state.new ≡ hash_after state.old blocks.now (4 * count) }
 {
-    let mut even = schedules_of(&batch_at(blocks, 0));
+    let mut even = empty();
     let mut odd = empty();
+    expand(&mut even, &batch_at(blocks, 0));
     'batches: for i in 1..count {
         let following = batch_at(blocks, i);
         if i % 2 == 1 {

@@ -14,7 +14,7 @@ later_blocks-init c = (
       c.sums-s.ensures (block_in p 0) (c.later_rounds.ensures.value h p filled (c.first_rounds-v.ensures.value p filled))
       ∙ ap (λ (x : List ℕ). compress x (block_in p 0)) c.named-s.ensures
       ∙ sym (hash_after_one c.args.state.now p),
-  λ all. c.later_rounds.ensures.next c.args.blocks.now (c.first_rounds-v.ensures.next all),
+  c.later_rounds.ensures.next c.args.blocks.now c.first_rounds-v.ensures.next,
 )
 
 pub later_blocks-preserved : goal.later_blocks-preserved
@@ -25,13 +25,12 @@ later_blocks-preserved c = (
       c.sums-s-in-later_blocks.ensures (block_in p j) (c.later_rounds-in-later_blocks.ensures.value h p filled (rounds_none h (block_in p j)))
       ∙ ap (λ (x : List ℕ). compress x (block_in p j)) (c.later_blocks.invariant.0 p filled)
       ∙ sym (hash_after_next c.args.state.now p j),
-  λ all.
-      let before = filled_at _ _ _ _ (omega arith) (c.later_blocks.invariant.1 all) in
-      filled_at _ _ _ _ (omega arith) (c.later_rounds-in-later_blocks.ensures.next c.args.blocks.now before),
+  (let before = filled_at _ _ _ _ (omega arith) c.later_blocks.invariant.1 in
+      filled_at _ _ _ _ (omega arith) (c.later_rounds-in-later_blocks.ensures.next c.args.blocks.now before)),
 )
 
 pub returns-clause-state : goal.returns-clause-state
 returns-clause-state c = λ p filled. c.later_blocks.invariant.0 p filled ∙ ap (hash_after c.args.state.now p) (omega arith)
 
 pub returns-clause-next : goal.returns-clause-next
-returns-clause-next c = λ all. filled_at _ _ _ _ (omega arith) (c.later_blocks.invariant.1 all)
+returns-clause-next c = filled_at _ _ _ _ (omega arith) c.later_blocks.invariant.1
