@@ -1,5 +1,5 @@
-//! SHA-512 (FIPS 180-4) of a message that comes in pieces, as [`Hash512`], and of several short ones
-//! side by side, which begin with the same block of 128 bytes. No call takes memory.
+//! SHA-512 (FIPS 180-4) of a message that comes in pieces, as [`Hash512`], and of several short
+//! ones side by side, which begin with the same block of 128 bytes. No call takes memory.
 //!
 //! What a digest is, and each step on the way to it, are the definitions of the library's `sha2`.
 //! Where 16 blocks or more come at once, they are hashed four at a time, faster than there.
