@@ -1,20 +1,14 @@
 -- The schedules of eight blocks, and blocks eight at a time.
-use Rattle.std.proofs.Common.{◌≡◌, ℕ, ◌+◌, ◌-◌, ◌*◌, ◌/◌, ◌%◌, ◌^◌, ◌<◌, ◌≤◌, List, [], ◌∷◌, length, take, drop, slice_index, slice_index_or, slice_set, refl, sym, ap, ◌∙◌, arith, inl, inr, get_or-take, get_or-drop, length-drop}
+use Rattle.std.proofs.Common.{◌≡◌, ℕ, ◌+◌, ◌-◌, ◌*◌, ◌/◌, ◌%◌, ◌^◌, ◌<◌, ◌≤◌, List, [], length, take, drop, replicate, slice_index, slice_index_or, slice_set, refl, sym, ap, ◌∙◌, arith, inl, inr, get_or-take, get_or-drop, length-drop}
 use Rattle.std.proofs.lemmas.Bool.{cases_lt}
-use Rattle.std.proofs.lemmas.List.{drop_all, get_or-replicate, get_or-set_same, get_or-set_other, length-take-le, take-append-drop}
-use Rattle.sha256_lanes.specs.Batches.{HasConstants, IsFilled, batch_at, block_in}
+use Rattle.std.proofs.lemmas.List.{get_or-replicate, get_or-set_same, get_or-set_other, length-take-le, take-append-drop}
+use Rattle.sha256_lanes.specs.Batches.{IsFilled, batch_at, block_in}
 use Rattle.sha256_lanes.specs.Eight.{word_in}
 use Rattle.sha256_lanes.specs.Rounds.{next_in}
 use Rattle.sha256_lanes.specs.Sha256.{block_word, constants, fold_blocks, schedule, sum32}
 use Rattle.sha256_lanes.specs.declared.bulk.Schedules.{Schedules}
-use Rattle.sha256_lanes.proofs.EightWords.{open_four}
 use Rattle.sha256_lanes.proofs.Folding.{fold_blocks-add, fold_blocks-append}
 use Rattle.sha256_lanes.proofs.Schedule.{block_word_is, later_word_is, schedule_same}
-
--- the sums of a round whose word came with its constant
-pub keyed_sum : (h x k w c s : ℕ) → x % 2 ^ 32 ≡ sum32 w k
-    → sum32 (sum32 (sum32 h x) c) s ≡ sum32 (sum32 (sum32 (sum32 h s) c) k) w
-keyed_sum h x k w c s is = omega (arith, is)
 
 -- word t of block j, as it stands in the eight blocks
 pub first_word : (p : List ℕ) (j t start : ℕ) → t < 16 → start ≡ 4 * t + 64 * j → block_word p start ≡ slice_index (schedule (block_in p j) 64) t
@@ -36,13 +30,9 @@ first_word p j t start low is =
     ) refl)
 
 -- no word yet
-pub filled_none : (s : Schedules) (p : List ℕ) → HasConstants s → IsFilled s p 0
+pub filled_none : (s : Schedules) (p : List ℕ) → IsFilled s p 0
 unfolding IsFilled
-filled_none s p all = (all, λ t j low. absurd (omega (arith, low)), λ t j low. absurd (omega (arith, low)))
-
-pub filled_constants : (s : Schedules) (p : List ℕ) (n : ℕ) → IsFilled s p n → HasConstants s
-unfolding IsFilled
-filled_constants s p n filled = filled.0
+filled_none s p = (λ t j low. absurd (omega (arith, low)), λ t j low. absurd (omega (arith, low)))
 
 pub filled_at : (s : Schedules) (p : List ℕ) (n k : ℕ) → n ≡ k → IsFilled s p n → IsFilled s p k
 filled_at s p n k same filled = rw (← same) filled
@@ -54,12 +44,12 @@ filled_of s p q n same filled = rw (← same) filled
 pub filled_word : (s : Schedules) (p : List ℕ) (n t j : ℕ) → IsFilled s p n → t < n → j < 8
     → word_in (slice_index_or s.words t []) j ≡ slice_index (schedule (block_in p j) 64) t
 unfolding IsFilled
-filled_word s p n t j filled low lane = filled.1 t j low lane
+filled_word s p n t j filled low lane = filled.0 t j low lane
 
 pub filled_keyed : (s : Schedules) (p : List ℕ) (n t j : ℕ) → IsFilled s p n → t < n → j < 8
     → word_in (slice_index_or s.keyed t []) j ≡ sum32 (slice_index (schedule (block_in p j) 64) t) (slice_index constants t)
 unfolding IsFilled
-filled_keyed s p n t j filled low lane = filled.2 t j low lane
+filled_keyed s p n t j filled low lane = filled.1 t j low lane
 
 -- a later word of a schedule, from the places before it
 pub filled_next : (s : Schedules) (p : List ℕ) (t j x : ℕ) → IsFilled s p t → 16 ≤ t → t < 64 → j < 8
@@ -73,44 +63,14 @@ filled_next s p t j x filled late within lane is =
     ∙ rw (at 16 (omega arith) (omega arith), at 15 (omega arith) (omega arith), at 7 (omega arith) (omega arith), at 2 (omega arith) (omega arith))
     (sym (later_word_is (block_in p j) 64 t late within))
 
--- what stands in the places after one more was put
-pub put_in : (xs : List (List ℕ)) (x : List ℕ) (t i : ℕ) (F : ℕ → List ℕ) → t < length xs
-    → ((k : ℕ) → k < t → slice_index_or xs k [] ≡ F k) → x ≡ F t → i < t + 1 → slice_index_or (slice_set xs t x) i [] ≡ F i
-put_in xs x t i F inside before here low =
-    elim (cases_lt i t) [
-      | inl below ↦ get_or-set_other xs t i x [] (λ same. absurd (omega (arith, same, below))) ∙ before i below
-      | inr last ↦
-          let same : i ≡ t = omega (arith, low, last) in
-          rw same (get_or-set_same xs t x [] inside ∙ here)
-    ]
-
--- a word with the constant of its round
 sum_constant : (w k : ℕ) → sum32 w (k % 2 ^ 32) ≡ sum32 w k
 sum_constant w k = omega arith
 
-pub keyed_is : (s : Schedules) (p : List ℕ) (t j x : ℕ) (word : List ℕ) → IsFilled s p t → t < 64 → j < 8
-    → word_in word j ≡ slice_index (schedule (block_in p j) 64) t
-    → x ≡ sum32 (word_in word j) (word_in (slice_index_or s.constants t []) j)
-    → x ≡ sum32 (slice_index (schedule (block_in p j) 64) t) (slice_index constants t)
-unfolding IsFilled HasConstants
-keyed_is s p t j x word filled low lane word_is made =
-    let w : ℕ = slice_index (schedule (block_in p j) 64) t in
-    let k : ℕ = slice_index constants t in
-    made
-    ∙ ap (λ (y : ℕ). sum32 y (word_in (slice_index_or s.constants t []) j)) word_is
-    ∙ ap (λ (l : List ℕ). sum32 w (word_in l j)) (filled.0 t low)
-    ∙ ap (λ (y : ℕ). sum32 w (y % 2 ^ 32)) (get_or-replicate {A = ℕ} 8 j k 0 lane)
-    ∙ sum_constant w k
-
--- eight words are a list of eight
-pub eight_items : (xs : List ℕ) → length xs ≡ 8
-    → xs ≡ slice_index xs 0 ∷ slice_index xs 1 ∷ slice_index xs 2 ∷ slice_index xs 3
-    ∷ slice_index xs 4 ∷ slice_index xs 5 ∷ slice_index xs 6 ∷ slice_index xs 7 ∷ []
-eight_items xs size =
-    open_four xs 0 (omega (arith, size))
-    ∙ ap (λ (l : List ℕ). slice_index xs 0 ∷ slice_index xs 1 ∷ slice_index xs 2 ∷ slice_index xs 3 ∷ l)
-    (open_four xs 4 (omega (arith, size))
-    ∙ ap (λ (l : List ℕ). slice_index xs 4 ∷ slice_index xs 5 ∷ slice_index xs 6 ∷ slice_index xs 7 ∷ l) (drop_all 8 xs (omega (arith, size))))
+-- a word with the constant of its round, which stands in each lane
+pub keyed_is : (w k x j : ℕ) (word : List ℕ) → j < 8 → word_in word j ≡ w → x ≡ sum32 (word_in word j) (word_in (replicate 8 k) j) → x ≡ sum32 w k
+keyed_is w k x j word lane word_is made =
+    made ∙ ap (λ (y : ℕ). sum32 y (word_in (replicate 8 k) j)) word_is
+    ∙ ap (λ (y : ℕ). sum32 w (y % 2 ^ 32)) (get_or-replicate {A = ℕ} 8 j k 0 lane) ∙ sum_constant w k
 
 placed : (xs : List (List ℕ)) (x : List ℕ) (t i j f : ℕ) (F : ℕ → ℕ) → t < length xs
     → ((k : ℕ) → k < t → word_in (slice_index_or xs k []) j ≡ F k) → word_in x j ≡ F t → i < t + 1
@@ -126,18 +86,17 @@ placed xs x t i j f F inside before here low =
 -- one place more
 pub filled_more : (old next : Schedules) (p : List ℕ) (t : ℕ) (word keyed : List ℕ) → IsFilled old p t
     → t < length old.words → t < length old.keyed
-    → next.words ≡ slice_set old.words t word → next.keyed ≡ slice_set old.keyed t keyed → next.constants ≡ old.constants
+    → next.words ≡ slice_set old.words t word → next.keyed ≡ slice_set old.keyed t keyed
     → ((j : ℕ) → j < 8 → word_in word j ≡ slice_index (schedule (block_in p j) 64) t)
     → ((j : ℕ) → j < 8 → word_in keyed j ≡ sum32 (slice_index (schedule (block_in p j) 64) t) (slice_index constants t))
     → IsFilled next p (t + 1)
-unfolding IsFilled HasConstants
-filled_more old next p t word keyed filled in_words in_keyed words keys same word_is keyed_is = (
-  rw same filled.0,
+unfolding IsFilled
+filled_more old next p t word keyed filled in_words in_keyed words keys word_is keyed_is = (
   λ i j low lane.
-      rw words (placed old.words word t i j 0 (λ k. slice_index (schedule (block_in p j) 64) k) in_words (λ k below. filled.1 k j below lane) (word_is j lane) low),
+      rw words (placed old.words word t i j 0 (λ k. slice_index (schedule (block_in p j) 64) k) in_words (λ k below. filled.0 k j below lane) (word_is j lane) low),
   λ i j low lane.
       rw keys (placed old.keyed keyed t i j 0 (λ k. sum32 (slice_index (schedule (block_in p j) 64) k) (slice_index constants k)) in_keyed
-      (λ k below. filled.2 k j below lane) (keyed_is j lane) low),
+      (λ k below. filled.1 k j below lane) (keyed_is j lane) low),
 )
 
 -- only the blocks that are counted matter
@@ -155,6 +114,14 @@ fold_blocks_batch h p i inside =
     fold_blocks-take (fold_blocks h p (8 * i)) (drop (512 * i) p) 512 8 (omega arith) (omega (arith, length-drop (512 * i) p))
     ∙ ap (λ k. fold_blocks (fold_blocks h p (8 * i)) (drop k p) 8) place
     ∙ sym (rw count (fold_blocks-add h p (8 * i) 8))
+
+-- the last batch
+pub last_batch : (h p state : List ℕ) (i count : ℕ) → state ≡ fold_blocks h p (8 * (i - 1)) → i ≡ count → 1 ≤ count → 512 * count ≤ length p
+    → fold_blocks state (batch_at p (i - 1)) 8 ≡ fold_blocks h p (8 * count)
+last_batch h p state i count before is some inside =
+    let all : i - 1 + 1 ≡ count = omega (arith, is, some) in
+    ap (λ (s : List ℕ). fold_blocks s (batch_at p (i - 1)) 8) before
+    ∙ fold_blocks_batch h p (i - 1) (omega (arith, is, some, inside)) ∙ ap (λ (n : ℕ). fold_blocks h p (8 * n)) all
 
 -- the batches, and then the blocks after them
 pub fold_blocks_rest : (h p : List ℕ) (count : ℕ) → 512 * count ≤ length p

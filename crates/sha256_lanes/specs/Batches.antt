@@ -1,5 +1,5 @@
 -- The schedules of eight blocks, place by place.
-use Rattle.std.specs.Prelude.{◌≡◌, ℕ, ◌*◌, ◌<◌, List, [], drop, replicate, slice_index}
+use Rattle.std.specs.Prelude.{◌≡◌, ℕ, ◌*◌, ◌<◌, List, [], drop, slice_index}
 use Rattle.std.specs.Prelude.{slice_index_or, take}
 use Rattle.sha256_lanes.specs.Eight.{word_in}
 use Rattle.sha256_lanes.specs.Sha256.{constants, schedule, sum32}
@@ -13,18 +13,11 @@ block_in p j = take 64 (drop (64 * j) p)
 abbrev pub batch_at : List ℕ → ℕ → List ℕ
 batch_at p i = take 512 (drop (512 * i) p)
 
--- the constant of each round stands eight times in its place
-unfoldable pub HasConstants : Schedules → Type 0
-HasConstants s =
-    (t : ℕ) → t < 64
-    → slice_index_or s.constants t [] ≡ replicate 8 (slice_index constants t)
-
--- the constants are there, and in the first n places word t of the schedule of each of the eight
--- blocks of p, without and with the constant of its round
+-- the first n places have word t of the schedule of each of the eight blocks of p, without and with
+-- the constant of its round
 unfoldable pub IsFilled : Schedules → List ℕ → ℕ → Type 0
 IsFilled s p n =
-    HasConstants s
-    × ((t j : ℕ) → t < n → j < 8
+    ((t j : ℕ) → t < n → j < 8
     → word_in (slice_index_or s.words t []) j ≡ slice_index (schedule (block_in p j) 64) t)
     × ((t j : ℕ) → t < n → j < 8
     → word_in (slice_index_or s.keyed t []) j

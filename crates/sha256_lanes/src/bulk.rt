@@ -3,7 +3,7 @@
 
 ghost use Rattle.std.specs.Prelude.{◌≡◌, ℕ, ◌+◌, ◌*◌, ◌%◌, ◌^◌, ◌<◌, ◌≤◌, List};
 ghost use Rattle.std.specs.Prelude.{length, slice_index};
-ghost use Rattle.sha256_lanes.specs.Batches.{HasConstants, IsFilled, batch_at, block_in};
+ghost use Rattle.sha256_lanes.specs.Batches.{IsFilled, batch_at, block_in};
 ghost use Rattle.sha256_lanes.specs.Eight.{word_in};
 ghost use Rattle.sha256_lanes.specs.Lanes.{variables};
 ghost use Rattle.sha256_lanes.specs.Rounds.{rounds_until};
@@ -22,8 +22,6 @@ pub(crate) const BATCH_BYTES: usize = 512;
 struct Schedules {
     words: [[u32; 8]; 64],
     keyed: [[u32; 8]; 64],
-    // The constant of each round, eight times.
-    constants: [[u32; 8]; 64],
 }
 
 #[inline(always)]
@@ -116,7 +114,7 @@ fn put(next: &mut Schedules, t: usize, word: u32x8)
         → IsFilled next.new p (t + 1) }
 {
     next.words[t] = word.to_array();
-    next.keyed[t] = word.sum(u32x8::from_array(next.constants[t])).to_array();
+    next.keyed[t] = word.sum(u32x8::splat(CONSTANTS[t])).to_array();
 }
 
 // Word `t` of each block.
@@ -212,25 +210,46 @@ fn later_turn(s: Variables<u32>, now: &Schedules, next: &mut Schedules, j: usize
     sums(s, v)
 }
 
+// The hash value after block `j` alone.
+#[inline(always)]
+fn lone_turn(s: Variables<u32>, now: &Schedules, j: usize) -> Variables<u32>
+    requires { j < 8 }
+    ensures { (p : List ℕ) → IsFilled now.now p 64
+        → variables (λ x. x) result ≡ compress (variables (λ x. x) s) (block_in p j) }
+{
+    let mut v = s;
+    'groups: for k in 0..8 {
+        v = eight_rounds(v, now, 8 * k, j);
+    }
+    sums(s, v)
+}
+
+// The words of a hash value by their names.
+#[inline(always)]
+fn named(words: &[u32; 8]) -> Variables<u32>
+    ensures { variables (λ x. x) result ≡ words.now }
+{
+    Variables {
+        a: words[0],
+        b: words[1],
+        c: words[2],
+        d: words[3],
+        e: words[4],
+        f: words[5],
+        g: words[6],
+        h: words[7],
+    }
+}
+
 // Takes the eight blocks whose schedules are there into the state, and makes the schedules of the
 // next eight blocks.
 #[inline(never)]
 fn turn(state: &mut [u32; 8], now: &Schedules, next: &mut Schedules, blocks: &[u8; BATCH_BYTES])
     ensures state { (p : List ℕ) → IsFilled now.now p 64
         → state.new ≡ fold_blocks state.old p 8 }
-    ensures next { HasConstants next.old → IsFilled next.new blocks.now 64 }
+    ensures next { IsFilled next.new blocks.now 64 }
 {
-    let s = Variables {
-        a: state[0],
-        b: state[1],
-        c: state[2],
-        d: state[3],
-        e: state[4],
-        f: state[5],
-        g: state[6],
-        h: state[7],
-    };
-    let s = first_turn(s, now, next, blocks, 0);
+    let s = first_turn(named(state), now, next, blocks, 0);
     let mut s = first_turn(s, now, next, blocks, 1);
     'later_blocks: for j in 2..8 {
         s = later_turn(s, now, next, j);
@@ -238,9 +257,21 @@ fn turn(state: &mut [u32; 8], now: &Schedules, next: &mut Schedules, blocks: &[u
     *state = [s.a, s.b, s.c, s.d, s.e, s.f, s.g, s.h];
 }
 
+// Takes the eight blocks whose schedules are there into the state.
+#[inline(never)]
+fn last_turn(state: &mut [u32; 8], now: &Schedules)
+    ensures { (p : List ℕ) → IsFilled now.now p 64 → state.new ≡ fold_blocks state.old p 8 }
+{
+    let mut s = named(state);
+    'last_blocks: for j in 0..8 {
+        s = lone_turn(s, now, j);
+    }
+    *state = [s.a, s.b, s.c, s.d, s.e, s.f, s.g, s.h];
+}
+
 // The words of the blocks themselves.
 fn expand_first(next: &mut Schedules, blocks: &[u8; BATCH_BYTES])
-    ensures { HasConstants next.old → IsFilled next.new blocks.now 16 }
+    ensures { IsFilled next.new blocks.now 16 }
 {
     'firsts: for t in 0..16 {
         put_first(next, blocks, t);
@@ -256,29 +287,21 @@ fn expand_later(next: &mut Schedules)
     }
 }
 
-// The constants of the rounds, with no words.
-fn empty() -> Schedules
-    ensures { HasConstants result }
+// The schedules of eight blocks.
+fn expand(next: &mut Schedules, blocks: &[u8; BATCH_BYTES])
+    ensures { IsFilled next.new blocks.now 64 }
 {
-    let mut constants = [[0u32; 8]; 64];
-    'each: for t in 0..64 {
-        constants[t] = [CONSTANTS[t]; 8];
-    }
+    expand_first(next, blocks);
+    expand_later(next);
+}
+
+// No words yet.
+#[inline(always)]
+fn empty() -> Schedules {
     Schedules {
         words: [[0; 8]; 64],
         keyed: [[0; 8]; 64],
-        constants,
     }
-}
-
-// The schedules of eight blocks.
-fn schedules_of(blocks: &[u8; BATCH_BYTES]) -> Schedules
-    ensures { IsFilled result blocks.now 64 }
-{
-    let mut made = empty();
-    expand_first(&mut made, blocks);
-    expand_later(&mut made);
-    made
 }
 
 // Eight blocks, from block `8 * i` on.
@@ -297,14 +320,20 @@ pub(crate) fn absorb_batches(state: &mut [u32; 8], blocks: &[u8], count: usize)
     requires inside { 512 * count ≤ length blocks.now }
     ensures { state.new ≡ fold_blocks state.old blocks.now (8 * count) }
 {
-    let mut even = schedules_of(&batch_at(blocks, 0));
+    let mut even = empty();
     let mut odd = empty();
-    'batches: for i in 0..count {
-        let following = batch_at(blocks, (i + 1).min(count - 1));
-        if i % 2 == 0 {
+    expand(&mut even, &batch_at(blocks, 0));
+    'batches: for i in 1..count {
+        let following = batch_at(blocks, i);
+        if i % 2 == 1 {
             turn(state, &even, &mut odd, &following);
         } else {
             turn(state, &odd, &mut even, &following);
         }
+    }
+    if count % 2 == 1 {
+        last_turn(state, &even);
+    } else {
+        last_turn(state, &odd);
     }
 }

@@ -1,3 +1,5 @@
 pub mod Lanes
 pub mod Steps
 pub mod Midstate
+pub mod Batches
+pub mod Hash

@@ -12,7 +12,7 @@ use crate::word::Word;
 use std::alloc::AllocError;
 
 /// The constants of the 80 rounds (FIPS 180-4, 4.2.3).
-const CONSTANTS: [u64; 80] = [
+pub(crate) const CONSTANTS: [u64; 80] = [
     0x428a2f98d728ae22,
     0x7137449123ef65cd,
     0xb5c0fbcfec4d3b2f,
@@ -227,7 +227,7 @@ fn round<W: Word>(v: Variables<W>, constant: u64, word: W) -> Variables<W>
 
 // A word of the schedule, from those 16, 15, 7 and 2 places before it.
 #[inline(always)]
-fn later_word<W: Word>(w0: W, w1: W, w9: W, w14: W) -> W
+pub(crate) fn later_word<W: Word>(w0: W, w1: W, w9: W, w14: W) -> W
     ensures { (j : ℕ) → j < W.lanes → W.lane result j
         ≡ next_in (W.lane w0 j) (W.lane w1 j) (W.lane w9 j) (W.lane w14 j) }
 {

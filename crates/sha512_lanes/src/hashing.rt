@@ -6,28 +6,14 @@ ghost use Rattle.std.specs.Int.{to_be_bytes, w128};
 ghost use Rattle.sha2.specs.Sha512.{digest_bytes, padding, sha512};
 ghost use Rattle.sha512_lanes.specs.Midstate.{BeginsWith};
 
+use crate::blocks::{BLOCK_BYTES, INITIAL_WORDS};
 use crate::compression::compress_each;
 use crate::word::Word;
 use std::simd::u64x4;
 
-/// How many bytes a block has (FIPS 180-4, 5.2.2).
-pub const BLOCK_BYTES: usize = 128;
-
 /// The most bytes that end a message within one block: the padding takes a byte and the message's
 /// length sixteen (FIPS 180-4, 5.1.2).
 pub const MAX_TAIL: usize = 111;
-
-/// The hash value before the first block (FIPS 180-4, 5.3.5).
-const INITIAL_WORDS: [u64; 8] = [
-    0x6a09e667f3bcc908,
-    0xbb67ae8584caa73b,
-    0x3c6ef372fe94f82b,
-    0xa54ff53a5f1d36f1,
-    0x510e527fade682d1,
-    0x9b05688c2b3e6c1f,
-    0x1f83d9abfb41bd6b,
-    0x5be0cd19137e2179,
-];
 
 // Begins a block of zeros with the last bytes of a message and the bit 1 after them.
 #[inline(always)]
@@ -76,7 +62,7 @@ fn last_blocks<const N: usize>(tails: &[[u8; BLOCK_BYTES]; N], len: usize) -> [[
 }
 
 #[inline(always)]
-fn word_bytes(words: &[u64; 8]) -> [u8; 64]
+pub(crate) fn word_bytes(words: &[u64; 8]) -> [u8; 64]
     ensures { result ≡ digest_bytes words.now 8 }
 {
     let mut bytes = [0u8; 64];

@@ -7,8 +7,9 @@ ghost use Rattle.sha2.specs.Sha512.{hash_after, padding, sha512};
 ghost use Rattle.sha512_lanes.specs.Lanes.{variables};
 ghost use Rattle.sha512_lanes.specs.Midstate.{BeginsWith};
 
+use crate::blocks::BLOCK_BYTES;
 use crate::compression::{compressed, row, spread, window_of};
-use crate::hashing::{BLOCK_BYTES, Midstate, digests_of};
+use crate::hashing::{Midstate, digests_of};
 use std::simd::u64x4;
 
 // The most blocks after the first one, and how many bytes they have.

@@ -4,7 +4,7 @@ ghost use Rattle.slh_frames.specs.Frames.{head_of, kept_tail, tail_of};
 
 use digest_core::{AssociatedOid, ObjectIdentifier};
 use hmac_sha256::Hash;
-use sha2::{Digest, Sha512};
+use sha512_lanes::Hash512;
 use slh_core::params::MAX_MESSAGE_LEN;
 use std::marker::Model;
 
@@ -68,7 +68,7 @@ fn hashed(mode: Mode, msg: &[u8]) -> [u8; SHA512_LEN]
     match mode {
         Mode::Pure => {}
         Mode::Sha256 => put_digest(&Hash::oid(), &Hash::hash(msg), &mut out),
-        Mode::Sha512 => put_digest(&ObjectIdentifier::sha512(), &Sha512::digest(msg), &mut out),
+        Mode::Sha512 => put_digest(&ObjectIdentifier::sha512(), &Hash512::digest(msg), &mut out),
     }
     out
 }

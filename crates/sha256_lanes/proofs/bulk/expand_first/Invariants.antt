@@ -1,5 +1,5 @@
-use Rattle.sha256_lanes.specs.Batches.{HasConstants, IsFilled}
+use Rattle.sha256_lanes.specs.Batches.{IsFilled}
 use Rattle.sha256_lanes.proofs.bulk.expand_first.Given as goal
 
 abbrev pub invariant-firsts : goal.invariant-firsts
-invariant-firsts l = HasConstants l.initial.next → IsFilled l.next l.blocks l.t
+invariant-firsts l = IsFilled l.next l.blocks l.t

@@ -6,5 +6,5 @@ use Rattle.sha256_lanes.proofs.bulk.turn.Given as goal
 
 -- the blocks so far, and the words that were put
 abbrev pub invariant-later_blocks : goal.invariant-later_blocks
-invariant-later_blocks l = ((p : List ℕ) → IsFilled l.now p 64 → variables (λ x. x) l.s ≡ fold_blocks l.initial.state p l.j)
-    × (IsFilled l.initial.next l.blocks 16 → IsFilled l.next l.blocks (8 * l.j))
+invariant-later_blocks l = ((p : List ℕ) → IsFilled l.now p 64 → variables (λ x. x) l.s ≡ fold_blocks l.fn.state p l.j)
+    × IsFilled l.next l.blocks (8 * l.j)
