@@ -10,7 +10,7 @@ use crate::compression::compress_each;
 pub const BLOCK_BYTES: usize = 128;
 
 /// The hash value before the first block (FIPS 180-4, 5.3.5).
-pub const INITIAL_WORDS: [u64; 8] = [
+pub(crate) const INITIAL_WORDS: [u64; 8] = [
     0x6a09e667f3bcc908,
     0xbb67ae8584caa73b,
     0x3c6ef372fe94f82b,
@@ -25,7 +25,7 @@ pub const INITIAL_WORDS: [u64; 8] = [
 const FEWEST_BATCHES: usize = 4;
 
 /// Takes one block into the eight words.
-pub fn compress(state: &mut [u64; 8], block: &[u8])
+pub(crate) fn compress(state: &mut [u64; 8], block: &[u8])
     requires { length block.now ≡ 128 }
     ensures { state.new ≡ compress state.old block.now }
 {

@@ -1,7 +1,8 @@
 //! Long messages, four blocks at a time: the schedules of four blocks are words side by side, and
 //! while the rounds of four blocks go on one after the other, those of the next four are made.
 
-ghost use Rattle.std.specs.Prelude.{◌≡◌, ℕ, ◌+◌, ◌*◌, ◌%◌, ◌^◌, ◌<◌, ◌≤◌, List, length, slice_index};
+ghost use Rattle.std.specs.Prelude.{◌≡◌, ℕ, ◌+◌, ◌*◌, ◌%◌, ◌^◌, ◌<◌, ◌≤◌, List};
+ghost use Rattle.std.specs.Prelude.{length, slice_index};
 ghost use Rattle.sha2.specs.Sha512.{add64, big_sigma0, big_sigma1, ch, compress, hash_after, maj};
 ghost use Rattle.sha2.specs.Sha512.{round, rounds, schedule, word_at};
 ghost use Rattle.sha512_lanes.specs.Batches.{IsFilled, batch_at, block_in, word_in};

@@ -1,9 +1,10 @@
-//! SHA-512 (FIPS 180-4) of several short messages side by side, which begin with the same block of
-//! 128 bytes. No call takes memory.
+//! SHA-512 (FIPS 180-4) of a message that comes in pieces, as [`Hash512`], and of several short
+//! ones side by side, which begin with the same block of 128 bytes. No call takes memory.
 //!
-//! What a digest is, and each step on the way to it, are the definitions of the library's `sha2`,
-//! which hashes one message of any length. This crate is for many messages that differ in their
-//! ends alone, as the hashes of a tree under one public seed do.
+//! What a digest is, and each step on the way to it, are the definitions of the library's `sha2`.
+//! Where 16 blocks or more come at once, they are hashed four at a time, faster than there.
+//! [`Midstate`] is for many messages that differ in their ends alone, as the hashes of a tree under
+//! one public seed do.
 //!
 //! The digests of a block followed by each of four tails of three bytes. The test
 //! `example_of_the_page` of `hash_tests` runs this:
