@@ -5,7 +5,7 @@ ghost use Rattle.slh_hash.specs.HmacSha512.{hmac_sha512 as spec_hmac_sha512};
 ghost use Rattle.slh_hash.specs.HmacSha512.{key_block as spec_key_block};
 ghost use Rattle.slh_hash.specs.States.{Authenticates512};
 
-use sha2::{Digest, Sha512};
+use sha512_lanes::Hash512;
 
 const BLOCK_LEN: usize = 128;
 
@@ -27,7 +27,7 @@ fn key_block(key: &[u8]) -> [u8; BLOCK_LEN]
     ensures { result ≡ spec_key_block key.now }
 {
     if key.len() > BLOCK_LEN {
-        zero_padded(&Sha512::digest(key))
+        zero_padded(&Hash512::digest(key))
     } else {
         zero_padded(key)
     }
@@ -46,8 +46,8 @@ fn masked(block: &[u8; BLOCK_LEN], mask: u8) -> [u8; BLOCK_LEN]
 /// The HMAC-SHA-512 of a message, which `update` takes piece by piece, under a key.
 #[derive(Drop)]
 pub struct Hmac512 {
-    inner: Sha512,
-    outer: Sha512,
+    inner: Hash512,
+    outer: Hash512,
 }
 
 impl Hmac512 {
@@ -57,8 +57,8 @@ impl Hmac512 {
     {
         let block = key_block(key);
         Hmac512 {
-            inner: Sha512::new_with_prefix(masked(&block, INNER_MASK)),
-            outer: Sha512::new_with_prefix(masked(&block, OUTER_MASK)),
+            inner: Hash512::new_with_prefix(&masked(&block, INNER_MASK)),
+            outer: Hash512::new_with_prefix(&masked(&block, OUTER_MASK)),
         }
     }
 
@@ -77,7 +77,7 @@ impl Hmac512 {
     {
         let Hmac512 { inner, outer } = self;
         let mut outer = outer;
-        outer.update(inner.finalize());
+        outer.update(&inner.finalize());
         outer.finalize()
     }
 }

@@ -7,7 +7,7 @@ use crate::mac::Hmac512;
 use crate::mgf1::mgf1_512;
 use crate::sha2_l35::Sha2L35;
 use hybrid_array::ArraySize;
-use sha2::{Digest, Sha512};
+use sha512_lanes::Hash512;
 use slh_core::nbytes::NBytes;
 use slh_core::pieces::MessageSuite;
 use std::marker::PhantomData;
@@ -26,7 +26,7 @@ pub struct Mac512<N: ArraySize> {
 pub struct Digest512<N: ArraySize> {
     rand: NBytes<N>,
     pk_seed: NBytes<N>,
-    hash: Sha512,
+    hash: Hash512,
 }
 
 #[tactic(auto, unfolding(crate::specs::Sha2::message_digest_512))]
@@ -64,7 +64,7 @@ impl<N: ArraySize, M: ArraySize> MessageSuite for Sha2L35<N, M> {
     }
 
     fn begin_digest(rand: &NBytes<N>, pk_seed: &NBytes<N>, pk_root: &NBytes<N>) -> Digest512<N> {
-        let mut hash = Sha512::new_with_prefix(rand.as_slice());
+        let mut hash = Hash512::new_with_prefix(rand.as_slice());
         hash.update(pk_seed.as_slice());
         hash.update(pk_root.as_slice());
         Digest512 {

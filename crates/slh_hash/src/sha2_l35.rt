@@ -18,7 +18,7 @@ use crate::tweaked::{short_hash, start_35, wide_hash};
 use crate::wide_pairs::wide_keys_of_ends;
 use crate::wide_rows::hash_wide_pairs;
 use hybrid_array::ArraySize;
-use sha2::{Digest, Sha512};
+use sha512_lanes::Hash512;
 use slh_core::address::{Address, ForsTree, RowAddress, WotsHash};
 use slh_core::nbytes::NBytes;
 use slh_core::steps::Steps;
@@ -225,7 +225,7 @@ fn message_hash<N: ArraySize>(
     ensures { result ≡ sha512 (rand.now ++ pk_seed.now ++ pk_root.now
         ++ (head.now ++ ctx.now ++ msg.now)) }
 {
-    let mut hash = Sha512::new_with_prefix(rand.as_slice());
+    let mut hash = Hash512::new_with_prefix(rand.as_slice());
     hash.update(pk_seed.as_slice());
     hash.update(pk_root.as_slice());
     hash.update(head);
