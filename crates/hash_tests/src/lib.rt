@@ -14,4 +14,6 @@ mod hmac_wrapped;
 #[cfg(test)]
 mod sha256_tails;
 #[cfg(test)]
+mod sha512_pieces;
+#[cfg(test)]
 mod sha512_tails;
