@@ -1,7 +1,7 @@
 -- What becomes of a message's pieces.
 use Rattle.std.specs.Prelude.{ℕ, List, [], ◌++◌}
 use Rattle.hmac_sha256.specs.Hash.{StandsFor, absorbed_bytes}
-use Rattle.sha2.specs.Hashers.{Holds512}
+use Rattle.sha512_lanes.specs.Hash.{StandsFor as StandsFor512}
 use Rattle.slh_dsa.specs.declared.frame.Mode.{Mode}
 use Rattle.slh_dsa.specs.declared.frame.Mode.TheVariants.{Pure, Sha256, Sha512}
 use Rattle.slh_stream.specs.declared.tail.Tail.{Tail}
@@ -23,7 +23,7 @@ hashed_count (By512 hash) = 0
 abbrev pub IsTailOf : Tail → List ℕ → Type 0
 IsTailOf Whole m = Unit {0}
 IsTailOf (By256 hash) m = StandsFor hash m
-IsTailOf (By512 hash) m = Holds512 hash m
+IsTailOf (By512 hash) m = StandsFor512 hash m
 
 -- what of the message is absorbed as it is
 abbrev pub passed_on : Tail → List ℕ → List ℕ

@@ -6,7 +6,7 @@ ghost use Rattle.slh_stream.specs.Tails.{IsTailOf, StandsAfter, hashed_count, mo
 use crate::tail::Tail;
 use hmac_sha256::Hash;
 use hybrid_array::ArraySize;
-use sha2::{Digest, Sha512};
+use sha512_lanes::Hash512;
 use slh_core::nbytes::NBytes;
 use slh_core::params::MAX_MESSAGE_LEN;
 use slh_core::pieces::MessageSuite;
@@ -42,7 +42,7 @@ pub(crate) fn begin_tail(mode: Mode) -> Tail
     match mode {
         Mode::Pure => Tail::Whole,
         Mode::Sha256 => Tail::By256(Hash::new()),
-        Mode::Sha512 => Tail::By512(Sha512::new()),
+        Mode::Sha512 => Tail::By512(Hash512::new()),
     }
 }
 

@@ -6,7 +6,6 @@ ghost use Rattle.slh_stream.specs.Tails.{IsTailOf, hashed_count, mode_of};
 
 use crate::digests::{MAX_TAIL, put_tail};
 use crate::tail::Tail;
-use sha2::Digest;
 use slh_dsa::Mode;
 
 /// The mode in which such a message is signed.

@@ -1,7 +1,7 @@
 //! What becomes of a message's pieces.
 
 use hmac_sha256::Hash;
-use sha2::Sha512;
+use sha512_lanes::Hash512;
 
 /// What becomes of a message's pieces: they are signed as they are, or a hash of them is.
 #[derive(Drop)]
@@ -11,5 +11,5 @@ pub enum Tail {
     /// Their SHA-256 digest is.
     By256(Hash),
     /// Their SHA-512 digest is.
-    By512(Sha512),
+    By512(Hash512),
 }
