@@ -7,7 +7,7 @@ ghost use Rattle.std.specs.Prelude.{◌≤◌, IfSome};
 use hmac_sha256::Hash;
 use line_serve::decimal_value;
 use line_stdio::words_of;
-use sha2::{Digest, Sha512};
+use sha512_lanes::Hash512;
 use slh_core::pieces::MessageSuite;
 use slh_dsa::{Error, Mode, ParameterSet, Sha2_128f, Sha2_192f, SigningKey, VerifyingKey};
 use slh_stream::{FirstPass, MessageVerifier, PassError};
@@ -26,7 +26,7 @@ fn hashed(piece: &[u8; PIECE_LEN], pieces: u32) -> [u8; 32] {
 }
 
 fn hashed_512(piece: &[u8; PIECE_LEN], pieces: u32) -> [u8; 64] {
-    let mut hash = Sha512::new();
+    let mut hash = Hash512::new();
     for _i in 0..pieces {
         hash.update(piece);
     }
