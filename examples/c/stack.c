@@ -53,6 +53,45 @@ static void *verify(void *unused)
     return unused;
 }
 
+static void *sign_digest(void *unused)
+{
+    static const uint8_t digest[64];
+
+    want(slh_dsa_sha2_sign_digest(set, SLH_DSA_PREHASH_SHA512, key, 4 * n, digest, sizeof digest,
+                                  empty, 1, seeds, n, signature, signature_bytes),
+         SLH_DSA_OK);
+    return unused;
+}
+
+static void *verify_digest(void *unused)
+{
+    static const uint8_t digest[64];
+
+    want(slh_dsa_sha2_verify_digest(set, SLH_DSA_PREHASH_SHA512, public_key, 2 * n, digest,
+                                    sizeof digest, empty, 1, signature, signature_bytes),
+         SLH_DSA_INVALID);
+    return unused;
+}
+
+static void *verify_small(void *unused)
+{
+    static slh_dsa_status (*const calls[])(slh_dsa_mode, const uint8_t *, const uint8_t *, size_t,
+                                           const uint8_t *, size_t, const uint8_t *) = {
+        slh_dsa_sha2_128s_verify_small, slh_dsa_sha2_128f_verify_small,
+        slh_dsa_sha2_192s_verify_small, slh_dsa_sha2_192f_verify_small,
+        slh_dsa_sha2_256s_verify_small, slh_dsa_sha2_256f_verify_small};
+
+    want(calls[set - 1](SLH_DSA_PREHASH_SHA512, public_key, empty, 1, empty, 1, signature),
+         SLH_DSA_OK);
+    return unused;
+}
+
+static void *check_key(void *unused)
+{
+    want(slh_dsa_sha2_check_key(set, key, 4 * n), SLH_DSA_OK);
+    return unused;
+}
+
 static void *audit(void *unused)
 {
     slh_dsa_evidence evidence;
@@ -116,6 +155,10 @@ int main(void)
 
     good &= is_within("sign", sign, SLH_DSA_SIGN_STACK_BYTES);
     good &= is_within("verify", verify, SLH_DSA_VERIFY_STACK_BYTES);
+    good &= is_within("sign_digest", sign_digest, SLH_DSA_SIGN_STACK_BYTES);
+    good &= is_within("verify_digest", verify_digest, SLH_DSA_VERIFY_STACK_BYTES);
+    good &= is_within("verify_small", verify_small, SLH_DSA_VERIFY_STACK_BYTES);
+    good &= is_within("check_key", check_key, SLH_DSA_KEYGEN_STACK_BYTES);
     good &= is_within("audit", audit, SLH_DSA_AUDIT_STACK_BYTES);
     good &= is_within("check_evidence", check_evidence, SLH_DSA_CHECK_EVIDENCE_STACK_BYTES);
     return !good || surprises > 0;

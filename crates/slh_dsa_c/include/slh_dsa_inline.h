@@ -18,8 +18,9 @@
 #error "slh_dsa_inline.h wants a compiler with inline functions"
 #endif
 
-/* FORMS THAT TAKE NULL: the calls of slh_dsa.h, where a buffer of the length 0 may also be NULL.
- * NULL with another length is answered by LENGTH, before all other causes. Evidence isn't NULL. */
+/* FORMS THAT TAKE NULL: the calls of slh_dsa.h but those of one set, where a buffer of the length 0
+ * may also be NULL. NULL with another length is answered by LENGTH, before all other causes.
+ * Evidence isn't NULL. */
 
 /* Whether bytes are told of and none can be there. */
 SLH_DSA_INLINE int slh_dsa_is_missing(const uint8_t *at, size_t bytes)
@@ -55,6 +56,34 @@ SLH_DSA_MUST_CHECK SLH_DSA_INLINE slh_dsa_status slh_dsa_sha2_keygen_nullable(
         slh_dsa_read_at(seeds, &nothing), seeds_bytes,
         slh_dsa_write_at(signing_key, &nothing), signing_key_bytes,
         slh_dsa_write_at(verifying_key, &nothing), verifying_key_bytes);
+}
+
+SLH_DSA_MUST_CHECK SLH_DSA_INLINE slh_dsa_status slh_dsa_sha2_public_nullable(
+    slh_dsa_set set,
+    const uint8_t *signing_key, size_t signing_key_bytes,
+    uint8_t *verifying_key, size_t verifying_key_bytes)
+{
+    uint8_t nothing = 0;
+
+    if (slh_dsa_is_missing(signing_key, signing_key_bytes) ||
+        slh_dsa_is_missing(verifying_key, verifying_key_bytes))
+        return SLH_DSA_LENGTH;
+    return slh_dsa_sha2_public(
+        set,
+        slh_dsa_read_at(signing_key, &nothing), signing_key_bytes,
+        slh_dsa_write_at(verifying_key, &nothing), verifying_key_bytes);
+}
+
+SLH_DSA_MUST_CHECK SLH_DSA_INLINE slh_dsa_status slh_dsa_sha2_check_key_nullable(
+    slh_dsa_set set,
+    const uint8_t *signing_key, size_t signing_key_bytes)
+{
+    const uint8_t nothing = 0;
+
+    if (slh_dsa_is_missing(signing_key, signing_key_bytes))
+        return SLH_DSA_LENGTH;
+    return slh_dsa_sha2_check_key(
+        set, slh_dsa_read_at(signing_key, &nothing), signing_key_bytes);
 }
 
 SLH_DSA_MUST_CHECK SLH_DSA_INLINE slh_dsa_status slh_dsa_sha2_sign_nullable(
@@ -122,6 +151,75 @@ SLH_DSA_MUST_CHECK SLH_DSA_INLINE slh_dsa_status slh_dsa_sha2_verify_nullable(
         set, mode,
         slh_dsa_read_at(verifying_key, &nothing), verifying_key_bytes,
         slh_dsa_read_at(message, &nothing), message_bytes,
+        slh_dsa_read_at(context, &nothing), context_bytes,
+        slh_dsa_read_at(signature, &nothing), signature_bytes);
+}
+
+SLH_DSA_MUST_CHECK SLH_DSA_INLINE slh_dsa_status slh_dsa_sha2_sign_digest_nullable(
+    slh_dsa_set set, slh_dsa_mode mode,
+    const uint8_t *signing_key, size_t signing_key_bytes,
+    const uint8_t *digest, size_t digest_bytes,
+    const uint8_t *context, size_t context_bytes,
+    const uint8_t *randomizer, size_t randomizer_bytes,
+    uint8_t *signature, size_t signature_bytes)
+{
+    uint8_t nothing = 0;
+
+    if (slh_dsa_is_missing(signing_key, signing_key_bytes) ||
+        slh_dsa_is_missing(digest, digest_bytes) ||
+        slh_dsa_is_missing(context, context_bytes) ||
+        slh_dsa_is_missing(randomizer, randomizer_bytes) ||
+        slh_dsa_is_missing(signature, signature_bytes))
+        return SLH_DSA_LENGTH;
+    return slh_dsa_sha2_sign_digest(
+        set, mode,
+        slh_dsa_read_at(signing_key, &nothing), signing_key_bytes,
+        slh_dsa_read_at(digest, &nothing), digest_bytes,
+        slh_dsa_read_at(context, &nothing), context_bytes,
+        slh_dsa_read_at(randomizer, &nothing), randomizer_bytes,
+        slh_dsa_write_at(signature, &nothing), signature_bytes);
+}
+
+SLH_DSA_MUST_CHECK SLH_DSA_INLINE slh_dsa_status slh_dsa_sha2_sign_digest_deterministic_nullable(
+    slh_dsa_set set, slh_dsa_mode mode,
+    const uint8_t *signing_key, size_t signing_key_bytes,
+    const uint8_t *digest, size_t digest_bytes,
+    const uint8_t *context, size_t context_bytes,
+    uint8_t *signature, size_t signature_bytes)
+{
+    uint8_t nothing = 0;
+
+    if (slh_dsa_is_missing(signing_key, signing_key_bytes) ||
+        slh_dsa_is_missing(digest, digest_bytes) ||
+        slh_dsa_is_missing(context, context_bytes) ||
+        slh_dsa_is_missing(signature, signature_bytes))
+        return SLH_DSA_LENGTH;
+    return slh_dsa_sha2_sign_digest_deterministic(
+        set, mode,
+        slh_dsa_read_at(signing_key, &nothing), signing_key_bytes,
+        slh_dsa_read_at(digest, &nothing), digest_bytes,
+        slh_dsa_read_at(context, &nothing), context_bytes,
+        slh_dsa_write_at(signature, &nothing), signature_bytes);
+}
+
+SLH_DSA_MUST_CHECK SLH_DSA_INLINE slh_dsa_status slh_dsa_sha2_verify_digest_nullable(
+    slh_dsa_set set, slh_dsa_mode mode,
+    const uint8_t *verifying_key, size_t verifying_key_bytes,
+    const uint8_t *digest, size_t digest_bytes,
+    const uint8_t *context, size_t context_bytes,
+    const uint8_t *signature, size_t signature_bytes)
+{
+    const uint8_t nothing = 0;
+
+    if (slh_dsa_is_missing(verifying_key, verifying_key_bytes) ||
+        slh_dsa_is_missing(digest, digest_bytes) ||
+        slh_dsa_is_missing(context, context_bytes) ||
+        slh_dsa_is_missing(signature, signature_bytes))
+        return SLH_DSA_LENGTH;
+    return slh_dsa_sha2_verify_digest(
+        set, mode,
+        slh_dsa_read_at(verifying_key, &nothing), verifying_key_bytes,
+        slh_dsa_read_at(digest, &nothing), digest_bytes,
         slh_dsa_read_at(context, &nothing), context_bytes,
         slh_dsa_read_at(signature, &nothing), signature_bytes);
 }
@@ -224,7 +322,7 @@ SLH_DSA_MUST_CHECK SLH_DSA_INLINE const char *slh_dsa_status_text(slh_dsa_status
     case SLH_DSA_FOREIGN: return "the signature is accepted, but the key does not make it";
     case SLH_DSA_NOT_SHOWN: return "the evidence does not show";
     case SLH_DSA_KEY_MISMATCH: return "the root of the key is not that of its seeds";
-    case SLH_DSA_LENGTH: return "the seeds, a key or the signature have a wrong length";
+    case SLH_DSA_LENGTH: return "the seeds, a key, the digest or the signature have a wrong length";
     case SLH_DSA_CONTEXT_TOO_LONG: return "the context has more than 255 bytes";
     case SLH_DSA_RANDOMIZER_LENGTH: return "the randomizer has a wrong length";
     case SLH_DSA_MESSAGE_TOO_LONG: return "the message has more than 2^60 bytes";

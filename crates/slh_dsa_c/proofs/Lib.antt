@@ -1,2 +1,3 @@
 mod Sets
 mod Verified
+pub mod TrueKeys

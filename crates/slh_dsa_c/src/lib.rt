@@ -1,7 +1,7 @@
 //! SLH-DSA (FIPS 205) over SHA-2 for callers in C, and by it for any language that calls C.
 //!
 //! A static library: its header is `include/slh_dsa.h`, which has the sizes and the statuses. Each
-//! export calls the functions of `slh_dsa` and `slh_audit` on the caller's memory, and answers a
+//! export calls the functions of `slh_dsa`, `slh_stream` and `slh_audit` on the caller's memory, and answers a
 //! status: 0, or the number of the first cause that stands. None takes memory, none keeps
 //! anything between calls, and none calls back.
 //!
@@ -10,10 +10,13 @@
 #![tactic(auto)]
 
 mod audit;
+mod digests;
 mod evidence;
 mod keygen;
+mod keys;
 pub mod laws;
 mod mode;
+mod one_by_one;
 mod set;
 mod sign;
 mod sizes;
@@ -21,10 +24,21 @@ mod status;
 #[cfg(test)]
 mod tests;
 mod verify;
+mod verify_set;
 
 pub use audit::{slh_dsa_sha2_audit, slh_dsa_sha2_check_evidence};
+pub use digests::{
+    slh_dsa_sha2_sign_digest, slh_dsa_sha2_sign_digest_deterministic, slh_dsa_sha2_verify_digest,
+};
 pub use evidence::CEvidence;
 pub use keygen::slh_dsa_sha2_keygen;
+pub use keys::{slh_dsa_sha2_check_key, slh_dsa_sha2_public};
 pub use sign::{slh_dsa_sha2_sign, slh_dsa_sha2_sign_deterministic};
 pub use sizes::{slh_dsa_sha2_n, slh_dsa_sha2_signature_bytes};
 pub use verify::slh_dsa_sha2_verify;
+pub use verify_set::{
+    slh_dsa_sha2_128f_verify, slh_dsa_sha2_128f_verify_small, slh_dsa_sha2_128s_verify,
+    slh_dsa_sha2_128s_verify_small, slh_dsa_sha2_192f_verify, slh_dsa_sha2_192f_verify_small,
+    slh_dsa_sha2_192s_verify, slh_dsa_sha2_192s_verify_small, slh_dsa_sha2_256f_verify,
+    slh_dsa_sha2_256f_verify_small, slh_dsa_sha2_256s_verify, slh_dsa_sha2_256s_verify_small,
+};

@@ -1,10 +1,13 @@
 //! The numbers that `include/slh_dsa.h` has too, and each export once with SLH-DSA-SHA2-128f.
 use crate::audit::{slh_dsa_sha2_audit, slh_dsa_sha2_check_evidence};
+use crate::digests::{slh_dsa_sha2_sign_digest, slh_dsa_sha2_verify_digest};
 use crate::evidence::CEvidence;
 use crate::keygen::slh_dsa_sha2_keygen;
+use crate::keys::{slh_dsa_sha2_check_key, slh_dsa_sha2_public};
 use crate::sign::{slh_dsa_sha2_sign, slh_dsa_sha2_sign_deterministic};
 use crate::sizes::{slh_dsa_sha2_n, slh_dsa_sha2_signature_bytes};
 use crate::verify::slh_dsa_sha2_verify;
+use crate::verify_set::{slh_dsa_sha2_128f_verify, slh_dsa_sha2_128f_verify_small};
 
 // A set's number, its n and the bytes of its signatures (FIPS 205, section 11, table 2).
 const SIZES: [(u32, usize, usize); 6] = [
@@ -172,4 +175,69 @@ fn evidence_has_six_kinds(rt: HostRuntime) {
     for kind in [0, 7, u32::MAX] {
         assert!(rt; check(kind) == 11);
     }
+}
+
+// What the calls of one set answer to a signature of "Hello", by lanes and one by one.
+fn verify_in_one_set(mode: u32, ctx: &[u8], sig: &Sig) -> (u32, u32) {
+    let (_, _, public) = keys();
+    let by_lanes = slh_dsa_sha2_128f_verify(mode, &public, b"Hello", ctx, sig);
+    let one_by_one = slh_dsa_sha2_128f_verify_small(mode, &public, b"Hello", ctx, sig);
+    (by_lanes, one_by_one)
+}
+
+#[test]
+fn the_calls_of_one_set_accept_and_refuse(rt: HostRuntime) {
+    let (_, sig) = sign(1, b"ctx", &[4; 16]);
+    assert!(rt; verify_in_one_set(1, b"ctx", &sig) == (0, 0));
+    assert!(rt; verify_in_one_set(1, b"", &sig) == (1, 1));
+    assert!(rt; verify_in_one_set(1, &[0; 256], &sig) == (6, 6));
+    assert!(rt; verify_in_one_set(3, b"ctx", &sig) == (10, 10));
+}
+
+// The SHA-256 of "Hello", by another program.
+const DIGEST: [u8; 32] = [
+    0x18, 0x5f, 0x8d, 0xb3, 0x22, 0x71, 0xfe, 0x25, 0xf5, 0x61, 0xa6, 0xfc, 0x93, 0x8b, 0x2e, 0x26,
+    0x43, 0x06, 0xec, 0x30, 0x4e, 0xda, 0x51, 0x80, 0x07, 0xd1, 0x76, 0x48, 0x26, 0x38, 0x19, 0x69,
+];
+
+fn sign_digest(mode: u32, digest: &[u8]) -> (u32, Sig) {
+    let (_, key, _) = keys();
+    let mut sig = [0u8; LEN];
+    let status = slh_dsa_sha2_sign_digest(SET, mode, &key, digest, b"ctx", &[4; 16], &mut sig);
+    (status, sig)
+}
+
+#[test]
+fn a_digest_is_signed_as_its_message_is(rt: HostRuntime) {
+    let (status, sig) = sign_digest(1, &DIGEST);
+    assert!(rt; status == 0 && sig == sign(1, b"ctx", &[4; 16]).1);
+    let (_, _, public) = keys();
+    assert!(rt; slh_dsa_sha2_verify_digest(SET, 1, &public, &DIGEST, b"ctx", &sig) == 0);
+    assert!(rt; slh_dsa_sha2_verify_digest(SET, 1, &public, &[0; 32], b"ctx", &sig) == 1);
+}
+
+#[test]
+fn a_digest_of_another_length_or_mode_is_refused(rt: HostRuntime) {
+    assert!(rt; sign_digest(0, &DIGEST).0 == 5);
+    assert!(rt; sign_digest(1, &DIGEST[1..]).0 == 5);
+    assert!(rt; sign_digest(2, &DIGEST).0 == 5);
+    assert!(rt; sign_digest(3, &DIGEST).0 == 10);
+}
+
+// The verifying key that a signing key tells of itself.
+fn told_by(key: &[u8]) -> (u32, Public) {
+    let mut public = [0u8; 32];
+    let status = slh_dsa_sha2_public(SET, key, &mut public);
+    (status, public)
+}
+
+#[test]
+fn a_key_tells_its_verifying_key_and_its_root(rt: HostRuntime) {
+    let (_, mut key, public) = keys();
+    assert!(rt; told_by(&key) == (0, public));
+    assert!(rt; told_by(&key[1..]) == (5, [0; 32]));
+    assert!(rt; slh_dsa_sha2_check_key(SET, &key) == 0);
+    key[63] ^= 1;
+    assert!(rt; slh_dsa_sha2_check_key(SET, &key) == 4);
+    assert!(rt; slh_dsa_sha2_check_key(SET, &key[1..]) == 5);
 }

@@ -1,0 +1,167 @@
+//! A parameter set whose suite hashes one value after the other, for small code.
+ghost use Rattle.std.specs.Prelude.{◌≡◌, ◌+◌, ◌*◌, ◌≤◌, ◌++◌, length};
+
+use slh_core::address::Address;
+use slh_core::nbytes::NBytes;
+use slh_core::params::{ForsParams, HypertreeParams, WotsParams, XmssParams};
+use slh_core::steps::Steps;
+use slh_core::suite::HashSuite;
+use slh_dsa::ParameterSet;
+use std::marker::PhantomData;
+use std::sync::ledger::Ledger;
+
+/// The set, with the functions of many values left to the trait's own bodies. Its values, and so its
+/// scheme, are the set's. What hashes a value is a call and never in line: the code of SHA-2 stands
+/// in a program once.
+pub struct OneByOne<P: ParameterSet> {
+    set: PhantomData<P>,
+}
+
+impl<P: ParameterSet> HashSuite for OneByOne<P> {
+    type N = P::N;
+
+    type M = P::M;
+
+    type Keyed = P::Keyed;
+
+    ghost suite = { P.suite };
+
+    ghost seed_of = { P.seed_of };
+
+    ghost keyed_suite = { P.keyed_suite };
+
+    fn keyed(pk_seed: &NBytes<P::N>) -> P::Keyed {
+        P::keyed(pk_seed)
+    }
+
+    #[inline(never)]
+    fn f<A: Address, L: Ledger>(
+        keyed: &P::Keyed,
+        adrs: &A,
+        m: &NBytes<P::N>,
+        steps: &mut Steps<L>,
+    ) -> NBytes<P::N> {
+        P::f(keyed, adrs, m, steps)
+    }
+
+    #[inline(never)]
+    fn h<A: Address, L: Ledger>(
+        keyed: &P::Keyed,
+        adrs: &A,
+        m1: &NBytes<P::N>,
+        m2: &NBytes<P::N>,
+        steps: &mut Steps<L>,
+    ) -> NBytes<P::N> {
+        P::h(keyed, adrs, m1, m2, steps)
+    }
+
+    #[inline(never)]
+    fn t<A: Address, L: Ledger>(
+        keyed: &P::Keyed,
+        adrs: &A,
+        m: &[u8],
+        steps: &mut Steps<L>,
+    ) -> NBytes<P::N> {
+        P::t(keyed, adrs, m, steps)
+    }
+
+    #[inline(never)]
+    fn prf_sk<A: Address, L: Ledger>(
+        keyed: &P::Keyed,
+        sk_seed: &NBytes<P::N>,
+        adrs: &A,
+        steps: &mut Steps<L>,
+    ) -> NBytes<P::N> {
+        P::prf_sk(keyed, sk_seed, adrs, steps)
+    }
+
+    fn prf_msg(
+        sk_prf: &NBytes<P::N>,
+        opt_rand: &NBytes<P::N>,
+        head: &[u8],
+        ctx: &[u8],
+        msg: &[u8],
+    ) -> NBytes<P::N> {
+        P::prf_msg(sk_prf, opt_rand, head, ctx, msg)
+    }
+
+    fn h_msg(
+        rand: &NBytes<P::N>,
+        pk_seed: &NBytes<P::N>,
+        pk_root: &NBytes<P::N>,
+        head: &[u8],
+        ctx: &[u8],
+        msg: &[u8],
+        out: &mut [u8],
+    ) {
+        P::h_msg(rand, pk_seed, pk_root, head, ctx, msg, out);
+    }
+
+    ghost keyed_suite_is = { P.keyed_suite_is };
+
+    ghost lengths = { P.lengths };
+
+    ghost digest_length = { P.digest_length };
+
+    ghost value_bytes = { P.value_bytes };
+}
+
+impl<P: ParameterSet> WotsParams for OneByOne<P> {
+    type WotsMsgLen = <P as WotsParams>::WotsMsgLen;
+
+    type WotsSigLen = <P as WotsParams>::WotsSigLen;
+
+    ghost valid_wots = { P.valid_wots };
+}
+
+impl<P: ParameterSet> XmssParams for OneByOne<P> {
+    type HPrime = <P as XmssParams>::HPrime;
+
+    ghost valid_xmss = { P.valid_xmss };
+}
+
+impl<P: ParameterSet> HypertreeParams for OneByOne<P> {
+    type D = <P as HypertreeParams>::D;
+
+    type H = <P as HypertreeParams>::H;
+
+    ghost valid_hypertree = { P.valid_hypertree };
+}
+
+impl<P: ParameterSet> ForsParams for OneByOne<P> {
+    type K = <P as ForsParams>::K;
+
+    type A = <P as ForsParams>::A;
+
+    type MD = <P as ForsParams>::MD;
+
+    ghost scheme = { P.scheme };
+
+    ghost scheme_is = { P.scheme_is };
+
+    ghost valid_fors = { P.valid_fors };
+}
+
+impl<P: ParameterSet> ParameterSet for OneByOne<P> {
+    const NAME: &'static str = <P as ParameterSet>::NAME;
+
+    type SkLen = <P as ParameterSet>::SkLen;
+
+    type VkLen = <P as ParameterSet>::VkLen;
+
+    type SigLen = <P as ParameterSet>::SigLen;
+
+    ghost set_name = { P.set_name };
+
+    fn set_name() -> &'static str {
+        P::set_name()
+    }
+
+    ghost name_len = { P.name_len };
+
+    ghost sk_len = { P.sk_len };
+
+    ghost vk_len = { P.vk_len };
+
+    ghost sig_len = { P.sig_len };
+}
