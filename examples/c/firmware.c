@@ -2,7 +2,8 @@
  * A verifier without an operating system's library: it is linked with -nostdlib, and has the three
  * functions that the library wants, and nothing else. `image.h` has a key, an image and a signature
  * of it, as a boot loader finds them in flash. The status, by the one system call that it makes, is
- * 0 where the image is accepted and the same image with a bit changed is not.
+ * 0 where the image is accepted and the same image with a bit changed is not. It verifies twice, by
+ * slh_dsa_sha2_verdict, or once by the call of one set, where ONE_SET names it.
  */
 #include "image.h"
 #include "slh_dsa_inline.h"
@@ -50,9 +51,16 @@ void *memset(void *at, int byte, size_t count)
 
 static slh_dsa_verdict verdict(void)
 {
+#ifdef ONE_SET
+    return ONE_SET(SLH_DSA_PURE, public_key, image, sizeof image, CONTEXT, CONTEXT_BYTES,
+                   signature) == SLH_DSA_OK
+               ? SLH_DSA_VERDICT_ACCEPTED
+               : SLH_DSA_VERDICT_REFUSED;
+#else
     return slh_dsa_sha2_verdict(SLH_DSA_SHA2_128F, SLH_DSA_PURE, public_key, sizeof public_key,
                                 image, sizeof image, CONTEXT, CONTEXT_BYTES, signature,
                                 sizeof signature);
+#endif
 }
 
 static int boots(void)

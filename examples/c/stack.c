@@ -16,6 +16,8 @@ static _Alignas(4096) uint8_t stack[STACK];
 static uint8_t key[SLH_DSA_MAX_SIGNING_KEY_BYTES], public_key[SLH_DSA_MAX_VERIFYING_KEY_BYTES];
 static uint8_t seeds[SLH_DSA_MAX_SEEDS_BYTES], signature[SLH_DSA_MAX_SIGNATURE_BYTES];
 static const uint8_t empty[1];
+/* Long enough for its blocks to be hashed several at a time, which takes stack of its own. */
+static const uint8_t message[8192];
 static slh_dsa_set set;
 static size_t n, signature_bytes;
 static int surprises;
@@ -39,7 +41,8 @@ static void *keygen(void *unused)
 
 static void *sign(void *unused)
 {
-    want(slh_dsa_sha2_sign(set, SLH_DSA_PREHASH_SHA512, key, 4 * n, empty, 1, empty, 1, seeds, n,
+    want(slh_dsa_sha2_sign(set, SLH_DSA_PREHASH_SHA512, key, 4 * n, message, sizeof message,
+                           empty, 1, seeds, n,
                            signature, signature_bytes),
          SLH_DSA_OK);
     return unused;
@@ -47,7 +50,8 @@ static void *sign(void *unused)
 
 static void *verify(void *unused)
 {
-    want(slh_dsa_sha2_verify(set, SLH_DSA_PREHASH_SHA512, public_key, 2 * n, empty, 1, empty, 1,
+    want(slh_dsa_sha2_verify(set, SLH_DSA_PREHASH_SHA512, public_key, 2 * n, message,
+                             sizeof message, empty, 1,
                              signature, signature_bytes),
          SLH_DSA_OK);
     return unused;
@@ -81,7 +85,8 @@ static void *verify_small(void *unused)
         slh_dsa_sha2_192s_verify_small, slh_dsa_sha2_192f_verify_small,
         slh_dsa_sha2_256s_verify_small, slh_dsa_sha2_256f_verify_small};
 
-    want(calls[set - 1](SLH_DSA_PREHASH_SHA512, public_key, empty, 1, empty, 1, signature),
+    want(calls[set - 1](SLH_DSA_PREHASH_SHA512, public_key, message, sizeof message, empty,
+                        1, signature),
          SLH_DSA_OK);
     return unused;
 }
@@ -96,7 +101,8 @@ static void *audit(void *unused)
 {
     slh_dsa_evidence evidence;
 
-    want(slh_dsa_sha2_audit(set, SLH_DSA_PREHASH_SHA512, key, 4 * n, empty, 1, empty, 1, signature,
+    want(slh_dsa_sha2_audit(set, SLH_DSA_PREHASH_SHA512, key, 4 * n, message, sizeof message,
+                            empty, 1, signature,
                             signature_bytes, &evidence),
          SLH_DSA_OK);
     return unused;
@@ -108,8 +114,9 @@ static void *check_evidence(void *unused)
 
     for (evidence.kind = SLH_DSA_EVIDENCE_FORS_NODE; evidence.kind <= SLH_DSA_EVIDENCE_EARLY;
          evidence.kind++)
-        want(slh_dsa_sha2_check_evidence(set, SLH_DSA_PREHASH_SHA512, key, 4 * n, empty, 1, empty,
-                                         1, signature, signature_bytes, &evidence),
+        want(slh_dsa_sha2_check_evidence(set, SLH_DSA_PREHASH_SHA512, key, 4 * n, message,
+                                         sizeof message, empty, 1, signature, signature_bytes,
+                                         &evidence),
              SLH_DSA_NOT_SHOWN);
     return unused;
 }
