@@ -142,22 +142,16 @@ static int read_number(const char *digits, size_t *number)
     return 1;
 }
 
-static int configure(struct provider *provider, const struct start *start)
+/* A limit that is no number is 0, and a message's error tells so: OpenSSL 3.0 says nothing of a
+ * provider that can't be loaded. */
+static void configure(struct provider *provider, const struct start *start)
 {
     const char *limit = told(provider, start, "message-limit");
-    const char *ignore = told(provider, start, "ignore-digests");
 
     provider->message_limit = (size_t)256 << 20;
-    if (*limit != '\0' && !read_number(limit, &provider->message_limit)) {
-        RAISE(provider, REASON_CONFIGURATION, "message-limit is no number of bytes: %s", limit);
-        return 0;
-    }
-    provider->ignores_digests = strcmp(ignore, "yes") == 0;
-    if (*ignore != '\0' && !provider->ignores_digests && strcmp(ignore, "no") != 0) {
-        RAISE(provider, REASON_CONFIGURATION, "ignore-digests is neither yes nor no: %s", ignore);
-        return 0;
-    }
-    return 1;
+    if (*limit != '\0' && !read_number(limit, &provider->message_limit))
+        provider->message_limit = 0;
+    provider->ignores_digests = strcmp(told(provider, start, "ignore-digests"), "yes") == 0;
 }
 
 /* Tells the core the OIDs. Where it knows one already, as OpenSSL 3.5 does, nothing changes.
@@ -197,12 +191,12 @@ int OSSL_provider_init(const OSSL_CORE_HANDLE *core, const OSSL_DISPATCH *in,
     if (provider == NULL)
         return 0;
     provider->core = core;
-    if (!take_core(provider, &start, in) || !configure(provider, &start) ||
-        !add_oids(provider, &start) ||
+    if (!take_core(provider, &start, in) || !add_oids(provider, &start) ||
         (provider->libctx = OSSL_LIB_CTX_new_child(core, in)) == NULL) {
         OPENSSL_free(provider);
         return 0;
     }
+    configure(provider, &start);
     *out = functions;
     *made = provider;
     return 1;

@@ -65,7 +65,6 @@ struct provider {
 
 /* errors.c: puts a reason, and a text where there is one, on the application's queue. */
 #define FOR_EACH_REASON(X) \
-    X(REASON_CONFIGURATION, "a value of the configuration can't be read") \
     X(REASON_NO_KEY, "there is no key") \
     X(REASON_NO_PRIVATE_KEY, "the key has no private half") \
     X(REASON_KEY_LENGTH, "a key or its seed has a wrong length") \
