@@ -283,20 +283,23 @@ static void copies_apart(EVP_PKEY *key, int first)
     }
 }
 
-/* A message of 4 MB takes no second one when it is signed. */
-static void memory_of_a_message(EVP_PKEY *key)
+/* A message of 4 MB takes no second one when it is signed, nor any where it is hashed. */
+static void memory_of_a_message(const char *name, size_t most_megas)
 {
     static uint8_t signature[MAX_SIGNATURE];
-    size_t bytes = sizeof signature, mega = 1 << 20;
+    size_t bytes = sizeof signature, mega = 1 << 20, before;
     uint8_t *piece = calloc(1, mega);
+    EVP_PKEY *key = make(name, NULL, 0);
     EVP_MD_CTX *ctx = begin(key, NULL);
 
+    before = most_held = held;
     for (int i = 0; i < 4; i++)
         CHECK(EVP_DigestSignUpdate(ctx, piece, mega) > 0);
-    most_held = held;
     CHECK(EVP_DigestSignFinal(ctx, signature, &bytes) > 0);
-    CHECK(most_held - held < mega);
+    CHECK(most_held - before >= (most_megas - 1) * mega);
+    CHECK(most_held - before < most_megas * mega);
     EVP_MD_CTX_free(ctx);
+    EVP_PKEY_free(key);
     free(piece);
 }
 
@@ -605,7 +608,7 @@ static void threads(EVP_PKEY *key)
     }
 }
 
-/* A key that is written, encrypted and read, and signs in pieces. */
+/* A key that is written, encrypted and read, and signs in pieces that are kept. */
 static int round_of_all(void)
 {
     static uint8_t signature[MAX_SIGNATURE];
@@ -642,17 +645,39 @@ static int round_of_all(void)
     return good;
 }
 
+/* A message that is hashed as it comes, with a copy that goes on by itself. */
+static int round_of_hashing(void)
+{
+    static uint8_t signature[MAX_SIGNATURE];
+    size_t bytes = sizeof signature;
+    EVP_PKEY *key = make("SLH-DSA-SHA2-128f-WITH-SHA256", NULL, 0);
+    EVP_MD_CTX *ctx = EVP_MD_CTX_new(), *copy = EVP_MD_CTX_new();
+    int good = 0;
+
+    if (key != NULL && ctx != NULL && copy != NULL &&
+        EVP_DigestSignInit_ex(ctx, NULL, NULL, lib, NULL, key, NULL) > 0 &&
+        EVP_DigestSignUpdate(ctx, "a", 1) > 0 && EVP_MD_CTX_copy_ex(copy, ctx) > 0 &&
+        EVP_DigestSignUpdate(ctx, "bcd", 3) > 0 && EVP_DigestSignUpdate(copy, "xyz", 3) > 0 &&
+        EVP_DigestSignFinal(ctx, signature, &bytes) > 0)
+        good = verify(key, "abcd", 4, signature, bytes);
+    EVP_MD_CTX_free(copy);
+    EVP_MD_CTX_free(ctx);
+    EVP_PKEY_free(key);
+    ERR_clear_error();
+    return good;
+}
+
 /* Fails the first allocation of a round, the second, and so on, until none was left to fail. */
-static void failing_allocations(void)
+static void failing_allocations(int (*round)(void))
 {
     for (fail_at = 1;; fail_at++) {
         allocations = 0;
-        if (round_of_all() && allocations < fail_at)
+        if (round() && allocations < fail_at)
             break;
     }
     printf("%ld allocations failed, one after the other\n", fail_at - 1);
     fail_at = 0;
-    CHECK(round_of_all());
+    CHECK(round());
 }
 
 static const struct algorithm ALGORITHMS[] = {
@@ -677,12 +702,15 @@ static void first_context(int with_failing_allocations)
     for (size_t i = 0; i < sizeof ALGORITHMS / sizeof ALGORITHMS[0]; i++)
         all_of(&ALGORITHMS[i]);
     key = make("SLH-DSA-SHA2-128f", NULL, 0);
-    memory_of_a_message(key);
+    memory_of_a_message("SLH-DSA-SHA2-128f", 5);
+    memory_of_a_message("SLH-DSA-SHA2-128f-WITH-SHA256", 1);
     threads(key);
     EVP_PKEY_free(key);
-    CHECK(round_of_all());
-    if (with_failing_allocations)
-        failing_allocations();
+    CHECK(round_of_all() && round_of_hashing());
+    if (with_failing_allocations) {
+        failing_allocations(round_of_hashing);
+        failing_allocations(round_of_all);
+    }
 }
 
 /* Loads the module three times; once a key outlives its provider's handle. */
@@ -735,7 +763,7 @@ static int configure(const char *line)
 /* A message of 6000 bytes at most. */
 static void limits(void)
 {
-    static uint8_t signature[MAX_SIGNATURE];
+    static uint8_t signature[MAX_SIGNATURE], both[2 * sizeof sevens];
     size_t bytes = sizeof signature;
     EVP_PKEY *key;
     EVP_MD_CTX *ctx;
@@ -754,8 +782,18 @@ static void limits(void)
     CHECK(EVP_DigestVerifyInit_ex(ctx, NULL, NULL, lib, NULL, key, NULL) > 0);
     REFUSED("over message-limit", EVP_DigestVerifyUpdate(ctx, signature, 6001) > 0);
     EVP_MD_CTX_free(ctx);
-    /* a message in one call is not kept */
+    /* a message in one call is not kept, nor one that is hashed */
     CHECK(sign(key, NULL, signature, 6001, signature + 6001, &(size_t){MAX_SIGNATURE - 6001}));
+    EVP_PKEY_free(key);
+    key = make("SLH-DSA-SHA2-192f-WITH-SHA512", NULL, 0);
+    ctx = begin(key, NULL);
+    for (int i = 0; i < 2; i++)
+        CHECK(EVP_DigestSignUpdate(ctx, both, sizeof sevens) > 0);
+    bytes = sizeof signature;
+    CHECK(EVP_DigestSignFinal(ctx, signature, &bytes) > 0);
+    CHECK(verify(key, both, sizeof both, signature, bytes));
+    CHECK(!verify(key, both, sizeof both - 1, signature, bytes));
+    EVP_MD_CTX_free(ctx);
     EVP_PKEY_free(key);
     OSSL_LIB_CTX_free(lib);
 }

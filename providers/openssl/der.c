@@ -1,6 +1,6 @@
 /*
- * The DER of keys (RFC 9909). An algorithm has no parameters and a key is a string of a size that the
- * set has, so all but the key is a constant of the algorithm.
+ * The DER of keys (RFC 9909). An algorithm has no parameters and a key is a string of a size that
+ * the set has, so all but the key is a constant of the algorithm.
  */
 #include <string.h>
 

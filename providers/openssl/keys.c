@@ -82,22 +82,15 @@ static int key_match(const void *one, const void *other, int selection)
 static int key_validate(const void *of, int selection, int checktype)
 {
     const struct key *key = of;
-    uint8_t again[SLH_DSA_MAX_SIGNING_KEY_BYTES], public_key[SLH_DSA_MAX_VERIFYING_KEY_BYTES];
-    size_t seeds = key == NULL ? 0 : SLH_DSA_SEEDS_BYTES((size_t)key->algorithm->n);
-    int valid;
+    int valid = key_has(key, selection);
 
     (void)checktype;
-    if (!key_has(key, selection)) {
-        if (key != NULL)
-            RAISE(key->provider, REASON_NO_KEY, NULL);
-        return 0;
-    }
-    if ((selection & OSSL_KEYMGMT_SELECT_PRIVATE_KEY) == 0)
-        return 1;
-    valid = slh_dsa_sha2_keygen(key->algorithm->set, key->bytes, seeds, again, private_bytes(key),
-                                public_key, public_bytes(key)) == SLH_DSA_OK &&
-            CRYPTO_memcmp(again, key->bytes, private_bytes(key)) == 0;
-    OPENSSL_cleanse(again, sizeof again);
+    if (key != NULL && !valid)
+        RAISE(key->provider, REASON_NO_KEY, NULL);
+    if (!valid || (selection & OSSL_KEYMGMT_SELECT_PRIVATE_KEY) == 0)
+        return valid;
+    valid = slh_dsa_sha2_check_key(key->algorithm->set, key->bytes, private_bytes(key)) ==
+            SLH_DSA_OK;
     if (!valid)
         RAISE(key->provider, REASON_OTHER_ROOT, NULL);
     return valid;

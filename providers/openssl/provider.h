@@ -77,6 +77,7 @@ struct provider {
     X(REASON_DIGEST, "the algorithm takes no digest") \
     X(REASON_MESSAGE_LIMIT, "the message is over message-limit") \
     X(REASON_MEMORY, "there is no memory") \
+    X(REASON_HASHING, "the message can't be hashed") \
     X(REASON_RANDOM, "there are no random bytes") \
     X(REASON_ROOM, "there is no room for the signature") \
     X(REASON_SIGNING, "nothing was signed") \
@@ -137,14 +138,18 @@ int read_der(struct key *key, const uint8_t *der, size_t bytes);
 int selects_private(void *provider, int selection);
 int selects_public(void *provider, int selection);
 
-/* message.c: a message that comes in pieces. */
+/* message.c: a message that comes in pieces, NULL as long as it is empty. Where a digest is named,
+ * it is hashed, and else kept. */
 struct message;
 
-int message_add(const struct provider *provider, struct message **message, const uint8_t *piece,
-                size_t bytes);
+int message_add(const struct provider *provider, const char *digest, struct message **message,
+                const uint8_t *piece, size_t bytes);
 struct message *message_share(struct message *message);
 void message_drop(struct message *message);
+int message_is_hashed(const struct message *message);
 const uint8_t *message_read(const struct message *message, size_t *bytes);
+int message_digest(const struct provider *provider, const struct message *message, uint8_t *digest,
+                   size_t *bytes);
 
 /* The tables of functions: for each algorithm what makes a key of it, for all what has a key. */
 #define TABLES(id, ...) \

@@ -194,7 +194,8 @@ static int update(void *of, const uint8_t *piece, size_t bytes)
 {
     struct operation *operation = of;
 
-    return message_add(operation->provider, &operation->message, piece, bytes);
+    return message_add(operation->provider, operation->key.algorithm->digest, &operation->message,
+                       piece, bytes);
 }
 
 static int make_randomizer(const struct operation *operation, uint8_t *randomizer)
@@ -212,61 +213,100 @@ static int make_randomizer(const struct operation *operation, uint8_t *randomize
     return 1;
 }
 
-static int sign(void *of, uint8_t *signature, size_t *signature_bytes, size_t room,
-                const uint8_t *message, size_t message_bytes)
+/* What is signed or verified: a whole message, or the digest of one that came in pieces. */
+struct subject {
+    const uint8_t *at;
+    size_t bytes;
+    int is_digest;
+    uint8_t digest[EVP_MAX_MD_SIZE];
+};
+
+static int take_pieces(const struct operation *operation, struct subject *subject)
 {
-    const struct operation *operation = of;
+    subject->is_digest = message_is_hashed(operation->message);
+    subject->at = subject->digest;
+    if (subject->is_digest)
+        return message_digest(operation->provider, operation->message, subject->digest,
+                              &subject->bytes);
+    subject->at = message_read(operation->message, &subject->bytes);
+    return 1;
+}
+
+static int sign_subject(const struct operation *operation, uint8_t *signature, size_t bytes,
+                        const struct subject *subject)
+{
     const struct key *key = &operation->key;
-    size_t bytes = slh_dsa_sha2_signature_bytes(key->algorithm->set);
     uint8_t randomizer[SLH_DSA_MAX_RANDOMIZER_BYTES];
     slh_dsa_status status;
 
-    *signature_bytes = bytes;
-    if (signature == NULL)
-        return 1;
-    if (room < bytes) {
-        RAISE(operation->provider, REASON_ROOM, "%zu bytes, not %zu", room, bytes);
-        return 0;
-    }
     if (!make_randomizer(operation, randomizer))
         return 0;
-    status = slh_dsa_sha2_sign_nullable(
-        key->algorithm->set, key->algorithm->mode, key->bytes, private_bytes(key), message,
-        message_bytes, operation->context, operation->context_bytes, randomizer,
+    status = (subject->is_digest ? slh_dsa_sha2_sign_digest_nullable : slh_dsa_sha2_sign_nullable)(
+        key->algorithm->set, key->algorithm->mode, key->bytes, private_bytes(key), subject->at,
+        subject->bytes, operation->context, operation->context_bytes, randomizer,
         key->algorithm->n, signature, bytes);
     if (status != SLH_DSA_OK)
         RAISE(operation->provider, REASON_SIGNING, "%s", slh_dsa_status_text(status));
     return status == SLH_DSA_OK;
 }
 
-static int verify(void *of, const uint8_t *signature, size_t signature_bytes,
-                  const uint8_t *message, size_t message_bytes)
+static int verify_subject(const struct operation *operation, const uint8_t *signature,
+                          size_t signature_bytes, const struct subject *subject)
 {
-    const struct operation *operation = of;
     const struct key *key = &operation->key;
-    slh_dsa_status status = slh_dsa_sha2_verify_nullable(
-        key->algorithm->set, key->algorithm->mode, public_of(key), public_bytes(key), message,
-        message_bytes, operation->context, operation->context_bytes, signature, signature_bytes);
+    slh_dsa_status status =
+        (subject->is_digest ? slh_dsa_sha2_verify_digest_nullable : slh_dsa_sha2_verify_nullable)(
+            key->algorithm->set, key->algorithm->mode, public_of(key), public_bytes(key),
+            subject->at, subject->bytes, operation->context, operation->context_bytes, signature,
+            signature_bytes);
 
     if (status != SLH_DSA_OK && status != SLH_DSA_INVALID)
         RAISE(operation->provider, REASON_VERIFYING, "%s", slh_dsa_status_text(status));
     return status == SLH_DSA_OK;
 }
 
+/* Tells how long a signature is, and whether one is wanted and there is room for it. */
+static int wants_signature(const struct operation *operation, const uint8_t *signature,
+                           size_t *signature_bytes, size_t room)
+{
+    *signature_bytes = slh_dsa_sha2_signature_bytes(operation->key.algorithm->set);
+    if (signature != NULL && room < *signature_bytes)
+        RAISE(operation->provider, REASON_ROOM, "%zu bytes, not %zu", room, *signature_bytes);
+    return signature != NULL && room >= *signature_bytes;
+}
+
+static int sign(void *of, uint8_t *signature, size_t *signature_bytes, size_t room,
+                const uint8_t *message, size_t message_bytes)
+{
+    struct subject subject = {.at = message, .bytes = message_bytes};
+
+    if (!wants_signature(of, signature, signature_bytes, room))
+        return signature == NULL;
+    return sign_subject(of, signature, *signature_bytes, &subject);
+}
+
 static int sign_final(void *of, uint8_t *signature, size_t *signature_bytes, size_t room)
 {
-    size_t bytes;
-    const uint8_t *message = message_read(((const struct operation *)of)->message, &bytes);
+    struct subject subject;
 
-    return sign(of, signature, signature_bytes, room, message, bytes);
+    if (!wants_signature(of, signature, signature_bytes, room))
+        return signature == NULL;
+    return take_pieces(of, &subject) && sign_subject(of, signature, *signature_bytes, &subject);
+}
+
+static int verify(void *of, const uint8_t *signature, size_t signature_bytes,
+                  const uint8_t *message, size_t message_bytes)
+{
+    struct subject subject = {.at = message, .bytes = message_bytes};
+
+    return verify_subject(of, signature, signature_bytes, &subject);
 }
 
 static int verify_final(void *of, const uint8_t *signature, size_t signature_bytes)
 {
-    size_t bytes;
-    const uint8_t *message = message_read(((const struct operation *)of)->message, &bytes);
+    struct subject subject;
 
-    return verify(of, signature, signature_bytes, message, bytes);
+    return take_pieces(of, &subject) && verify_subject(of, signature, signature_bytes, &subject);
 }
 
 /* There is no SIGN_INIT: who calls EVP_PKEY_sign gives a digest, and that would be signed as if it
