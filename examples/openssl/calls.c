@@ -237,6 +237,9 @@ static void pieces_to_sign(EVP_PKEY *key)
     CHECK(EVP_DigestSignFinal(ctx, NULL, &bytes) > 0 && bytes <= sizeof one);
     REFUSED("no room for the signature", EVP_DigestSignFinal(ctx, one, &small) > 0);
     CHECK(EVP_DigestSignFinal(ctx, one, &bytes) > 0);
+    CHECK(EVP_DigestSignFinal(ctx, other, &other_bytes) > 0);
+    CHECK(bytes == other_bytes && memcmp(one, other, bytes) == 0);
+    memset(other, 0, sizeof other);
     EVP_MD_CTX_free(ctx);
     CHECK(EVP_DigestSignFinal(copy, other, &other_bytes) > 0);
     CHECK(bytes == other_bytes && memcmp(one, other, bytes) == 0);
