@@ -6,53 +6,56 @@ ghost use Rattle.merkle_tree.specs.Clashes.{first_clash};
 ghost use Rattle.merkle_tree.specs.Consistency.{proof_len_within, roots_within};
 ghost use Rattle.merkle_clash.specs.Answers.{growth_answer};
 
-use crate::inputs::{clash_of, top_of};
+use crate::inputs::{MAX_HEIGHT, clash_of, front_len, top_of};
 use crate::proof_roots::{proof_len, proof_roots};
-use crate::roots::{MAX_HEIGHT, trees_clash};
+use crate::roots::trees_clash;
 use merkle_tree::{Clash, DIGEST_LEN, NodeInput, TreeHash, root_of};
 
-// The clash at the top where old digests stand on both sides: `sibling` on the left.
+// The clash at the top where old digests stand on both sides: `sibling` is on the left.
 fn left_clash<H: TreeHash>(
-    below: u32,
+    height: u32,
     p: &[[u8; DIGEST_LEN]],
     q: &[[u8; DIGEST_LEN]],
     old_root: &[u8; DIGEST_LEN],
     proof: &[[u8; DIGEST_LEN]],
     sibling: &[u8; DIGEST_LEN],
 ) -> Option<Clash>
-    requires low { below < MAX_HEIGHT }
-    requires past { 2 ^ below < length p.now }
+    requires some { 0 < height }
+    requires low { height ≤ MAX_HEIGHT }
+    requires past { 2 ^ (height - 1) < length p.now }
     requires more { length p.now ≤ length q.now }
-    requires few { length q.now ≤ 2 ^ (below + 1) }
-    requires size { let s = 2 ^ below in
-        length proof.now ≡ proof_len_within below (length p.now - s) (length q.now - s) false }
-    ensures { let s = 2 ^ below in
-        let roots = roots_within H.hash below (length p.now - s) (length q.now - s) false
+    requires few { length q.now ≤ 2 ^ height }
+    requires size { let s = 2 ^ (height - 1) in
+        length proof.now
+        ≡ proof_len_within (height - 1) (length p.now - s) (length q.now - s) false }
+    ensures { let s = 2 ^ (height - 1) in
+        let roots = roots_within H.hash (height - 1) (length p.now - s) (length q.now - s) false
         old_root.now proof.now in
-        let clash = first_clash H.hash (left_pairs H.hash below p.now q.now sibling.now roots) in
+        let clash = first_clash H.hash
+        (left_pairs H.hash (height - 1) p.now q.now sibling.now roots) in
         MatchOption result (clash ≡ None) (λ c. clash ≡ Some c) }
 {
-    let front = 2usize.pow(below);
+    let (below, front) = (height - 1, front_len(height));
     let (old_rest, new_rest) = (p.len() - front, q.len() - front);
     let (old, new) = proof_roots::<H>(below, old_rest, new_rest, false, old_root, proof);
-    let first = NodeInput {
+    let left = NodeInput {
         left: *sibling,
         right: old,
     };
-    let clash = clash_of::<H>(first, top_of::<H>(below, p));
+    let clash = clash_of::<H>(left, top_of::<H>(height, p));
     if clash.is_some() {
         return clash;
     }
-    let second = NodeInput {
+    let left = NodeInput {
         left: *sibling,
         right: new,
     };
-    clash_of::<H>(second, top_of::<H>(below, q))
+    clash_of::<H>(left, top_of::<H>(height, q))
 }
 
-// The clash at the top where new digests alone stand on the right: `sibling`.
+// The clash at the top where new digests alone stand on the right: `sibling` is there.
 fn right_clash<H: TreeHash>(
-    below: u32,
+    height: u32,
     old_size: usize,
     q: &[[u8; DIGEST_LEN]],
     whole: bool,
@@ -60,24 +63,27 @@ fn right_clash<H: TreeHash>(
     proof: &[[u8; DIGEST_LEN]],
     sibling: &[u8; DIGEST_LEN],
 ) -> Option<Clash>
-    requires low { below < MAX_HEIGHT }
+    requires tall { 0 < height }
+    requires low { height ≤ MAX_HEIGHT }
     requires some { 0 < old_size }
-    requires inside { old_size ≤ 2 ^ below }
-    requires high { 2 ^ below < length q.now }
-    requires few { length q.now ≤ 2 ^ (below + 1) }
-    requires size { length proof.now ≡ proof_len_within below old_size (2 ^ below) whole }
-    ensures { let roots
-        = roots_within H.hash below old_size (2 ^ below) whole old_root.now proof.now in
-        let clash = first_clash H.hash (right_pair H.hash below q.now sibling.now roots ∷ []) in
+    requires inside { old_size ≤ 2 ^ (height - 1) }
+    requires high { 2 ^ (height - 1) < length q.now }
+    requires few { length q.now ≤ 2 ^ height }
+    requires size { length proof.now
+        ≡ proof_len_within (height - 1) old_size (2 ^ (height - 1)) whole }
+    ensures { let roots = roots_within H.hash (height - 1) old_size (2 ^ (height - 1)) whole
+        old_root.now proof.now in
+        let clash = first_clash H.hash
+        (right_pair H.hash (height - 1) q.now sibling.now roots ∷ []) in
         MatchOption result (clash ≡ None) (λ c. clash ≡ Some c) }
 {
-    let front = 2usize.pow(below);
-    let (_old, new) = proof_roots::<H>(below, old_size, front, whole, old_root, proof);
-    let first = NodeInput {
+    let (below, front) = (height - 1, front_len(height));
+    let (_, new) = proof_roots::<H>(below, old_size, front, whole, old_root, proof);
+    let right = NodeInput {
         left: new,
         right: *sibling,
     };
-    clash_of::<H>(first, top_of::<H>(below, q))
+    clash_of::<H>(right, top_of::<H>(height, q))
 }
 
 // The first clash where a proof leads from the root over p to that over q, at most 2^`height`
@@ -103,29 +109,30 @@ fn grown_clash<H: TreeHash>(
     if p.len() == q.len() {
         return trees_clash::<H>(height, p, q);
     }
-    let below = height - 1;
-    let front = 2usize.pow(below);
+    let (below, front) = (height - 1, front_len(height));
     if q.len() <= front {
         return grown_clash::<H>(below, p, q, whole, old_root, proof);
     }
     let last = proof.len() - 1;
-    let (rest, sibling) = (&proof[..last], &proof[last]);
+    let (sibling, proof) = (&proof[last], &proof[..last]);
+    let (q_front, q_rest) = q.split_at(front);
     if p.len() <= front {
-        let top = right_clash::<H>(below, p.len(), q, whole, old_root, rest, sibling);
+        let top = right_clash::<H>(height, p.len(), q, whole, old_root, proof, sibling);
         if top.is_some() {
             return top;
         }
-        return grown_clash::<H>(below, p, &q[..front], whole, old_root, rest);
+        return grown_clash::<H>(below, p, q_front, whole, old_root, proof);
     }
-    let top = left_clash::<H>(below, p, q, old_root, rest, sibling);
+    let top = left_clash::<H>(height, p, q, old_root, proof, sibling);
     if top.is_some() {
         return top;
     }
-    let first = trees_clash::<H>(below, &p[..front], &q[..front]);
+    let (p_front, p_rest) = p.split_at(front);
+    let first = trees_clash::<H>(below, p_front, q_front);
     if first.is_some() {
         return first;
     }
-    grown_clash::<H>(below, &p[front..], &q[front..], false, old_root, rest)
+    grown_clash::<H>(below, p_rest, q_rest, false, old_root, proof)
 }
 
 /// The first clash of two lists of digests and a proof. There is one where the proof passes

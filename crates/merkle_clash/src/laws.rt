@@ -1,5 +1,5 @@
 //! When clashes are found, as the contracts of functions that do nothing.
-ghost use Rattle.std.specs.Prelude.{◌≡◌, ◌≢◌, ℕ, List, length, take, slice_index_or, All, true, Some};
+ghost use Rattle.std.specs.Prelude.{◌≡◌, ◌≢◌, ℕ, List, [], length, take, slice_index_or, All, true, Some};
 ghost use Rattle.sha256_lanes.specs.Sha256.{sha256};
 ghost use Rattle.merkle_tree.specs.Clashes.{Inputs};
 ghost use Rattle.merkle_tree.specs.Climb.{is_included};

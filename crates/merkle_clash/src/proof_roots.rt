@@ -1,8 +1,8 @@
 //! The roots that a proof of growth leads to.
-ghost use Rattle.std.specs.Prelude.{◌≡◌, ◌<◌, ◌≤◌, ◌^◌, length};
+ghost use Rattle.std.specs.Prelude.{◌≡◌, ◌+◌, ◌<◌, ◌≤◌, ◌^◌, length};
 ghost use Rattle.merkle_tree.specs.Consistency.{proof_len_within, roots_within};
 
-use crate::roots::MAX_HEIGHT;
+use crate::inputs::{MAX_HEIGHT, front_len};
 use merkle_tree::{DIGEST_LEN, TreeHash};
 
 /// How many digests a proof has that shows how `old_size` of at most 2^`height` digests grew into
@@ -18,8 +18,7 @@ pub(crate) fn proof_len(height: u32, old_size: usize, new_size: usize, whole: bo
     if old_size == new_size {
         return if whole { 0 } else { 1 };
     }
-    let below = height - 1;
-    let front = 2usize.pow(below);
+    let (below, front) = (height - 1, front_len(height));
     if new_size <= front {
         return proof_len(below, old_size, new_size, whole);
     }
@@ -55,21 +54,25 @@ pub(crate) fn proof_roots<H: TreeHash>(
         let seed = if whole { *old_root } else { proof[0] };
         return (seed, seed);
     }
-    let below = height - 1;
-    let front = 2usize.pow(below);
+    let (below, front) = (height - 1, front_len(height));
     if new_size <= front {
         return proof_roots::<H>(below, old_size, new_size, whole, old_root, proof);
     }
     let last = proof.len() - 1;
     let sibling = &proof[last];
     if old_size <= front {
-        let (old, new) =
-            proof_roots::<H>(below, old_size, front, whole, old_root, &proof[..last]);
+        let (old, new) = proof_roots::<H>(below, old_size, front, whole, old_root, &proof[..last]);
         (old, H::node(&new, sibling))
     } else {
         let (old_rest, new_rest) = (old_size - front, new_size - front);
-        let (old, new) =
-            proof_roots::<H>(below, old_rest, new_rest, false, old_root, &proof[..last]);
+        let (old, new) = proof_roots::<H>(
+            below,
+            old_rest,
+            new_rest,
+            false,
+            old_root,
+            &proof[..last],
+        );
         (H::node(sibling, &old), H::node(sibling, &new))
     }
 }
