@@ -60,7 +60,10 @@ fn lists_with_one_root(rt: HostRuntime) {
     let right = roots_clash::<ByteHash>(&[A, B, C, D], &[A, B, C, E]);
     assert!(rt; is_of(right, [&C, &D], [&C, &E]));
     assert!(rt; roots_clash::<ByteHash>(&[A, B, C], &[A, B, C]).is_none());
-    assert!(rt; roots_clash::<ByteHash>(&[A, B], &[A, B, C]).is_none(), "another length");
+    assert!(rt;
+        roots_clash::<ByteHash>(&[A, B], &[A, B, C]).is_none(),
+        "another length"
+    );
 }
 
 #[test]
@@ -93,7 +96,10 @@ fn a_front_is_no_clash(rt: HostRuntime) {
     assert!(rt; other.is_none(), "a proof that is too short");
     let longer = growth_clash::<ByteHash>(&[A, B, C], &[A, C], &[]);
     assert!(rt; longer.is_none(), "fewer digests");
-    assert!(rt; growth_clash::<ByteHash>(&[], &[A], &[]).is_none(), "no digests");
+    assert!(rt;
+        growth_clash::<ByteHash>(&[], &[A], &[]).is_none(),
+        "no digests"
+    );
 }
 
 // The clash of a path that passes as that of a digest of four, none where it doesn't.
@@ -110,7 +116,10 @@ fn included(index: usize, x: &[u8; 32], path: &[[u8; 32]]) -> Option<Clash> {
 fn paths_of_other_digests(rt: HostRuntime) {
     assert!(rt; is_of(included(1, &E, &[A, C]), [&A, &E], [&A, &B]));
     assert!(rt; is_of(included(3, &E, &[C, A]), [&C, &E], [&C, &D]));
-    assert!(rt; is_of(included(0, &A, &[B, D]), [&A, &D], [&A, &C]), "another sibling");
+    assert!(rt;
+        is_of(included(0, &A, &[B, D]), [&A, &D], [&A, &C]),
+        "another sibling"
+    );
     assert!(rt; included(1, &B, &[A, C]).is_none(), "its own path");
     let past = inclusion_clash::<ByteHash>(&[A, B], 2, &A, &[B]);
     assert!(rt; past.is_none(), "an index past the end");
@@ -131,11 +140,13 @@ fn has_none(alloc: Global, digests: &[[u8; 32]], m: usize) -> Result<bool, Store
     push_proof::<Sha256, Leaves<'_>>(&store, &mut proof, m as u64, n as u64)?;
     let others = [A; 9];
     let old = &digests[..m];
-    Ok(passes::<Sha256>(old, digests, &proof)
-        && growth_clash::<Sha256>(old, digests, &proof).is_none()
-        && inclusion_clash::<Sha256>(digests, m - 1, &digests[m - 1], &path).is_none()
-        && (m > 9 || growth_clash::<Sha256>(&others[..m], digests, &proof).is_none())
-        && inclusion_clash::<Sha256>(digests, m - 1, &A, &path).is_none())
+    Ok(
+        passes::<Sha256>(old, digests, &proof)
+            && growth_clash::<Sha256>(old, digests, &proof).is_none()
+            && inclusion_clash::<Sha256>(digests, m - 1, &digests[m - 1], &path).is_none()
+            && (m > 9 || growth_clash::<Sha256>(&others[..m], digests, &proof).is_none())
+            && inclusion_clash::<Sha256>(digests, m - 1, &A, &path).is_none(),
+    )
 }
 
 // The same for all of up to nine digests.
