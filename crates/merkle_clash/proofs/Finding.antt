@@ -1,12 +1,16 @@
 -- The first clash of lists that are joined, and where a call finds it.
-use Rattle.std.proofs.Common.{◌≡◌, ℕ, zero, suc, ◌^◌, ◌<◌, ◌≤◌, List, [], ◌∷◌, ◌++◌, length, take, drop, Bool, true, false, Option, None, Some, refl, sym, ◌∙◌, arith, inl, inr}
-use Rattle.std.specs.Prelude.{is_some, MatchOption}
+use Rattle.std.proofs.Common.{◌≡◌, ℕ, zero, suc, ◌^◌, ◌<◌, ◌≤◌, List, [], ◌∷◌, ◌++◌, length, take, drop, get_or, Bool, Option, None, Some, refl, sym, ◌∙◌, arith, inl, inr}
+use Rattle.std.specs.Option.{option_or}
+use Rattle.std.specs.Prelude.{MatchOption}
 use Rattle.std.proofs.lemmas.Bool.{cases_Bool, cases_lt}
 use Rattle.std.proofs.Math.Pow.{pow_mono}
 use Rattle.merkle_tree.proofs.Binding.{pairs_high, pairs_low}
+use Rattle.merkle_tree.proofs.Splits.{tree_high, tree_low}
+use Rattle.std.proofs.lemmas.List.{get_or_default}
 use Rattle.merkle_tree.proofs.Grown.{grown_all, grown_low}
 use Rattle.merkle_tree.specs.Binding.{grown_within, top_input, tree_pairs}
 use Rattle.merkle_tree.specs.Clashes.{Inputs, first_clash, is_clash}
+use Rattle.merkle_tree.specs.Tree.{node_hash, tree_within}
 use Rattle.merkle_tree.specs.Hashes.{HashFunction}
 
 -- a call answers the first clash of some pairs
@@ -29,16 +33,17 @@ first_rest H (p ∷ ps) qs none = elim (cases_Bool (is_clash H p)) [
   | inr past ↦ rw past (first_rest H ps qs (rw past at none))
 ]
 
-pub in_front : (H : HashFunction) (o : Option Inputs) (ps qs : List Inputs) → IsFirst H o ps → is_some o ≡ true → IsFirst H o (ps ++ qs)
-in_front H None ps qs is some = absurd (cc some)
-in_front H (Some c) ps qs is some = first_front H c ps qs is
-
 same_first : (H : HashFunction) (o : Option Inputs) (ps qs : List Inputs) → first_clash H ps ≡ first_clash H qs → IsFirst H o qs → IsFirst H o ps
 same_first H o ps qs same is = rw same is
 
-pub in_rest : (H : HashFunction) (o r : Option Inputs) (ps qs : List Inputs) → IsFirst H o ps → is_some o ≡ false → IsFirst H r qs → IsFirst H r (ps ++ qs)
-in_rest H (Some c) r ps qs is none rest = absurd (cc none)
-in_rest H None r ps qs is none rest = same_first H r (ps ++ qs) qs (first_rest H ps qs is) rest
+pub joined : (H : HashFunction) (o r : Option Inputs) (ps qs : List Inputs) → IsFirst H o ps → IsFirst H r qs → IsFirst H (option_or o r) (ps ++ qs)
+joined H None r ps qs is rest = same_first H r (ps ++ qs) qs (first_rest H ps qs is) rest
+joined H (Some c) r ps qs is rest = first_front H c ps qs is
+
+pub joined_both : (H : HashFunction) (o r t u v : Option Inputs) (ps qs rs : List Inputs) → u ≡ option_or o r → v ≡ option_or u t
+    → IsFirst H o ps → IsFirst H r qs → IsFirst H t rs → IsFirst H v ((ps ++ qs) ++ rs)
+joined_both H o r t u v ps qs rs first second in_ps in_qs in_rs =
+    rw (second, first) (joined H (option_or o r) t (ps ++ qs) rs (joined H o r ps qs in_ps in_qs) in_rs)
 
 -- what is hashed at the tops of two trees
 abbrev pub tops : HashFunction → ℕ → List (List ℕ) → List (List ℕ) → List Inputs
@@ -82,3 +87,15 @@ grown_any H z w p q whole old proof few h k = elim (cases_lt (length p) (length 
     | inr more ↦ grown_enough H w z p q whole old proof less k more
   ]
 ]
+
+-- ---- roots
+
+pub root_one : (H : HashFunction) (h : ℕ) (q : List (List ℕ)) → h ≡ 0 → 0 < length q → get_or q 0 [] ≡ tree_within H h q
+unfolding tree_within
+root_one H h q e some = rw e (sym (get_or_default q 0 _ [] some))
+
+pub root_low : (H : HashFunction) (h z : ℕ) (q : List (List ℕ)) → h ≡ suc z → length q ≤ 2 ^ z → tree_within H z q ≡ tree_within H h q
+root_low H h z q e low = rw e (sym (tree_low H z q low))
+
+pub root_high : (H : HashFunction) (h z : ℕ) (q : List (List ℕ)) → h ≡ suc z → 2 ^ z < length q → node_hash H (tree_within H z (take (2 ^ z) q)) (tree_within H z (drop (2 ^ z) q)) ≡ tree_within H h q
+root_high H h z q e high = rw e (sym (tree_high H z q high))

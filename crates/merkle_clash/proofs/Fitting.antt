@@ -1,10 +1,11 @@
 -- Where the lengths fit, the answers are the definitions.
-use Rattle.std.proofs.Common.{◌≡◌, ◌≢◌, ℕ, zero, suc, ◌<◌, ◌≤◌, List, length, false, Option, Some, None, refl, ◌∙◌, arith}
+use Rattle.std.proofs.Common.{◌≡◌, ◌≢◌, ℕ, zero, suc, ◌<◌, ◌≤◌, List, [], ◌∷◌, length, true, false, inl, inr, Option, Some, None, refl, ◌∙◌, arith}
 use Rattle.std.specs.Prelude.{◌==◌}
-use Rattle.std.proofs.lemmas.Bool.{le-ltb, lt-ltb}
+use Rattle.std.proofs.lemmas.Bool.{cases_Bool, le-ltb, lt-ltb}
+use Rattle.std.proofs.lemmas.Bool.Decides.{Decides-eqb}
 use Rattle.merkle_tree.proofs.Binding.{Found, clash_is, first_is}
 use Rattle.merkle_tree.proofs.Growing.{differ, same}
-use Rattle.merkle_tree.specs.Binding.{growth_clash, inclusion_clash, roots_clash}
+use Rattle.merkle_tree.specs.Binding.{growth_clash, inclusion_clash, roots_clash, tree_pairs}
 use Rattle.merkle_tree.specs.Clashes.{Inputs, first_clash}
 use Rattle.merkle_tree.specs.Climb.{path_sides}
 use Rattle.merkle_tree.specs.Consistency.{proof_len}
@@ -17,6 +18,17 @@ not_empty (suc n) e = omega arith
 
 pub roots_fit : (H : HashFunction) (p q : List (List ℕ)) → length p ≡ length q → roots_answer H p q ≡ roots_clash H p q
 roots_fit H p q e = rw (same (length p) (length q) e) refl
+
+pub no_roots : (H : HashFunction) (p q : List (List ℕ)) → length p ≢ length q → roots_answer H p q ≡ None
+no_roots H p q e = rw (differ (length p) (length q) e) refl
+
+pub no_digests : (H : HashFunction) (p q : List (List ℕ)) → (length q == 0) ≡ true → roots_answer H p q ≡ None
+unfolding first_clash tree_pairs
+no_digests H p [] e = elim (cases_Bool (length p == 0)) [
+  | inl none ↦ rw none refl
+  | inr some ↦ rw some refl
+]
+no_digests H p (x ∷ q) e = let none : length (x ∷ q) ≡ 0 = (Decides-eqb (length (x ∷ q)) 0).0 e in absurd (omega arith)
 
 pub growth_fits : (H : HashFunction) (p q proof : List (List ℕ)) → 0 < length p → length p ≤ length q → length proof ≡ proof_len (length p) (length q)
     → growth_answer H p q proof ≡ growth_clash H p q proof

@@ -42,15 +42,12 @@ fn left_clash<H: TreeHash>(
         left: *sibling,
         right: old,
     };
-    let clash = clash_of::<H>(left, top_of::<H>(height, p));
-    if clash.is_some() {
-        return clash;
-    }
+    let in_old = clash_of::<H>(left, top_of::<H>(height, p));
     let left = NodeInput {
         left: *sibling,
         right: new,
     };
-    clash_of::<H>(left, top_of::<H>(height, q))
+    in_old.or(clash_of::<H>(left, top_of::<H>(height, q)))
 }
 
 // The clash at the top where new digests alone stand on the right: `sibling` is there.
@@ -118,27 +115,19 @@ fn grown_clash<H: TreeHash>(
     let (q_front, q_rest) = q.split_at(front);
     if p.len() <= front {
         let top = right_clash::<H>(height, p.len(), q, whole, old_root, proof, sibling);
-        if top.is_some() {
-            return top;
-        }
-        return grown_clash::<H>(below, p, q_front, whole, old_root, proof);
-    }
-    let top = left_clash::<H>(height, p, q, old_root, proof, sibling);
-    if top.is_some() {
-        return top;
+        return top.or(grown_clash::<H>(below, p, q_front, whole, old_root, proof));
     }
     let (p_front, p_rest) = p.split_at(front);
-    let first = trees_clash::<H>(below, p_front, q_front);
-    if first.is_some() {
-        return first;
-    }
-    grown_clash::<H>(below, p_rest, q_rest, false, old_root, proof)
+    let top = left_clash::<H>(height, p, q, old_root, proof, sibling);
+    let in_front = trees_clash::<H>(below, p_front, q_front);
+    let in_rest = grown_clash::<H>(below, p_rest, q_rest, false, old_root, proof);
+    top.or(in_front).or(in_rest)
 }
 
 /// The first clash of two lists of digests and a proof. There is one where the proof passes
 /// `check_consistency` from the root over `p` to that over `q`, and `p` isn't the front of `q`.
 /// `None` where `p` is empty or longer than `q`, or the proof not as long as one from `p` to `q`.
-/// Hashes n log n times for n digests, and takes no memory.
+/// Hashes at most some ten times for each digest of `q`, and takes no memory.
 pub fn growth_clash<H: TreeHash>(
     p: &[[u8; DIGEST_LEN]],
     q: &[[u8; DIGEST_LEN]],

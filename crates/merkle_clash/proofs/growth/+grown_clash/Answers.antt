@@ -1,8 +1,8 @@
-use Rattle.std.proofs.Common.{rules, ◌≡◌, ◌+◌, ◌-◌, ◌<◌, ◌^◌, ◌++◌, [], ◌∷◌, length, take, drop, get_or, false, sym, ap, ◌∙◌, arith, length-drop}
+use Rattle.std.proofs.Common.{rules, ◌≡◌, ◌+◌, ◌-◌, ◌<◌, ◌^◌, [], ◌∷◌, length, take, drop, get_or, false, ap, ◌∙◌, arith, length-drop}
 use Rattle.merkle_tree.proofs.Grown.{grown_all}
 use Rattle.merkle_tree.specs.Binding.{grown_within, left_pairs, right_pair, tree_pairs}
 use Rattle.merkle_tree.specs.Consistency.{proof_len_within, roots_within}
-use Rattle.merkle_clash.proofs.Finding.{IsFirst, in_front, in_rest}
+use Rattle.merkle_clash.proofs.Finding.{IsFirst, joined, joined_both}
 use Rattle.merkle_clash.proofs.Proving.{front_grown, front_size, low_grown, low_len, rest_grown, rest_size, some_digest, tall}
 use Rattle.merkle_clash.proofs.growth.+grown_clash.Goals as goal
 
@@ -35,25 +35,6 @@ bounds-proof-last g t c = omega (arith, c.requires.size, some_digest c.args.heig
 pub right_clash-top-requires-clause-size : goal.right_clash-top-requires-clause-size
 right_clash-top-requires-clause-size g t c = front_size c.args.height (length c.args.p.now) (length c.args.q.now) c.args.whole c.args.proof.now c.requires.some (omega arith) c.requires.few (omega arith) (omega arith) c.requires.size
 
-pub returns-then-is_some : goal.returns-then-is_some
-returns-then-is_some g t c =
-    let H = g.H.TreeHash.hash in
-    let h = c.args.height in
-    let z = h - 1 in
-    let p = c.args.p.now in
-    let q = c.args.q.now in
-    let whole = c.args.whole in
-    let old = c.args.old_root.now in
-    let proof = c.args.proof.now in
-    let s = 2 ^ z in
-    let k = length proof - 1 in
-    let less : length p < length q = omega arith in
-    let size : length proof ≡ k + 1 = omega (arith, c.requires.size, some_digest h (length p) (length q) whole c.requires.some less c.requires.few (omega arith)) in
-    let top = right_pair H z q (get_or proof k []) (roots_within H z (length p) s whole old (take k proof)) ∷ [] in
-    let below = grown_within H z p (take s q) whole old (take k proof) in
-    rw (front_grown H h z p q whole old proof k (tall h (length p) (length q) c.requires.some less c.requires.few) less (omega arith) (omega arith) size)
-    (in_front H c.right_clash-top.result top below c.right_clash-top.ensures (sym c.is_some.ensures ∙ c.if-is_some.true))
-
 pub grown_clash-requires-then-p-front : goal.grown_clash-requires-then-p-front
 grown_clash-requires-then-p-front g t c κs within =
     let proof = c.args.proof.now in
@@ -83,55 +64,13 @@ returns-then-p-front g t c =
     let below = grown_within H z p (take s q) whole old (take k proof) in
     let found : IsFirst H c.grown_clash-then-p-front.result below = rw (← c.front_len-front.ensures.value, ← c.split_at.ensures.front) c.grown_clash-then-p-front.ensures in
     rw (front_grown H h z p q whole old proof k (tall h (length p) (length q) c.requires.some less c.requires.few) less (omega arith) (omega arith) size)
-    (in_rest H c.right_clash-top.result c.grown_clash-then-p-front.result top below c.right_clash-top.ensures (sym c.is_some.ensures ∙ c.if-is_some.false) found)
+    (rw c.or.ensures (joined H c.right_clash-top.result c.grown_clash-then-p-front.result top below c.right_clash-top.ensures found))
 
 pub left_clash-top-requires-clause-size : goal.left_clash-top-requires-clause-size
 left_clash-top-requires-clause-size g t c = rest_size c.args.height (length c.args.p.now) (length c.args.q.now) c.args.whole c.args.proof.now c.requires.some (omega arith) c.requires.few (omega arith) c.requires.size
 
-pub returns-then-is_some-2 : goal.returns-then-is_some-2
-returns-then-is_some-2 g t c =
-    let H = g.H.TreeHash.hash in
-    let h = c.args.height in
-    let z = h - 1 in
-    let p = c.args.p.now in
-    let q = c.args.q.now in
-    let whole = c.args.whole in
-    let old = c.args.old_root.now in
-    let proof = c.args.proof.now in
-    let s = 2 ^ z in
-    let k = length proof - 1 in
-    let less : length p < length q = omega arith in
-    let size : length proof ≡ k + 1 = omega (arith, c.requires.size, some_digest h (length p) (length q) whole c.requires.some less c.requires.few (omega arith)) in
-    let top = left_pairs H z p q (get_or proof k []) (roots_within H z (length p - s) (length q - s) false old (take k proof)) in
-    let front = tree_pairs H z (take s p) (take s q) in
-    let below = grown_within H z (drop s p) (drop s q) false old (take k proof) in
-    rw (rest_grown H h z p q whole old proof k (tall h (length p) (length q) c.requires.some less c.requires.few) less (omega arith) size)
-    (in_front H c.left_clash-top.result top (front ++ below) c.left_clash-top.ensures (sym c.is_some-2.ensures ∙ c.if-is_some-2.true))
-
-pub returns-then-is_some-3 : goal.returns-then-is_some-3
-returns-then-is_some-3 g t c =
-    let H = g.H.TreeHash.hash in
-    let h = c.args.height in
-    let z = h - 1 in
-    let p = c.args.p.now in
-    let q = c.args.q.now in
-    let whole = c.args.whole in
-    let old = c.args.old_root.now in
-    let proof = c.args.proof.now in
-    let s = 2 ^ z in
-    let k = length proof - 1 in
-    let less : length p < length q = omega arith in
-    let size : length proof ≡ k + 1 = omega (arith, c.requires.size, some_digest h (length p) (length q) whole c.requires.some less c.requires.few (omega arith)) in
-    let top = left_pairs H z p q (get_or proof k []) (roots_within H z (length p - s) (length q - s) false old (take k proof)) in
-    let front = tree_pairs H z (take s p) (take s q) in
-    let below = grown_within H z (drop s p) (drop s q) false old (take k proof) in
-    let first : IsFirst H c.trees_clash-first.result front = rw (← c.front_len-front.ensures.value, ← c.split_at.ensures.front, ← c.split_at-2.ensures.front) c.trees_clash-first.ensures in
-    rw (rest_grown H h z p q whole old proof k (tall h (length p) (length q) c.requires.some less c.requires.few) less (omega arith) size)
-    (in_rest H c.left_clash-top.result c.trees_clash-first.result top (front ++ below) c.left_clash-top.ensures (sym c.is_some-2.ensures ∙ c.if-is_some-2.false)
-    (in_front H c.trees_clash-first.result front below first (sym c.is_some-3.ensures ∙ c.if-is_some-3.true)))
-
-pub grown_clash-requires-2 : goal.grown_clash-requires-2
-grown_clash-requires-2 g t c κs within =
+pub grown_clash-in_rest-requires : goal.grown_clash-in_rest-requires
+grown_clash-in_rest-requires g t c κs within =
     let proof = c.args.proof.now in
     let h = c.args.height in
     let p = c.args.p.now in
@@ -160,8 +99,7 @@ returns g t c =
     let top = left_pairs H z p q (get_or proof k []) (roots_within H z (length p - s) (length q - s) false old (take k proof)) in
     let front = tree_pairs H z (take s p) (take s q) in
     let below = grown_within H z (drop s p) (drop s q) false old (take k proof) in
-    let first : IsFirst H c.trees_clash-first.result front = rw (← c.front_len-front.ensures.value, ← c.split_at.ensures.front, ← c.split_at-2.ensures.front) c.trees_clash-first.ensures in
-    let found : IsFirst H c.grown_clash-2.result below = rw (← c.front_len-front.ensures.value, ← c.split_at.ensures.back, ← c.split_at-2.ensures.back) c.grown_clash-2.ensures in
+    let in_front : IsFirst H c.trees_clash-in_front.result front = rw (← c.front_len-front.ensures.value, ← c.split_at.ensures.front, ← c.split_at-2.ensures.front) c.trees_clash-in_front.ensures in
+    let in_rest : IsFirst H c.grown_clash-in_rest.result below = rw (← c.front_len-front.ensures.value, ← c.split_at.ensures.back, ← c.split_at-2.ensures.back) c.grown_clash-in_rest.ensures in
     rw (rest_grown H h z p q whole old proof k (tall h (length p) (length q) c.requires.some less c.requires.few) less (omega arith) size)
-    (in_rest H c.left_clash-top.result c.grown_clash-2.result top (front ++ below) c.left_clash-top.ensures (sym c.is_some-2.ensures ∙ c.if-is_some-2.false)
-    (in_rest H c.trees_clash-first.result c.grown_clash-2.result front below first (sym c.is_some-3.ensures ∙ c.if-is_some-3.false) found))
+    (joined_both H c.left_clash-top.result c.trees_clash-in_front.result c.grown_clash-in_rest.result c.or-2.result c.or-3.result top front below c.or-2.ensures c.or-3.ensures c.left_clash-top.ensures in_front in_rest)
