@@ -4,7 +4,7 @@
 //! [`roots_clash`] compares two lists of digests that have one root, [`growth_clash`] two lists and
 //! a proof that leads from the root over one to that over the other, [`inclusion_clash`] a list and
 //! a path that leads from another digest to its root. They answer the first clash in the order of
-//! `merkle_tree`'s definitions, from the top of the tree on, and take no memory.
+//! `merkle_tree`'s definitions: of trees from the top on, of a path from the leaf on.
 #![tactic(auto)]
 
 mod growth;
