@@ -105,12 +105,13 @@ class Page:
 
 
 def fits(wanted, printed):
-    """Whether what is printed is what the page says."""
+    """Whether what is printed is what the page says, empty lines at its end aside."""
     lines = [
         "(?:.*\n)*" if line == "..." else re.escape(line).replace(r"\.\.\.", ".*") + "\n"
-        for line in wanted
+        for line in "\n".join(wanted).rstrip("\n").splitlines()
     ]
-    return re.fullmatch("".join(lines), printed if printed.endswith("\n") or not printed else printed + "\n")
+    text = printed.rstrip("\n")
+    return re.fullmatch("".join(lines), text + "\n" if text else "")
 
 
 def script_of(page, kept):
