@@ -10,4 +10,6 @@ mod byte_hash;
 #[cfg(test)]
 mod clashes;
 #[cfg(test)]
+mod found_clashes;
+#[cfg(test)]
 mod vectors;

@@ -1,0 +1,4 @@
+pub mod Finding
+pub mod Proving
+pub mod Fitting
+pub mod Paths
