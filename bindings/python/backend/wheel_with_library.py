@@ -1,6 +1,7 @@
 """Builds the wheel, with the shared object of the library for C and nothing but Python's own library.
 
-SLH_C_LIBRARY names the folder that `examples/c/build` made. The wheel of the same files has the same bytes.
+SLH_C_LIBRARY is the absolute path of the folder that `examples/c/build` made. Wheels of the same files
+have the same bytes.
 """
 
 import base64
@@ -23,9 +24,9 @@ def _version():
 
 def _library(version):
     """The path of the shared object, which has to be of the package's version."""
-    folder = os.environ.get("SLH_C_LIBRARY")
-    if not folder:
-        raise SystemExit("SLH_C_LIBRARY has to name the folder that examples/c/build made")
+    folder = os.environ.get("SLH_C_LIBRARY", "")
+    if not os.path.isabs(folder):
+        raise SystemExit("SLH_C_LIBRARY has to be the absolute path of what examples/c/build made")
     header = (Path(folder) / "slh_dsa.h").read_text()
     given = re.search(r'^#define SLH_DSA_VERSION "(.*)"$', header, re.MULTILINE).group(1)
     if given != version:
