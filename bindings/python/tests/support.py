@@ -24,7 +24,7 @@ def openssl_keys():
     """The keys that OpenSSL made: a signing key and its verifying key in PEM for each set."""
     blocks = (DATA / "openssl_keys.pem").read_bytes().split(b"-----BEGIN ")[1:]
     pems = [b"-----BEGIN " + block for block in blocks]
-    return list(zip(slh_dsa.PARAMETER_SETS, pems[::2], pems[1::2], strict=True))
+    return list(zip(slh_dsa.PARAMETER_SETS, pems[::2], pems[1::2]))
 
 
 def bent(data, at):

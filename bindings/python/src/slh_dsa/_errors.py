@@ -86,11 +86,8 @@ class PemError(Refused):
     """A text isn't a key in PEM as it is wanted."""
 
 
-_BY_STATUS: dict[int, type[SlhDsaError]] = {
-    error.status: error
-    for error in (InvalidSignature, *Refused.__subclasses__())
-    if error.status is not None
-}
+_ERRORS: tuple[type[SlhDsaError], ...] = (InvalidSignature, *Refused.__subclasses__())
+_BY_STATUS = {error.status: error for error in _ERRORS if error.status is not None}
 
 
 def error_of(status: int) -> SlhDsaError:

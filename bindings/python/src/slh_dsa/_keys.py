@@ -118,10 +118,10 @@ class VerifyingKey:
     ) -> None:
         """`verify` of what a file has, or of what is left to read of an open one."""
         if prehash is not None:
-            digest = digest_of(source, prehash)
-            return self.verify_digest(signature, digest, prehash=prehash, context=context)
+            self._verify("verify_digest", signature, digest_of(source, prehash), context, prehash)
+            return
         with message_of(source) as message:
-            self.verify(signature, message, context=context)
+            self._verify("verify", signature, message, context, None)
 
     def _verify(
         self,
