@@ -1,7 +1,7 @@
-"""Builds the wheel, with the shared object of the library for C and nothing but Python's own library.
+"""Builds the wheel, with the shared object inside, by nothing but Python's own library.
 
-SLH_C_LIBRARY is the absolute path of the folder that `examples/c/build` made. Wheels of the same files
-have the same bytes.
+SLH_C_LIBRARY is the absolute path of the folder that `examples/c/build` made. Wheels of the same
+files have the same bytes.
 """
 
 import base64
@@ -72,8 +72,8 @@ def _files(project, version, library, tag):
     for name in ("LICENSE-APACHE", "LICENSE-MIT", "NOTICE"):
         files[f"{info}/{name}"] = (_HERE.parent.parent / name).read_bytes()
     files[f"{info}/METADATA"] = _metadata(project, version).encode()
-    wheel = f"Wheel-Version: 1.0\nGenerator: wheel_with_library\nRoot-Is-Purelib: false\nTag: {tag}\n"
-    files[f"{info}/WHEEL"] = wheel.encode()
+    wheel = ["Wheel-Version: 1.0", "Generator: wheel_with_library", "Root-Is-Purelib: false"]
+    files[f"{info}/WHEEL"] = "\n".join([*wheel, f"Tag: {tag}", ""]).encode()
     files[f"{info}/RECORD"] = _record(files, f"{info}/RECORD").encode()
     return files
 

@@ -1,4 +1,4 @@
-"""What the tests share: the repository's data from outside, and keys of seeds that everybody knows."""
+"""What the tests share: data from outside, and keys of seeds that everybody knows."""
 
 from pathlib import Path
 

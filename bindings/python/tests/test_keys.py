@@ -14,7 +14,10 @@ import slh_dsa
 from slh_dsa import PARAMETER_SETS, SigningKey, VerifyingKey, _library
 from support import FAST, TOP, bent, known_key, n_of, openssl_keys
 
-PEM_ROW = re.compile(r"^ *\| (\d+[sf]) \| 2\.16\.\S+ \| `([0-9a-f ]+)` \| `([0-9a-f ]+)` \|$", re.MULTILINE)
+# A row of docs/FORMATS.md: a set, its identifier, the bytes before a signing and a verifying key.
+PEM_ROW = re.compile(
+    r"^ *\| (\d+[sf]) \| 2\.16\.\S+ \| `([0-9a-f ]+)` \| `([0-9a-f ]+)` \|$", re.MULTILINE
+)
 
 
 def pem_of(label, der):
@@ -91,7 +94,8 @@ class Pem(unittest.TestCase):
             (place / "message").write_bytes(b"message")
 
             def run(*words):
-                return subprocess.run([slh, *words], cwd=folder, check=True, capture_output=True).stdout
+                command = [slh, *words]
+                return subprocess.run(command, cwd=folder, check=True, capture_output=True).stdout
 
             run("keygen", "--set", FAST, "theirs")
             run("sign", "--key", "theirs.key", "message")

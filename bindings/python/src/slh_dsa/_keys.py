@@ -27,7 +27,7 @@ EVIDENCE_KINDS = ("fors-node", "fors-roots", "chain-step", "leaf", "tree-node", 
 
 
 class Evidence(NamedTuple):
-    """Where an accepted signature differs from those that the key makes: slh_dsa.h has the kinds."""
+    """Where an accepted signature differs from what the key makes: slh_dsa.h has the kinds."""
 
     kind: str
     layer: int = 0

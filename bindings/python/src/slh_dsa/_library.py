@@ -92,7 +92,7 @@ def _declared(library: ctypes.CDLL) -> dict[str, Any]:
 
 
 def check_sizes(calls: dict[str, Any]) -> None:
-    """Whether the library is of the version that the package was written for, as far as it tells."""
+    """Refuses a library of another version than the package, as far as its sizes tell."""
     for parameters in SETS.values():
         sizes = calls["n"](parameters.number), calls["signature_bytes"](parameters.number)
         if sizes != (parameters.n, parameters.signature_bytes):
