@@ -1,8 +1,8 @@
 #!/usr/bin/env python3
 """Holds the library to the program: random calls of both, whose answers must be the same.
 
-compare_with_program.py COUNT [NUMBER], with SLH_PROGRAM for the program, and SLH_DSA_LIB as for
-slh_dsa.py. NUMBER picks other calls, the same each time.
+compare_with_program.py COUNT [NUMBER], with SLH_PROGRAM for the program; the library is that of the
+package of bindings/python. NUMBER picks other calls, the same each time.
 """
 
 import os
@@ -10,22 +10,21 @@ import random
 import subprocess
 import sys
 
-import slh_dsa
-from slh_dsa import MODES, SETS, Evidence, Refused
+from slh_dsa import EVIDENCE_KINDS, PARAMETER_SETS, Evidence, SigningKey, SlhDsaError, VerifyingKey
 
 ERRORS = {1: "invalid", 4: "key", 5: "length", 6: "context", 7: "randomizer", 8: "message"}
-KINDS = ["fors-node", "fors-roots", "chain-step", "leaf", "tree-node", "early"]
+PREHASHES = [None, "sha256", "sha512"]
 
 
-def command(verb, mode):
-    return verb if mode == "pure" else f"{verb}-{mode}"
+def command(verb, prehash):
+    return verb if prehash is None else f"{verb}-{prehash}"
 
 
 def written(evidence):
     """The evidence as a line has it."""
-    layer, index, level = evidence.layer, evidence.index, evidence.level
+    kind, layer, index, level = evidence
     places = [(index, level), (), (layer, index, level), (layer,), (layer, level), (layer, index)]
-    return " ".join(map(str, [KINDS[evidence.kind - 1], *places[evidence.kind - 1]]))
+    return " ".join(map(str, [kind, *places[EVIDENCE_KINDS.index(kind)]]))
 
 
 class Calls:
@@ -34,14 +33,19 @@ class Calls:
     def __init__(self, name, chance):
         self.name, self.chance = name, chance
         self.n = {"128": 16, "192": 24, "256": 32}[name[-4:-1]]
-        self.key, self.public = slh_dsa.keygen(name, self.bytes(3 * self.n))
+        key = SigningKey.from_seeds(name, self.bytes(3 * self.n))
+        self.key, self.public = key.to_bytes(), key.verifying_key.to_bytes()
         self.signed = []
 
     def bytes(self, count):
         return self.chance.randbytes(count)
 
-    def mode(self):
-        return self.chance.choice(list(MODES))
+    def prehash(self):
+        return self.chance.choice(PREHASHES)
+
+    def signing_key(self, key):
+        """A key as it comes: the program looks at its root where the library does."""
+        return SigningKey.from_bytes(self.name, key, check=False)
 
     def context(self):
         return self.bytes(self.chance.choice([0, 0, 1, 20, 254, 255, 256]))
@@ -58,63 +62,66 @@ class Calls:
         seeds = [self.bytes(self.n), self.bytes(self.n), self.bent(self.bytes(self.n))]
 
         def reply():
-            key, public = slh_dsa.keygen(self.name, b"".join(seeds))
-            return f"key {key.hex()} {public.hex()}"
+            key = SigningKey.from_seeds(self.name, b"".join(seeds))
+            return f"key {key.to_bytes().hex()} {key.verifying_key.to_bytes().hex()}"
 
         return ["keygen", *seeds], reply
 
     def sign(self):
-        mode, key, context = self.mode(), self.bent(self.key), self.context()
+        prehash, key, context = self.prehash(), self.bent(self.key), self.context()
         message = self.bytes(self.chance.randrange(200))
         rand = self.bent(self.bytes(self.n)) if self.chance.randrange(2) else None
 
         def reply():
-            if rand is None:
-                made = slh_dsa.sign_deterministic(self.name, key, message, context, mode)
-            else:
-                made = slh_dsa.sign(self.name, key, message, context, mode, rand)
+            options = {"deterministic": True} if rand is None else {"randomizer": rand}
+            made = self.signing_key(key).sign(message, context=context, prehash=prehash, **options)
             if key == self.key:
-                self.signed.append((mode, context, message, made))
+                self.signed.append((prehash, context, message, made))
             return f"sig {made.hex()}"
 
-        return [command("sign", mode), key, context, message, "none" if rand is None else rand], reply
+        words = [command("sign", prehash), key, context, message]
+        return [*words, "none" if rand is None else rand], reply
 
     def taken(self):
         """A signature that was made, in which one thing may be another."""
-        mode, context, message, signature = self.chance.choice(self.signed)
+        prehash, context, message, signature = self.chance.choice(self.signed)
         if self.chance.randrange(8) == 0:
-            mode = self.mode()
+            prehash = self.prehash()
         if self.chance.randrange(8) == 0:
             context = self.context()
-        return mode, context, self.bent(message), self.bent(signature)
+        return prehash, context, self.bent(message), self.bent(signature)
 
     def verify(self):
-        (mode, context, message, signature), public = self.taken(), self.bent(self.public)
+        (prehash, context, message, signature), public = self.taken(), self.bent(self.public)
 
         def reply():
-            accepted = slh_dsa.verify(self.name, public, message, signature, context, mode)
-            return "accepted" if accepted else "error invalid"
+            key = VerifyingKey.from_bytes(self.name, public)
+            key.verify(signature, message, context=context, prehash=prehash)
+            return "accepted"
 
-        return [command("verify", mode), public, context, message, signature], reply
+        return [command("verify", prehash), public, context, message, signature], reply
 
     def audit(self):
-        (mode, context, message, signature), key = self.taken(), self.bent(self.key)
+        (prehash, context, message, signature), key = self.taken(), self.bent(self.key)
 
         def reply():
-            found = slh_dsa.audit(self.name, key, message, signature, context, mode)
+            holder = self.signing_key(key)
+            found = holder.audit(signature, message, context=context, prehash=prehash)
             return "genuine" if found is None else f"foreign {written(found)}"
 
-        return [command("audit", mode), key, context, message, signature], reply
+        return [command("audit", prehash), key, context, message, signature], reply
 
     def check(self):
-        (mode, context, message, signature), key = self.taken(), self.bent(self.key)
-        evidence = Evidence(self.chance.randrange(1, 7), *(self.chance.randrange(8) for _ in "xyz"))
+        (prehash, context, message, signature), key = self.taken(), self.bent(self.key)
+        places = [self.chance.randrange(8) for _ in "xyz"]
+        evidence = Evidence(self.chance.choice(EVIDENCE_KINDS), *places)
 
         def reply():
-            is_shown = slh_dsa.shows(self.name, key, message, signature, evidence, context, mode)
+            options = {"context": context, "prehash": prehash}
+            is_shown = self.signing_key(key).check_evidence(evidence, signature, message, **options)
             return "shown" if is_shown else "not shown"
 
-        fields = [command("check", mode), key, context, message, signature]
+        fields = [command("check", prehash), key, context, message, signature]
         return fields + written(evidence).split(), reply
 
     def any(self):
@@ -125,8 +132,8 @@ class Calls:
 def answer(reply):
     try:
         return reply()
-    except Refused as refusal:
-        return f"error {ERRORS[refusal.number]}"
+    except SlhDsaError as error:
+        return f"error {ERRORS[error.status]}"
 
 
 def line(name, words):
@@ -136,7 +143,7 @@ def line(name, words):
 
 def main(count, number=0):
     chance = random.Random(number)
-    sets = [Calls(name, chance) for name in SETS]
+    sets = [Calls(name, chance) for name in PARAMETER_SETS]
     lines, wanted = [], []
     for _ in range(count):
         calls = chance.choice(sets)

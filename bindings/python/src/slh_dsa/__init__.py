@@ -1,0 +1,48 @@
+"""SLH-DSA (FIPS 205) over SHA-2, by the verified library for C that the package carries.
+
+    key = SigningKey.generate("SLH-DSA-SHA2-128f")
+    signature = key.sign(b"message", context=b"example.org")
+    key.verifying_key.verify(signature, b"message", context=b"example.org")
+
+Bytes may be `bytes`, or any other buffer, which isn't copied and nobody may change during a call.
+A call runs beside other threads, each of which needs 112 kB of stack.
+"""
+
+from ._errors import (
+    ContextTooLongError,
+    InvalidSignature,
+    KeyMismatchError,
+    LengthError,
+    MessageTooLongError,
+    PemError,
+    RandomizerLengthError,
+    Refused,
+    SlhDsaError,
+    UnknownEvidenceError,
+    UnknownPrehashError,
+    UnknownSetError,
+)
+from ._keys import EVIDENCE_KINDS, Evidence, SigningKey, VerifyingKey
+from ._sets import PARAMETER_SETS
+from ._version import __version__
+
+__all__ = [
+    "EVIDENCE_KINDS",
+    "PARAMETER_SETS",
+    "ContextTooLongError",
+    "Evidence",
+    "InvalidSignature",
+    "KeyMismatchError",
+    "LengthError",
+    "MessageTooLongError",
+    "PemError",
+    "RandomizerLengthError",
+    "Refused",
+    "SigningKey",
+    "SlhDsaError",
+    "UnknownEvidenceError",
+    "UnknownPrehashError",
+    "UnknownSetError",
+    "VerifyingKey",
+    "__version__",
+]

@@ -1,0 +1,3 @@
+"""The version of the package, which is that of the library for C."""
+
+__version__ = "0.11.0"
