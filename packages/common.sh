@@ -36,13 +36,9 @@ lay_out() {
 
 # glibc_of FILE..: the newest version of glibc that programs and shared objects ask for
 glibc_of() {
-    for file in "$@"; do
-        objdump -p "$file"
-    done >"$made/asked"
-    ! grep -v ' libc\.so\.6$' "$made/asked" | grep NEEDED >&2 || {
-        say 'a library is asked for that no package is known of'
-        return 1
-    }
-    sed -n 's/GLIBC_ABI_DT_RELR/GLIBC_2.36/; s/^ .* GLIBC_\([0-9.]*\)$/\1/p' "$made/asked" |
+    asked=$(for file in "$@"; do objdump -p "$file"; done)
+    others=$(echo "$asked" | sed -n '/ libc\.so\.6$/d; s/^ *NEEDED *//p')
+    [ -z "$others" ] || { say "no package is known that has $others"; return 1; }
+    echo "$asked" | sed -n 's/GLIBC_ABI_DT_RELR/GLIBC_2.36/; s/^ .* GLIBC_\([0-9.]*\)$/\1/p' |
         sort -t . -k 1,1n -k 2,2n -k 3,3n | tail -n 1
 }
