@@ -29,6 +29,6 @@ pub use file_system::FileSystem;
 pub use host::HostFiles;
 pub use inputs::is_input;
 pub use memory::MemFiles;
-pub use pair::make_pair;
+pub use pair::{are_apart, make_pair};
 pub use parts::{is_part, part_name};
 pub use whole::{NEW_MODE, SECRET_MODE, make_new, make_secret, write_whole};

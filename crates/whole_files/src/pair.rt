@@ -1,5 +1,5 @@
 //! A secret and a public file that are made together.
-ghost use Rattle.std.specs.Prelude.{◌≡◌, ◌≢◌, ◌≤◌, IsTrue, IfOk, Result, IsErrOf};
+ghost use Rattle.std.specs.Prelude.{◌≡◌, ◌≢◌, ◌≤◌, ◌↔◌, IsTrue, IfOk, Result, IsErrOf};
 ghost use Rattle.whole_files.specs.declared.file.Failed.{Failed};
 ghost use Rattle.whole_files.specs.declared.error.WriteError.TheVariants.{Failed as NothingLeft};
 ghost use Rattle.whole_files.specs.declared.error.Written.TheVariants.{Settled, Unsettled};
@@ -10,6 +10,19 @@ ghost use Rattle.whole_files.specs.Pair.{AreApart, IsPairing, Pairs, TakesBack};
 use crate::error::{WriteError, Written};
 use crate::file_system::FileSystem;
 use crate::whole::{NEW_MODE, SECRET_MODE, link_new, settle};
+
+/// Whether the paths of a secret and its part, and of a public file and its part, are four.
+pub fn are_apart(key_path: &str, key_part: &str, public_path: &str, public_part: &str) -> bool
+    ensures { IsTrue result
+        ↔ AreApart key_path.now key_part.now public_path.now public_part.now }
+{
+    key_part != key_path
+        && public_part != public_path
+        && key_path != public_path
+        && key_path != public_part
+        && key_part != public_path
+        && key_part != public_part
+}
 
 // Takes away a file that was made, after an error that left nothing, and says what is left.
 fn take_back<F: FileSystem>(fs: &mut F, path: &str, error: WriteError) -> WriteError
