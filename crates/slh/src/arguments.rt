@@ -12,6 +12,9 @@ use std::random::RandomSource;
 /// The most bytes of a context.
 const MAX_CONTEXT: usize = 255;
 
+/// The contexts that batches, chains, logs and manifests are signed under.
+const RESERVED_CONTEXTS: [&[u8]; 4] = [b"slh-batch", b"slh-chain", b"slh-log", b"slh-manifest"];
+
 /// What names an input, in any command.
 const INPUTS: [&str; 8] = [
     "key",
@@ -80,7 +83,8 @@ fn mode(words: &ArgMatches<'_>) -> Result<Mode, Failure<'static>> {
     }
 }
 
-/// The context of `--context` or `--context-hex`, or none.
+/// The context of `--context` or `--context-hex`, or none. Those of batches, chains, logs and manifests
+/// are refused: what they sign is nothing else's.
 pub fn context(rt: &HostRuntime, words: &ArgMatches<'_>) -> Result<ByteString, Failure<'static>> {
     let context = match words.get_str("context-hex") {
         Some(digits) => match digits_of(rt.alloc(), digits.as_bytes())? {
@@ -94,6 +98,9 @@ pub fn context(rt: &HostRuntime, words: &ArgMatches<'_>) -> Result<ByteString, F
     };
     if context.len() > MAX_CONTEXT {
         return Err(Failure::Context);
+    }
+    if RESERVED_CONTEXTS.contains(&context.as_slice()) {
+        return Err(Failure::ReservedContext);
     }
     Ok(context)
 }
@@ -113,7 +120,7 @@ pub fn message<'a>(
 
 /// The key of a file.
 pub fn key_of_kind<'a>(rt: &HostRuntime, kind: Kind, path: &'a str) -> Result<Key, Failure<'a>> {
-    let file = files::read(rt, path)?;
+    let file = files::read_limited(rt, path)?;
     match read_key(rt.alloc(), kind, file.as_slice()) {
         Ok(key) => Ok(key),
         Err(error) => Err(Failure::Key(path, error)),
@@ -128,7 +135,7 @@ pub fn verifying_key<'a>(rt: &HostRuntime, words: &ArgMatches<'a>) -> Result<Key
 /// The signing key of `--key`, whose root is that of its own seeds.
 pub fn signing_key<'a>(rt: &HostRuntime, words: &ArgMatches<'a>) -> Result<Key, Failure<'a>> {
     let path = required(words, "key")?;
-    let file = files::read(rt, path)?;
+    let file = files::read_limited(rt, path)?;
     match read_signing_key(rt.alloc(), file.as_slice()) {
         Ok(key) => Ok(key),
         Err(error) => Err(Failure::Key(path, error)),
@@ -142,7 +149,7 @@ fn signature<'a>(
     set: Set,
 ) -> Result<ByteString, Failure<'a>> {
     let path = required(words, "signature")?;
-    let file = files::read(rt, path)?;
+    let file = files::read_limited(rt, path)?;
     let signature = read_signature(rt.alloc(), set, file)?;
     if signature.len() == set.signature_len() {
         Ok(signature)

@@ -27,7 +27,7 @@ fn tell_foreign(rt: &HostRuntime, evidence: Evidence) -> Result<Outcome, Failure
     line.push_slice(b" ")?;
     push_evidence(&mut line, evidence)?;
     line.push_slice(b"\n")?;
-    match crate::files::print(rt, line.as_slice()) {
+    match crate::outputs::print(rt, line.as_slice()) {
         Ok(()) => Ok(outcome),
         Err(error) => Err(Failure::Output(error)),
     }

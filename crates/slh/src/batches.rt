@@ -4,6 +4,7 @@ use crate::arguments::{
 };
 use crate::failure::Failure;
 use crate::files::{self, FileId};
+use crate::outputs;
 use clap::ArgMatches;
 use slh_batch::{Batch, BatchError, ReceiptError, Sealed, accept};
 use slh_dsa::ParameterSet;
@@ -108,10 +109,7 @@ fn write_receipts<'a, P: ParameterSet>(
             Ok(receipt) => receipt,
             Err(error) => return Err(batch_failure(*path, error)),
         };
-        let output = format!(in rt.alloc(); "{path}.receipt")?;
-        if let Err(error) = files::write(rt, output.as_str(), &receipt) {
-            return Err(Failure::NewFile(*path, ".receipt", error));
-        }
+        outputs::put_beside(rt, *path, ".receipt", &receipt)?;
         i = i.saturating_add(1);
     }
     Ok(())
@@ -166,7 +164,7 @@ pub fn verify<'a>(rt: &HostRuntime, words: &ArgMatches<'a>) -> Result<Outcome, F
     check_inputs(words)?;
     let key = verifying_key(rt, words)?;
     let (path, file) = (required(words, "receipt")?, required(words, "file")?);
-    let receipt = files::read(rt, path)?;
+    let receipt = files::read_limited(rt, path)?;
     let message = files::read(rt, file)?;
     let accepted = key.set.run(Accepting {
         key: key.bytes.as_slice(),

@@ -4,9 +4,9 @@ use crate::arguments::{
     tell, verifying_key,
 };
 use crate::failure::Failure;
-use crate::files;
 use crate::keys::key_file;
 use crate::signatures::tell_verdict;
+use crate::{files, outputs};
 use clap::ArgMatches;
 use slh_chain::{ChainError, LinkError, delegate as link_of, walk as end_of};
 use slh_dsa::ParameterSet;
@@ -61,7 +61,7 @@ impl<'k, 'a> OnSet for Delegation<'k, 'a> {
 // The bytes of a chain, which may be written in hexadecimal: a link ends with a signature, which is
 // never all digits and blanks, but by chance.
 fn chain<'a>(rt: &HostRuntime, path: &'a str) -> Result<ByteString, Failure<'a>> {
-    let file = files::read(rt, path)?;
+    let file = files::read_limited(rt, path)?;
     let links = match digits_of(rt.alloc(), file.as_slice())? {
         Some(bytes) => bytes,
         None => file,
@@ -78,7 +78,7 @@ pub fn delegate<'a>(rt: &HostRuntime, words: &ArgMatches<'a>) -> Result<Outcome,
     let output = required(words, "output")?;
     check_output(rt, words, &["key", "subject"], output)?;
     let links = delegated(rt, words)?;
-    files::put(rt, output, links.as_slice())?;
+    outputs::put(rt, output, links.as_slice())?;
     Ok(Outcome::Done)
 }
 
@@ -217,7 +217,7 @@ pub fn walk<'a>(rt: &HostRuntime, words: &ArgMatches<'a>) -> Result<Outcome, Fai
     check_output(rt, words, &["key", "chain"], output)?;
     let key = last_key(rt, words)?;
     let file = key_file(rt, Kind::Verifying, &key, required(words, "chain")?)?;
-    files::put(rt, output, file.as_slice())?;
+    outputs::put(rt, output, file.as_slice())?;
     Ok(Outcome::Done)
 }
 

@@ -7,7 +7,14 @@ use std::{fmt, io};
 
 const CONTEXT: &str = "the context has more than 255 bytes";
 
+const RESERVED: &str =
+    "the contexts slh-batch, slh-chain, slh-log and slh-manifest are for what they name alone";
+
 const FAULT: &str = "the machine computed wrongly, and no signature is written";
+
+const LEFT: &str = "a file of 16 digits and .part may stay beside it";
+
+const UNSETTLED: &str = "it is written, but its folder can't be brought to the disk";
 
 const ROOT: &str = "the key's root is not that of its seeds";
 
@@ -24,6 +31,12 @@ pub enum Failure<'a> {
     File(&'a str, io::Error),
     /// A file of this name and this ending can't be made.
     NewFile(&'a str, &'static str, io::Error),
+    /// What is wrong with a file of this name and this ending.
+    NewTold(&'a str, &'static str, &'static str),
+    /// A file couldn't be made, and what was begun couldn't be removed.
+    Left(&'a str, &'static str, io::Error),
+    /// A file was written whole, but its folder wasn't brought to the disk.
+    Unsettled(&'a str, &'static str, io::Error),
     /// A file is no such key.
     Key(&'a str, KeyFileError),
     /// A file is no signature of this set.
@@ -32,6 +45,8 @@ pub enum Failure<'a> {
     Unknown(&'a str),
     /// The context is too long.
     Context,
+    /// The context is one of batches, chains, logs and manifests.
+    ReservedContext,
     /// The context isn't hexadecimal.
     ContextHex,
     /// The words of evidence are none.
@@ -74,6 +89,9 @@ impl fmt::Display for Failure<'_> {
             Failure::TwoInputs => f.write_str("only one file can be standard input"),
             Failure::File(path, error) => write!(f, "{path}: {error}"),
             Failure::NewFile(name, end, error) => write!(f, "{name}{end}: {error}"),
+            Failure::NewTold(name, end, text) => write!(f, "{name}{end}: {text}"),
+            Failure::Left(name, end, error) => write!(f, "{name}{end}: {error}; {LEFT}"),
+            Failure::Unsettled(name, end, error) => write!(f, "{name}{end}: {UNSETTLED}: {error}"),
             Failure::Key(path, error) => {
                 let text = key_text(*error);
                 write!(f, "{path}: {text}")
@@ -88,6 +106,7 @@ impl fmt::Display for Failure<'_> {
             }
             Failure::Unknown(path) => write!(f, "{path}: neither a key nor a signature"),
             Failure::Context => f.write_str(CONTEXT),
+            Failure::ReservedContext => f.write_str(RESERVED),
             Failure::ContextHex => f.write_str("--context-hex: not hexadecimal"),
             Failure::Evidence => f.write_str("--evidence: not what an audit prints"),
             Failure::Refused(path, error) => {

@@ -1,7 +1,7 @@
 //! `slh inspect`.
 use crate::arguments::required;
 use crate::failure::Failure;
-use crate::files;
+use crate::{files, outputs};
 use clap::ArgMatches;
 use line_serve::push_hex;
 use slh_files::{
@@ -14,9 +14,9 @@ use slh_sets::Set;
 /// Tells what a key or a signature is. Of a signing key nothing secret is told.
 pub fn inspect<'a>(rt: &HostRuntime, words: &ArgMatches<'a>) -> Result<Outcome, Failure<'a>> {
     let path = required(words, "file")?;
-    let file = files::read(rt, path)?;
+    let file = files::read_limited(rt, path)?;
     let told = text_of(rt, path, &file)?;
-    files::put(rt, files::STANDARD, told.as_slice())?;
+    outputs::put(rt, files::STANDARD, told.as_slice())?;
     Ok(Outcome::Done)
 }
 

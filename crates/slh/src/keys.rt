@@ -1,16 +1,10 @@
 //! `slh keygen` and `slh public`.
 use crate::arguments::{check_output, random, required, set_of, signing_key};
 use crate::failure::Failure;
-use crate::files;
+use crate::{files, outputs};
 use clap::ArgMatches;
 use slh_files::{Key, Kind, Outcome, encode_key, made_key, verifying_key};
 use slh_run::ByteString;
-use std::fs;
-
-/// The mode of a signing key's file, from its first byte on.
-pub const SECRET: u32 = 0o600;
-
-const PUBLIC: u32 = 0o666;
 
 /// The text of a key file. A key that gives none is told of under a name.
 pub fn key_file<'a>(
@@ -40,30 +34,13 @@ pub fn keygen<'a>(rt: &HostRuntime, words: &ArgMatches<'a>) -> Result<Outcome, F
 pub fn write_pair<'a>(rt: &HostRuntime, name: &'a str, key: &Key) -> Result<Outcome, Failure<'a>> {
     let secret = key_file(rt, Kind::Signing, key, name)?;
     let public = public_file(rt, key, name)?;
-    write_files(rt, name, secret.as_slice(), public.as_slice())
+    outputs::put_pair(rt, name, secret.as_slice(), public.as_slice())?;
+    Ok(Outcome::Done)
 }
 
 // The text of the file of a signing key's verifying key.
 fn public_file<'a>(rt: &HostRuntime, key: &Key, name: &'a str) -> Result<ByteString, Failure<'a>> {
     key_file(rt, Kind::Verifying, &verifying_key(rt.alloc(), key)?, name)
-}
-
-fn write_files<'a>(
-    rt: &HostRuntime,
-    name: &'a str,
-    secret: &[u8],
-    public: &[u8],
-) -> Result<Outcome, Failure<'a>> {
-    let secret_path = format!(in rt.alloc(); "{name}.key")?;
-    let public_path = format!(in rt.alloc(); "{name}.pub")?;
-    if let Err(error) = files::write_new(rt, secret_path.as_str(), SECRET, secret) {
-        return Err(Failure::NewFile(name, ".key", error));
-    }
-    if let Err(error) = files::write_new(rt, public_path.as_str(), PUBLIC, public) {
-        let _ = fs::remove_file(rt, secret_path.as_str());
-        return Err(Failure::NewFile(name, ".pub", error));
-    }
-    Ok(Outcome::Done)
 }
 
 /// Writes the verifying key of a signing key.
@@ -73,6 +50,6 @@ pub fn public<'a>(rt: &HostRuntime, words: &ArgMatches<'a>) -> Result<Outcome, F
     check_output(rt, words, &["key"], output)?;
     let key = signing_key(rt, words)?;
     let public = public_file(rt, &key, path)?;
-    files::put(rt, output, public.as_slice())?;
+    outputs::put(rt, output, public.as_slice())?;
     Ok(Outcome::Done)
 }

@@ -14,7 +14,9 @@ mod group_words;
 mod inspect;
 mod keys;
 mod manifests;
+mod outputs;
 mod rings;
+mod secrets;
 mod signatures;
 mod words;
 

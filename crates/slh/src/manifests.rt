@@ -3,16 +3,17 @@ use crate::arguments::{
     Randomness, check_inputs, check_output, required, signing_key, tell, verifying_key,
 };
 use crate::failure::Failure;
-use crate::files;
 use crate::folder::{Folder, names_below};
+use crate::{files, outputs};
 use clap::ArgMatches;
 use slh_dsa::ParameterSet;
 use slh_files::Outcome;
 use slh_line::{signing_key as signing_key_of, verifying_key as verifying_key_of};
-use slh_manifest::{BuildError, Builder, CheckError, check as check_over, entry_name};
+use slh_manifest::{BuildError, Builder, CheckError, MAX_ENTRIES, check as check_over, entry_name};
 use slh_sets::OnSet;
 use std::alloc::{AllocError, Global};
 use std::{fs, io, str};
+use whole_files::is_part;
 
 const UNREADABLE: &str = "it can't be read";
 
@@ -69,7 +70,7 @@ fn folder_path<'a>(rt: &HostRuntime, words: &ArgMatches<'a>) -> Result<&'a str, 
     }
 }
 
-// The names of the files below a folder, none of which is the output.
+// The names of the files below a folder, none of which is the output or was begun by another run.
 fn names_for<'a>(
     rt: &HostRuntime,
     path: &'a str,
@@ -77,15 +78,33 @@ fn names_for<'a>(
 ) -> Result<Vec<String>, Failure<'a>> {
     let names = match names_below(rt, path) {
         Ok(names) => names,
-        Err(error) => return Err(Failure::File(path, error)),
+        Err(walk) if walk.below.is_empty() => return Err(Failure::File(path, walk.error)),
+        Err(walk) => return Err(Failure::EntryFile(path, walk.below, walk.error)),
     };
+    if names.len() > MAX_ENTRIES {
+        return Err(Failure::Told(path, build_text(BuildError::Full)));
+    }
     for name in &names {
+        check_name(rt, path, name.as_str())?;
         let below = format!(in rt.alloc(); "{path}/{name}")?;
         if files::are_one(rt, below.as_str(), output) {
             return Err(Failure::Told(output, "it is one of the files below the folder"));
         }
     }
     Ok(names)
+}
+
+// Refuses the name of a file that a run of `slh` began to write, and left.
+fn check_name<'a>(rt: &HostRuntime, path: &'a str, name: &str) -> Result<(), Failure<'a>> {
+    let last = match name.rsplit_once('/') {
+        Some((_, last)) => last,
+        None => name,
+    };
+    if is_part(last) {
+        let name = shown(rt.alloc(), name.as_bytes())?;
+        return Err(Failure::Entry(path, name, "a file that slh began to write: remove it"));
+    }
+    Ok(())
 }
 
 // The entries of the files of these names.
@@ -125,7 +144,7 @@ pub fn seal<'a>(rt: &HostRuntime, words: &ArgMatches<'a>) -> Result<Outcome, Fai
     let output = required(words, "output")?;
     check_output(rt, words, &["key"], output)?;
     let manifest = sealed(rt, words, path, output)?;
-    files::put(rt, output, &manifest)?;
+    outputs::put(rt, output, &manifest)?;
     Ok(Outcome::Done)
 }
 
@@ -195,7 +214,7 @@ pub fn check<'a>(rt: &HostRuntime, words: &ArgMatches<'a>) -> Result<Outcome, Fa
     let below = folder_path(rt, words)?;
     let key = verifying_key(rt, words)?;
     let path = required(words, "manifest")?;
-    let manifest = files::read(rt, path)?;
+    let manifest = files::read_limited(rt, path)?;
     let (checked, folder) = key.set.run(Checking {
         key: key.bytes.as_slice(),
         manifest: manifest.as_slice(),

@@ -1,8 +1,8 @@
 //! `slh ring`: the keys that one master secret gives.
 use crate::arguments::{check_inputs, check_output, random, required, set_of};
 use crate::failure::Failure;
-use crate::files;
-use crate::keys::{SECRET, write_pair};
+use crate::keys::write_pair;
+use crate::{files, outputs};
 use clap::ArgMatches;
 use line_serve::push_hex_line;
 use slh_dsa::ParameterSet;
@@ -18,7 +18,7 @@ const MAX_MASTER: usize = 1 << 60;
 // The master of a file, which has it in hexadecimal.
 fn master<'a>(rt: &HostRuntime, words: &ArgMatches<'a>) -> Result<ByteString, Failure<'a>> {
     let path = required(words, "master")?;
-    let file = files::read(rt, path)?;
+    let file = files::read_limited(rt, path)?;
     match digits_of(rt.alloc(), file.as_slice())? {
         Some(bytes) if !bytes.is_empty() && bytes.len() <= MAX_MASTER => Ok(bytes),
         _ => Err(Failure::Told(path, "not a master secret in hexadecimal")),
@@ -33,10 +33,8 @@ pub fn make_master<'a>(rt: &HostRuntime, words: &ArgMatches<'a>) -> Result<Outco
     }
     let mut line = ByteString::new(rt.alloc());
     push_hex_line(&mut line, b"", &random::<32>(rt)?)?;
-    match files::write_new(rt, path, SECRET, line.as_slice()) {
-        Ok(()) => Ok(Outcome::Done),
-        Err(error) => Err(Failure::File(path, error)),
-    }
+    outputs::put_secret(rt, path, line.as_slice())?;
+    Ok(Outcome::Done)
 }
 
 // The key at a path.
@@ -154,7 +152,7 @@ fn put_record<'a>(
 ) -> Result<Outcome, Failure<'a>> {
     let mut line = ByteString::from_slice(rt.alloc(), set.name().as_bytes())?;
     push_hex_line(&mut line, b" ", record)?;
-    files::put(rt, output, line.as_slice())?;
+    outputs::put(rt, output, line.as_slice())?;
     Ok(Outcome::Done)
 }
 
@@ -223,7 +221,7 @@ pub fn restore<'a>(rt: &HostRuntime, words: &ArgMatches<'a>) -> Result<Outcome, 
         record: record.as_slice(),
     });
     match restored {
-        Ok(text) => files::put(rt, files::STANDARD, text.as_slice())?,
+        Ok(text) => outputs::put(rt, files::STANDARD, text.as_slice())?,
         Err(error) => return Err(restore_failure(path, error)),
     }
     Ok(Outcome::Done)
@@ -231,7 +229,7 @@ pub fn restore<'a>(rt: &HostRuntime, words: &ArgMatches<'a>) -> Result<Outcome, 
 
 // The set and the record of a file.
 fn record_at<'a>(rt: &HostRuntime, path: &'a str) -> Result<(Set, ByteString), Failure<'a>> {
-    let file = files::read(rt, path)?;
+    let file = files::read_limited(rt, path)?;
     match record_in(rt.alloc(), file.as_slice())? {
         Some(found) => Ok(found),
         None => Err(Failure::Told(path, "not a line SET RECORD")),

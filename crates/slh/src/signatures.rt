@@ -4,21 +4,47 @@ use crate::arguments::{
     signing_key, tell, verifying_key,
 };
 use crate::failure::Failure;
-use crate::files;
+use crate::{files, outputs};
 use clap::ArgMatches;
 use slh_files::{Key, Message, Outcome, SignError};
 use slh_run::ByteString;
+
+// What is put behind the name of a file for the name of its signature.
+const SIGNATURE_END: &str = ".sig";
 
 /// Signs a file. The signature goes to `--output`, else to FILE.sig, or from standard input to
 /// standard output.
 pub fn sign<'a>(rt: &HostRuntime, words: &ArgMatches<'a>) -> Result<Outcome, Failure<'a>> {
     check_inputs(words)?;
     let path = required(words, "file")?;
+    check_signature_output(rt, words, path)?;
     let context = context(rt, words)?;
     let key = signing_key(rt, words)?;
     let message = message(rt, words, context)?;
     let signature = signed(rt, words, path, key, message)?;
     put(rt, words, path, signature.as_slice())
+}
+
+// Refuses a signature at the place of an input, and one beside what is no regular file.
+fn check_signature_output<'a>(
+    rt: &HostRuntime,
+    words: &ArgMatches<'a>,
+    path: &'a str,
+) -> Result<(), Failure<'a>> {
+    if let Some(output) = words.get_str("output") {
+        return check_output(rt, words, &["key", "file"], output);
+    }
+    if path == files::STANDARD {
+        return Ok(());
+    }
+    if files::is_stream(rt, path) {
+        return Err(Failure::Told(
+            path,
+            "no regular file: --output says where its signature goes",
+        ));
+    }
+    let output = format!(in rt.alloc(); "{path}{SIGNATURE_END}")?;
+    check_output(rt, words, &["key", "file"], output.as_str())
 }
 
 fn signed<'a>(
@@ -60,29 +86,13 @@ fn put<'a>(
     signature: &[u8],
 ) -> Result<Outcome, Failure<'a>> {
     if let Some(output) = words.get_str("output") {
-        check_output(rt, words, &["key", "file"], output)?;
-        files::put(rt, output, signature)?;
+        outputs::put(rt, output, signature)?;
     } else if path == files::STANDARD {
-        files::put(rt, path, signature)?;
+        outputs::put(rt, path, signature)?;
     } else {
-        put_beside(rt, words, path, signature)?;
+        outputs::put_beside(rt, path, SIGNATURE_END, signature)?;
     }
     Ok(Outcome::Done)
-}
-
-// Writes FILE.sig.
-fn put_beside<'a>(
-    rt: &HostRuntime,
-    words: &ArgMatches<'a>,
-    path: &'a str,
-    signature: &[u8],
-) -> Result<(), Failure<'a>> {
-    let output = format!(in rt.alloc(); "{path}.sig")?;
-    check_output(rt, words, &["key", "file"], output.as_str())?;
-    match files::write(rt, output.as_str(), signature) {
-        Ok(()) => Ok(()),
-        Err(error) => Err(Failure::NewFile(path, ".sig", error)),
-    }
 }
 
 /// Tells whether a signature is one of a file.

@@ -1,0 +1,207 @@
+//! Outputs: each file is written whole or not at all, and no secret is replaced.
+ghost use Rattle.std.specs.Prelude.{◌≢◌, IfOk, string_bytes};
+
+use crate::arguments::random;
+use crate::failure::Failure;
+use crate::files::{STANDARD, read_front};
+use crate::secrets::{FRONT, holds_secret};
+use std::fs::{self, OpenFile, OpenOptions};
+use std::io::{self, ErrorKind, Write};
+use whole_files::{
+    HostFiles, WriteError, Written, are_apart, make_pair, make_secret, part_name, write_whole,
+};
+
+// Another name of standard output. A whole write would take the place of the file behind it.
+const STANDARD_OUTPUT: &str = "/dev/stdout";
+
+/// Writes to standard output.
+pub fn print(rt: &HostRuntime, bytes: &[u8]) -> io::Result<()> {
+    io::writer(rt).write_all(bytes)
+}
+
+/// Writes to a file that the words name, or to standard output where the path is `-`. A link is
+/// followed to what it leads to. A device or a pipe is written in place.
+pub fn put<'a>(rt: &HostRuntime, path: &'a str, bytes: &[u8]) -> Result<(), Failure<'a>> {
+    if path == STANDARD || path == STANDARD_OUTPUT {
+        return match print(rt, bytes) {
+            Ok(()) => Ok(()),
+            Err(error) => Err(Failure::Output(error)),
+        };
+    }
+    match target_of(rt, path) {
+        Ok(Target::Whole(target)) => put_whole(rt, (path, ""), target.as_str(), bytes),
+        Ok(Target::InPlace) => match write_in_place(rt, path, bytes) {
+            Ok(()) => Ok(()),
+            Err(error) => Err(Failure::File(path, error)),
+        },
+        Err(error) => Err(Failure::File(path, error)),
+    }
+}
+
+/// Writes the file of a path and an ending, which the words don't name. Only a regular file is
+/// replaced, and no link is followed.
+pub fn put_beside<'a>(
+    rt: &HostRuntime,
+    path: &'a str,
+    end: &'static str,
+    bytes: &[u8],
+) -> Result<(), Failure<'a>> {
+    let output = format!(in rt.alloc(); "{path}{end}")?;
+    put_whole(rt, (path, end), output.as_str(), bytes)
+}
+
+// What an output's path leads to.
+#[derive(Drop)]
+enum Target {
+    // A regular file, or nothing, at this path.
+    Whole(String),
+    // A device or a pipe.
+    InPlace,
+}
+
+fn target_of(rt: &HostRuntime, path: &str) -> io::Result<Target> {
+    match fs::metadata(rt, path) {
+        Ok(found) if found.is_file() => Ok(Target::Whole(end_of_links(rt, path)?)),
+        Ok(found) if found.is_dir() => Err(io::Error::from(ErrorKind::IsADirectory)),
+        Ok(_) => Ok(Target::InPlace),
+        Err(error) if error.kind() == ErrorKind::NotFound && is_free(rt, path) => {
+            Ok(Target::Whole(String::from_str(rt.alloc(), path)?))
+        }
+        Err(error) => Err(error),
+    }
+}
+
+// Whether nothing stands at a path, not even a link that leads nowhere.
+fn is_free(rt: &HostRuntime, path: &str) -> bool {
+    match fs::symlink_metadata(rt, path) {
+        Ok(_) => false,
+        Err(error) => error.kind() == ErrorKind::NotFound,
+    }
+}
+
+// The path of the file that a path leads to: itself, where it is no link.
+fn end_of_links(rt: &HostRuntime, path: &str) -> io::Result<String> {
+    if fs::symlink_metadata(rt, path)?.is_symlink() {
+        let end = fs::canonicalize(rt, path)?;
+        return Ok(String::from_str(rt.alloc(), end.as_str())?);
+    }
+    Ok(String::from_str(rt.alloc(), path)?)
+}
+
+// Writes to what is no regular file, whatever stood there before.
+fn write_in_place(rt: &HostRuntime, path: &str, bytes: &[u8]) -> io::Result<()> {
+    let mut options = OpenOptions::new();
+    options.write(true);
+    let mut file = options.open(rt, path)?;
+    if file.metadata()?.is_file() {
+        return Err(io::Error::from(ErrorKind::AlreadyExists));
+    }
+    file.write_all(bytes)
+}
+
+// Writes a file, which is told of under a path and an ending, at the path where it stands.
+fn put_whole<'a>(
+    rt: &HostRuntime,
+    name: (&'a str, &'static str),
+    path: &str,
+    bytes: &[u8],
+) -> Result<(), Failure<'a>> {
+    check_secret(rt, name, path)?;
+    let part = part_of(rt, path)?;
+    let mut files = HostFiles::new(rt);
+    let written = write_whole(&mut files, path, part.as_str(), bytes);
+    told(name, written, files.fault.take())
+}
+
+// Refuses to replace a secret.
+fn check_secret<'a>(
+    rt: &HostRuntime,
+    name: (&'a str, &'static str),
+    path: &str,
+) -> Result<(), Failure<'a>> {
+    match fs::symlink_metadata(rt, path) {
+        Ok(found) if found.is_file() => (),
+        _ => return Ok(()),
+    }
+    match read_front(rt, path, FRONT) {
+        Ok(bytes) if holds_secret(rt.alloc(), bytes.as_slice())? => {
+            Err(Failure::NewTold(name.0, name.1, "a secret, which is not replaced"))
+        }
+        Ok(_) => Ok(()),
+        Err(error) => Err(Failure::NewFile(name.0, name.1, error)),
+    }
+}
+
+// A name beside a path.
+fn part_of(rt: &HostRuntime, path: &str) -> Result<String, Failure<'static>>
+    ensures { IfOk result (λ part. string_bytes part ≢ path.now) }
+{
+    let number = u64::from_be_bytes(random::<8>(rt)?);
+    Ok(part_name(rt.alloc(), path, number)?)
+}
+
+/// Makes a secret of mode 600 where nothing stands.
+pub fn put_secret<'a>(rt: &HostRuntime, path: &'a str, bytes: &[u8]) -> Result<(), Failure<'a>> {
+    let part = part_of(rt, path)?;
+    let mut files = HostFiles::new(rt);
+    let made = make_secret(&mut files, path, part.as_str(), bytes);
+    told((path, ""), made, files.fault.take())
+}
+
+/// Makes NAME.key, of mode 600, and NAME.pub, both or neither, where nothing stands.
+pub fn put_pair<'a>(
+    rt: &HostRuntime,
+    name: &'a str,
+    secret: &[u8],
+    public: &[u8],
+) -> Result<(), Failure<'a>> {
+    let key_path = format!(in rt.alloc(); "{name}.key")?;
+    let public_path = format!(in rt.alloc(); "{name}.pub")?;
+    let key_part = part_of(rt, key_path.as_str())?;
+    let public_part = part_of(rt, public_path.as_str())?;
+    let (kp, ks) = (key_path.as_str(), key_part.as_str());
+    let (pp, ps) = (public_path.as_str(), public_part.as_str());
+    if !are_apart(kp, ks, pp, ps) {
+        return Err(Failure::Told(name, "the name of a file that is being written"));
+    }
+    let mut files = HostFiles::new(rt);
+    let made = make_pair(&mut files, kp, ks, secret, pp, ps, public);
+    let end = end_in_the_way(rt, key_path.as_str());
+    told((name, end), made, files.fault.take())
+}
+
+// Which file of a pair stands in the way of a new one, where one does.
+fn end_in_the_way(rt: &HostRuntime, key_path: &str) -> &'static str {
+    if is_free(rt, key_path) {
+        ".pub"
+    } else {
+        ".key"
+    }
+}
+
+// What came of a write, as it is told under a path and an ending.
+fn told<'a>(
+    name: (&'a str, &'static str),
+    written: Result<Written, WriteError>,
+    fault: Option<io::Error>,
+) -> Result<(), Failure<'a>> {
+    let (path, end) = name;
+    let fault = match fault {
+        Some(fault) => fault,
+        None => io::Error::from(ErrorKind::Other),
+    };
+    match written {
+        Ok(Written::Settled) => Ok(()),
+        Ok(Written::Unsettled) => Err(Failure::Unsettled(path, end, fault)),
+        Err(WriteError::NotRegular) => {
+            Err(Failure::NewTold(
+                path,
+                end,
+                "a link or no regular file, which is not replaced",
+            ))
+        }
+        Err(WriteError::Taken) => Err(Failure::NewTold(path, end, "File exists, and stays")),
+        Err(WriteError::Failed) => Err(Failure::NewFile(path, end, fault)),
+        Err(WriteError::Left) => Err(Failure::Left(path, end, fault)),
+    }
+}
