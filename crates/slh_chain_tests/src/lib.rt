@@ -4,6 +4,8 @@
 #[cfg(test)]
 mod chains;
 #[cfg(test)]
+mod extended;
+#[cfg(test)]
 mod faults;
 #[cfg(test)]
 mod links;
