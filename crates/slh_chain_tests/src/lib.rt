@@ -11,3 +11,5 @@ mod faults;
 mod links;
 #[cfg(test)]
 mod page_of_chains;
+#[cfg(test)]
+mod policy;
