@@ -16,6 +16,8 @@ use std::{fs, io, str};
 
 const UNREADABLE: &str = "it can't be read";
 
+const NO_NAME: &[u8] = b"";
+
 // The entries that are to be signed.
 #[derive(Drop)]
 struct Sealing<'s> {
@@ -183,7 +185,7 @@ impl<'s> OnSet for Checking<'s> {
         } = self;
         let found = match verifying_key_of::<P>(key) {
             Ok(key) => checked_over(&key, manifest, &mut folder),
-            Err(_) => (Err(CheckError::Form), &[]),
+            Err(_) => (Err(CheckError::Form), NO_NAME),
         };
         (found, folder)
     }
@@ -199,7 +201,7 @@ fn checked_over<'m, P: ParameterSet>(
 ) -> Finding<'m> {
     let manifest = match Manifest::open(key, manifest) {
         Ok(manifest) => manifest,
-        Err(error) => return (Err(error), &[]),
+        Err(error) => return (Err(error), NO_NAME),
     };
     let checked = manifest.check(folder);
     let entry = match checked {
@@ -208,7 +210,7 @@ fn checked_over<'m, P: ParameterSet>(
     };
     match entry {
         Some(entry) => (checked, entry.name),
-        None => (checked, &[]),
+        None => (checked, NO_NAME),
     }
 }
 

@@ -25,8 +25,7 @@ fn is_allowed<P: ParameterSet>(
     revoked: &[&str],
     purpose: &str,
 ) -> bool {
-    let mut links = chain.links();
-    while let Some(link) = links.next() {
+    for link in chain.links() {
         if allows(link.name, today, revoked, purpose) != Some(true) {
             return false;
         }
