@@ -6,16 +6,18 @@ use crate::failure::Failure;
 use crate::folder::{Folder, names_below};
 use crate::{files, outputs};
 use clap::ArgMatches;
-use slh_dsa::ParameterSet;
+use slh_dsa::{ParameterSet, VerifyingKey};
 use slh_files::Outcome;
 use slh_line::{signing_key as signing_key_of, verifying_key as verifying_key_of};
-use slh_manifest::{BuildError, Builder, CheckError, MAX_ENTRIES, check as check_over, entry_name};
+use slh_manifest::{BuildError, Builder, CheckError, MAX_ENTRIES, Manifest};
 use slh_sets::OnSet;
 use std::alloc::{AllocError, Global};
 use std::{fs, io, str};
 use whole_files::is_part;
 
 const UNREADABLE: &str = "it can't be read";
+
+const NO_NAME: &[u8] = b"";
 
 // The entries that are to be signed.
 #[derive(Drop)]
@@ -190,21 +192,44 @@ struct Checking<'s> {
 impl<'s> OnSet for Checking<'s> {
     ghost use Rattle.std.specs.Prelude.{⊤};
 
-    type Out = (Result<(), CheckError>, Folder<'s>);
+    type Out = (Finding<'s>, Folder<'s>);
 
     ghost gives = { λ _ _ _ _. ⊤ };
 
-    fn on<P: ParameterSet>(self) -> (Result<(), CheckError>, Folder<'s>) {
+    fn on<P: ParameterSet>(self) -> (Finding<'s>, Folder<'s>) {
         let Checking {
             key,
             manifest,
             mut folder,
         } = self;
-        let checked = match verifying_key_of::<P>(key) {
-            Ok(key) => check_over(&key, manifest, &mut folder),
-            Err(_) => Err(CheckError::Form),
+        let found = match verifying_key_of::<P>(key) {
+            Ok(key) => checked_over(&key, manifest, &mut folder),
+            Err(_) => (Err(CheckError::Form), NO_NAME),
         };
-        (checked, folder)
+        (found, folder)
+    }
+}
+
+// What is answered of a manifest over a folder, and where it speaks of an entry, the entry's name.
+type Finding<'m> = (Result<(), CheckError>, &'m [u8]);
+
+fn checked_over<'m, P: ParameterSet>(
+    key: &VerifyingKey<P>,
+    manifest: &'m [u8],
+    folder: &mut Folder<'_>,
+) -> Finding<'m> {
+    let manifest = match Manifest::open(key, manifest) {
+        Ok(manifest) => manifest,
+        Err(error) => return (Err(error), NO_NAME),
+    };
+    let checked = manifest.check(folder);
+    let entry = match checked {
+        Err(CheckError::Missing(i)) | Err(CheckError::Differs(i)) => manifest.entry(i as usize),
+        _ => None,
+    };
+    match entry {
+        Some(entry) => (checked, entry.name),
+        None => (checked, NO_NAME),
     }
 }
 
@@ -215,12 +240,12 @@ pub fn check<'a>(rt: &HostRuntime, words: &ArgMatches<'a>) -> Result<Outcome, Fa
     let key = verifying_key(rt, words)?;
     let path = required(words, "manifest")?;
     let manifest = files::read_limited(rt, path)?;
-    let (checked, folder) = key.set.run(Checking {
+    let (found, folder) = key.set.run(Checking {
         key: key.bytes.as_slice(),
         manifest: manifest.as_slice(),
         folder: Folder::new(rt, below),
     });
-    tell_checked(rt, below, path, manifest.as_slice(), checked, folder)
+    tell_checked(rt, below, path, found, folder)
 }
 
 // Tells what came of a check of the manifest at a path over a folder.
@@ -228,15 +253,14 @@ fn tell_checked<'a>(
     rt: &HostRuntime,
     below: &'a str,
     path: &'a str,
-    manifest: &[u8],
-    checked: Result<(), CheckError>,
+    (checked, name): Finding<'_>,
     folder: Folder<'_>,
 ) -> Result<Outcome, Failure<'a>> {
     match checked {
         Ok(()) => tell(rt, Outcome::Accepted),
         Err(CheckError::Invalid) => tell(rt, Outcome::Invalid),
-        Err(CheckError::Missing(i)) => tell_name(rt, Outcome::Missing, entry_name(manifest, i)),
-        Err(CheckError::Differs(i)) => tell_name(rt, Outcome::Differs, entry_name(manifest, i)),
+        Err(CheckError::Missing(_)) => tell_name(rt, Outcome::Missing, name),
+        Err(CheckError::Differs(_)) => tell_name(rt, Outcome::Differs, name),
         Err(CheckError::Form) => Err(Failure::Told(path, "not a manifest of the key's set")),
         Err(CheckError::Fault) => Err(fault_failure(rt.alloc(), below, folder)?),
     }
@@ -256,12 +280,8 @@ fn fault_failure<'a>(
 }
 
 // Prints the word of a verdict and a name.
-fn tell_name(
-    rt: &HostRuntime,
-    outcome: Outcome,
-    name: Option<&[u8]>,
-) -> Result<Outcome, Failure<'static>> {
-    let name = shown(rt.alloc(), name.unwrap_or(&[]))?;
+fn tell_name(rt: &HostRuntime, outcome: Outcome, name: &[u8]) -> Result<Outcome, Failure<'static>> {
+    let name = shown(rt.alloc(), name)?;
     let word = outcome.word();
     match println!(rt; "{word} {name}") {
         Ok(()) => Ok(outcome),

@@ -15,7 +15,8 @@ use crate::error::BatchError;
 use crate::sealed::Sealed;
 use hybrid_array::ArraySize;
 use merkle_tree::{DIGEST_LEN, Levels, Sha256, TreeHash};
-use slh_dsa::{ParameterSet, Signature, SigningKey, check_opt_rand};
+use slh_core::params::chain_sizes;
+use slh_dsa::{Error, ParameterSet, Signature, SigningKey, check_opt_rand};
 use slh_frames::MAX_MESSAGE;
 use std::alloc::Global;
 use std::marker::Model;
@@ -110,8 +111,10 @@ fn sign_root<P: ParameterSet>(
         IfOk result (λ signature. signature
         ≡ signature_of P.scheme key.now opt_rand (frame batch_context message.now)) }
 {
+    chain_sizes::<P>();
     match key.try_sign_with_context(alloc, message, CONTEXT, opt_rand) {
         Ok(signature) => Ok(signature),
-        Err(_) => Err(BatchError::Memory),
+        Err(Error::Memory) => Err(BatchError::Memory),
+        Err(_) => unreachable!(),
     }
 }

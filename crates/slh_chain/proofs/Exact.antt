@@ -123,7 +123,7 @@ module _ (Z : Scheme) (root chain : List ℕ) where
   refused i fault one = faulty_case (walk_answer Z root chain) i fault said one
 
   -- each good link takes at least one from the budget
-  within_budget : (i : ℕ) → ((j : ℕ) → j < i → fault_at Z root chain j ≡ None) → i + (place Z root chain i).budget ≤ 16
+  pub within_budget : (i : ℕ) → ((j : ℕ) → j < i → fault_at Z root chain j ≡ None) → i + (place Z root chain i).budget ≤ 16
   unfolding place
   within_budget zero before = omega arith
   within_budget (suc i) before =

@@ -1,5 +1,6 @@
 //! Why a call was refused.
 
+use slh_dsa::Error;
 use std::alloc::AllocError;
 
 /// Why no link was made, the first of the causes in this order.
@@ -38,4 +39,40 @@ pub enum ChainError {
     /// The signature isn't one of the body under the key that the link before names, or, in the
     /// first link, under the root key.
     Invalid(u32),
+}
+
+/// Why a chain isn't made longer, the first of the causes in this order.
+#[derive(Clone, Copy, Debug, PartialEq, Eq)]
+pub enum ExtendError {
+    /// The key isn't the one at the end of the chain.
+    Key,
+    /// The depth isn't below the budget at the end.
+    Budget,
+    /// The name has no bytes, or more than 64.
+    Name,
+    /// An `opt_rand` was given that doesn't have n bytes.
+    Randomizer,
+    /// There was no memory.
+    Memory,
+}
+
+impl From<AllocError> for ExtendError {
+    ghost use Rattle.std.specs.Prelude.{◌≡◌};
+    ghost use Rattle.slh_chain.specs.declared.error.ExtendError.TheVariants.{Memory};
+
+    ghost from_gives = { λ _ e. e ≡ Memory };
+
+    fn from(_error: AllocError) -> Self {
+        ExtendError::Memory
+    }
+}
+
+/// Why a message isn't accepted under a root key and a chain.
+#[derive(Clone, Copy, Debug, PartialEq, Eq)]
+pub enum UnderError {
+    /// The chain leads nowhere.
+    Chain(ChainError),
+    /// The signature isn't one of the key at the chain's end: `Length`, `ContextTooLong`,
+    /// `MessageTooLong` or `Invalid`.
+    Signature(Error),
 }

@@ -1,6 +1,6 @@
 //! Laws of links and chains, as the contracts of functions that do nothing but make the calls that
 //! they speak of.
-ghost use Rattle.std.specs.Prelude.{◌≡◌, ◌≤◌, ℕ, List, length, Ok, Err, true};
+ghost use Rattle.std.specs.Prelude.{◌≡◌, ◌≤◌, ◌+◌, ◌++◌, ℕ, List, length, Ok, Err, true};
 ghost use Rattle.slh_chain.specs.Delegations.{AreDelegated, Delegation, chain_of, last_depth};
 ghost use Rattle.slh_chain.specs.Delegations.{last_subject};
 ghost use Rattle.slh_chain.specs.Links.{HasLink, ReadsLink, after_link, has_form, link_depth};
@@ -55,6 +55,26 @@ pub fn delegated_is_walked<P: ParameterSet>()
           key = last_subject root xs;
           budget = last_depth 16 xs;
           links = length xs;
+        }) }
+{
+    chain_sizes::<P>();
+    signed_is_accepted::<P>();
+}
+
+/// A chain that is walked to an end, and after it links that true keys made, the first one's
+/// verifying key the one at that end and each later one's the subject before it, with falling
+/// depths below the budget there, are walked to the last subject: so what [`Chain::extend`] makes
+/// with a key with the root of its own seeds is walked to its subject.
+///
+/// [`Chain::extend`]: crate::Chain::extend
+pub fn extended_is_walked<P: ParameterSet>()
+    ensures { (root chain : List ℕ) (end : Ended) (xs : List Delegation)
+        → walk_answer P.scheme root chain ≡ Ok end
+        → AreDelegated P.scheme end.key end.budget xs
+        → walk_answer P.scheme root (chain ++ chain_of P.scheme xs) ≡ Ok (record {
+          key = last_subject end.key xs;
+          budget = last_depth end.budget xs;
+          links = end.links + length xs;
         }) }
 {
     chain_sizes::<P>();

@@ -38,12 +38,16 @@
 //! and for people: no key is chosen by them, and [`walk`] answers none.
 #![tactic(auto)]
 
+mod chain;
 pub mod clones;
 mod error;
 pub mod laws;
 mod link;
+mod links;
 mod walking;
 
-pub use error::{ChainError, LinkError};
+pub use chain::{Chain, verify_under};
+pub use error::{ChainError, ExtendError, LinkError, UnderError};
 pub use link::delegate;
+pub use links::{LinkRef, Links};
 pub use walking::{End, walk};

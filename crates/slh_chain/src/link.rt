@@ -9,6 +9,7 @@ ghost use Rattle.slh_trees.specs.Refusals.{RefusedExactly, RefusedOrNoMemory};
 ghost use Rattle.slh_dsa.specs.Calls.{IsSignable};
 ghost use Rattle.slh_chain.specs.Links.{after_link, body_of, body_size, chain_context};
 ghost use Rattle.slh_chain.specs.Links.{delegate_refusal, has_form, link_body, link_depth};
+ghost use Rattle.slh_chain.specs.Links.{link_name};
 ghost use Rattle.slh_chain.specs.Links.{link_signature, link_subject, signed_link};
 ghost use Rattle.slh_chain.specs.declared.error.LinkError.TheVariants.{Memory};
 
@@ -140,6 +141,7 @@ pub fn delegate<P: ParameterSet>(
 #[derive(Drop)]
 pub(crate) struct Link<'a> {
     pub(crate) depth: u8,
+    pub(crate) name: &'a [u8],
     pub(crate) subject: &'a [u8],
     pub(crate) body: &'a [u8],
     pub(crate) signature: &'a [u8],
@@ -170,6 +172,7 @@ fn body_len<P: ParameterSet>(bytes: &[u8]) -> Option<usize>
 pub(crate) fn read_link<P: ParameterSet>(bytes: &[u8]) -> Option<Link<'_>>
     ensures form { IsSome result ↔ IsTrue (has_form P.scheme bytes.now) }
     ensures depth { IfSome result (λ link. link.depth ≡ link_depth bytes.now) }
+    ensures name { IfSome result (λ link. link.name.now ≡ link_name bytes.now) }
     ensures subject { IfSome result
         (λ link. link.subject.now ≡ link_subject P.scheme bytes.now) }
     ensures body { IfSome result (λ link. link.body.now ≡ body_of P.scheme bytes.now) }
@@ -188,6 +191,7 @@ pub(crate) fn read_link<P: ParameterSet>(bytes: &[u8]) -> Option<Link<'_>>
     let (signature, rest) = after.split_at(P::SigLen::USIZE);
     Some(Link {
         depth: bytes[0],
+        name: &bytes[2..2 + bytes[1] as usize],
         subject: &body[len - 2 * P::N::USIZE..],
         body,
         signature,

@@ -4,8 +4,12 @@
 #[cfg(test)]
 mod chains;
 #[cfg(test)]
+mod extended;
+#[cfg(test)]
 mod faults;
 #[cfg(test)]
 mod links;
 #[cfg(test)]
 mod page_of_chains;
+#[cfg(test)]
+mod policy;

@@ -1,7 +1,7 @@
 pub mod Stores
 pub mod Measures
 pub mod Fronts
-pub mod EntryNames
+pub mod Places
 pub mod Lists
 pub mod Errors
 pub mod Whole
@@ -9,4 +9,5 @@ pub mod Sealed
 pub mod ReadBack
 pub mod Accepted
 pub mod Named
+pub mod Tellings
 pub mod Written

@@ -8,16 +8,13 @@ use Rattle.sha256_lanes.specs.Sha256.{sha256}
 use Rattle.slh_trees.specs.Refusals.{first_refusal}
 use Rattle.slh_manifest.specs.Building.{entry_of}
 use Rattle.slh_manifest.specs.Checking.{HasEntry, HasOther, IsFirst, LacksEntry, bytes_error, entries_error}
+use Rattle.slh_manifest.specs.Entries.{is_of}
 use Rattle.slh_manifest.specs.Files.{Files, bytes_of}
 use Rattle.slh_manifest.specs.declared.entry.Entry.{Entry}
 use Rattle.slh_manifest.specs.declared.error.CheckError.{CheckError}
 use Rattle.slh_manifest.specs.declared.error.CheckError.TheVariants.{Differs, Missing}
 use Rattle.slh_manifest.proofs.Errors.{first_of_one}
 use Rattle.slh_manifest.proofs.Fronts.{first_true, second_true}
-
--- whether bytes are those of an entry
-abbrev is_of : Entry → List ℕ → Bool
-is_of entry bytes = length bytes == entry.len && bytes_eq (sha256 bytes) entry.digest
 
 of_same : (entry : Entry) (bytes : List ℕ) → is_of entry bytes ≡ true → entry ≡ entry_of entry.name bytes
 of_same entry bytes same =

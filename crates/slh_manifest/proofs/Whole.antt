@@ -1,19 +1,22 @@
 -- What a manifest as a whole is answered.
-use Rattle.std.proofs.Common.{◌≡◌, ◌↔◌, ℕ, Bool, true, false, List, [], ◌∷◌, length, drop, ◌==◌, refl, sym, ◌∙◌, ap, subst, Option, None, Some, Result, Ok, Err, if◌then◌else◌, IsErrOf, is_some, inl, inr, IfSome}
+use Rattle.std.proofs.Common.{◌≡◌, ◌↔◌, ℕ, Bool, true, false, List, [], ◌∷◌, length, drop, ◌==◌, refl, sym, ◌∙◌, ap, subst, Option, None, Some, Result, Ok, Err, if◌then◌else◌, IsErrOf, is_some, ◌⊎◌, inl, inr, IfSome, ◌≤◌, nat_le}
 use Rattle.slh_core.specs.Parameters.{Scheme}
 use Rattle.slh_trees.specs.Checking.{signature_size}
 use Rattle.slh_trees.specs.Refusals.{RefusedExactly, first_refusal}
 use Rattle.slh_dsa.specs.Calls.{is_valid}
 use Rattle.slh_frames.specs.declared.frame.Mode.TheVariants.{Pure}
-use Rattle.slh_manifest.specs.Checking.{RefusedOrFault, SpeaksOfEntries, body_part, check_error, count_of, entries_error, entries_of, has_count, is_manifest, manifest_refusal, signature_part, signature_refusal}
+use Rattle.slh_manifest.specs.Checking.{NamesEntry, RefusedOrFault, SpeaksOf, SpeaksOfEntries, body_part, check_error, count_of, entries_error, entries_of, has_count, is_manifest, manifest_refusal, signature_part, signature_refusal}
+use Rattle.slh_manifest.specs.Entries.{AreRead}
 use Rattle.slh_manifest.specs.Files.{Files}
 use Rattle.slh_manifest.specs.Manifest.{manifest_context}
 use Rattle.slh_manifest.specs.Reading.{are_entries, entries_in}
 use Rattle.slh_manifest.specs.declared.entry.Entry.{Entry}
 use Rattle.slh_manifest.specs.declared.error.CheckError.{CheckError}
-use Rattle.slh_manifest.specs.declared.error.CheckError.TheVariants.{Form, Invalid, Fault}
+use Rattle.slh_manifest.specs.declared.error.CheckError.TheVariants.{Form, Invalid, Missing, Differs, Fault}
 use Rattle.slh_manifest.proofs.Errors.{first_of_one}
-use Rattle.slh_manifest.proofs.Fronts.{three_second}
+use Rattle.slh_manifest.proofs.Fronts.{three_first, three_last, three_second}
+use Rattle.slh_manifest.proofs.Lists.{true_le}
+use Rattle.slh_manifest.proofs.Tellings.{exact_of}
 
 -- what a manifest of right form is answered by its signature, which is looked at by its parts
 module _ (Z : Scheme) (key manifest body sig : List ℕ) (form : true ≡ is_manifest Z manifest) (body_is : body ≡ body_part manifest) (sig_is : sig ≡ signature_part manifest) where
@@ -59,13 +62,6 @@ never_form (Err e) refusal none only = (λ h. absurd (only.0 (cc h)), λ h. absu
 pub none_unread : {P : Type 0} (refusal : Option CheckError) → refusal ≡ None → is_some refusal ≡ true → P
 none_unread refusal none some = absurd (let h : false ≡ true = sym (ap is_some none) ∙ some in cc)
 
--- where no read failed the answer is exact
-exact_of : {Risen : Type 0} (result : Result (Unit {0}) CheckError) (refusal : Option CheckError) → RefusedOrFault result refusal → (IsErrOf result Fault → Risen) → ¬ Risen
-    → RefusedExactly result refusal
-exact_of (Ok x) refusal told fault not = told
-exact_of (Err e) refusal (inl is) fault not = absurd (not (fault (ap Err is)))
-exact_of (Err e) refusal (inr is) fault not = is
-
 pub refused_exactly : (told : Option Files) (Risen : Type 0) (Z : Scheme) (key manifest : List ℕ) (e : CheckError) → manifest_refusal Z key manifest ≡ Some e
     → IfSome told (λ files. ¬ Risen → RefusedExactly {T = Unit {0}} (Err e) (check_error Z key manifest files))
 refused_exactly None Risen Z key manifest e is = tt
@@ -84,3 +80,53 @@ entries_stand Z manifest count entries form count_is entries_are =
 
 pub entries_are_of : (manifest : List ℕ) (count : ℕ) (entries : List ℕ) → count ≡ count_of manifest → entries ≡ drop 4 manifest → entries_in count entries ≡ entries_of manifest
 entries_are_of manifest count entries count_is entries_are = rw (count_is, entries_are) refl
+
+pub are_read : (Z : Scheme) (manifest : List ℕ) (count : ℕ) (entries : List ℕ) → true ≡ is_manifest Z manifest → count ≡ count_of manifest → entries ≡ drop 4 manifest → AreRead count entries
+are_read Z manifest count entries form count_is entries_are =
+    let n = count_of manifest in
+    let counted : has_count manifest ≡ true = three_first (has_count manifest) (are_entries n [] (drop 4 manifest)) (length (signature_part manifest) == signature_size Z) (sym form) in
+    record {
+      some = subst (λ k. 1 ≤ k) (sym count_is) (true_le _ _ (three_second (nat_le 4 (length manifest)) (nat_le 1 n) (nat_le n 4096) counted));
+      few = subst (λ k. k ≤ 4096) (sym count_is) (true_le _ _ (three_last (nat_le 4 (length manifest)) (nat_le 1 n) (nat_le n 4096) counted));
+      are = entries_stand Z manifest count entries form count_is entries_are;
+    }
+
+-- a manifest is refused for its form or its signature
+refused_either : (form signed : Bool) (e : CheckError) → first_refusal ((if form then None else Some Form) ∷ (if signed then None else Some Invalid) ∷ []) ≡ Some e → (e ≡ Form) ⊎ (e ≡ Invalid)
+refused_either true true e is = absurd (cc is)
+refused_either true false e is = inr (cc is)
+refused_either false signed e is = inl (cc is)
+
+pub refused_by_itself : (Z : Scheme) (key manifest : List ℕ) (e : CheckError) → manifest_refusal Z key manifest ≡ Some e → (e ≡ Form) ⊎ (e ≡ Invalid)
+refused_by_itself Z key manifest e is =
+    refused_either (is_manifest Z manifest) (is_valid Z Pure key manifest_context (body_part manifest) (signature_part manifest)) e is
+
+-- and its answer is that refusal
+pub refused_as : (refusal : Option CheckError) (e x : CheckError) → refusal ≡ Some e → IsErrOf {T = Unit {0}} (Err e) x ↔ (refusal ≡ Some x)
+refused_as refusal e x is = (λ h. is ∙ ap Some (cc h), λ h. (let same : Some e ≡ Some x = sym is ∙ h in cc same))
+
+pub names_none : (entries : List Entry) (e : CheckError) → (e ≡ Form) ⊎ (e ≡ Invalid) → NamesEntry entries e
+names_none entries Form is = tt
+names_none entries Invalid is = tt
+names_none entries (Missing i) (inl is) = absurd (cc is)
+names_none entries (Missing i) (inr is) = absurd (cc is)
+names_none entries (Differs i) (inl is) = absurd (cc is)
+names_none entries (Differs i) (inr is) = absurd (cc is)
+names_none entries Fault is = tt
+
+pub speaks_of_none : (files : Files) (entries : List Entry) (e : CheckError) → (e ≡ Form) ⊎ (e ≡ Invalid) → SpeaksOf files entries e
+speaks_of_none files entries Form is = tt
+speaks_of_none files entries Invalid is = tt
+speaks_of_none files entries (Missing i) (inl is) = absurd (cc is)
+speaks_of_none files entries (Missing i) (inr is) = absurd (cc is)
+speaks_of_none files entries (Differs i) (inl is) = absurd (cc is)
+speaks_of_none files entries (Differs i) (inr is) = absurd (cc is)
+speaks_of_none files entries Fault is = tt
+
+pub no_fault : {P : Type 0} (e : CheckError) → (e ≡ Form) ⊎ (e ≡ Invalid) → IsErrOf {T = Unit {0}} (Err e) Fault → P
+no_fault Form is h = absurd (cc h)
+no_fault Invalid is h = absurd (cc h)
+no_fault (Missing i) is h = absurd (cc h)
+no_fault (Differs i) is h = absurd (cc h)
+no_fault Fault (inl is) h = absurd (cc is)
+no_fault Fault (inr is) h = absurd (cc is)

@@ -1,5 +1,6 @@
 -- What is answered where a manifest is checked. Z is the scheme, key a verifying key.
 use Rattle.std.specs.Prelude.{◌≡◌, ◌≢◌, ◌==◌, ◌+◌, ◌-◌, ◌&&◌, ◌⊎◌, ℕ, List, [], ◌∷◌, ◌++◌, length}
+use Rattle.std.specs.Prelude.{◌<◌, ⊤, slice_get}
 use Rattle.std.specs.Prelude.{take, drop, Bool, nat_le, if◌then◌else◌, Option, None, Some, Result}
 use Rattle.std.specs.Prelude.{MatchResult, IfErr, IsSomeAnd}
 use Rattle.std.specs.Int.{w32, from_be_bytes}
@@ -109,3 +110,15 @@ pub record IsFirst (files : Files) (Is : Files → Entry → Type 0) (i : ℕ) (
   pub number : length before ≡ i
   pub each_before : AllByRecursion (HasEntry files) before
   pub is : Is files entry
+
+-- an error of an entry tells the number of one that there is
+abbrev pub NamesEntry : List Entry → CheckError → Type 0
+NamesEntry entries (Missing i) = i < length entries
+NamesEntry entries (Differs i) = i < length entries
+NamesEntry entries error = ⊤
+
+-- and tells the truth of it
+abbrev pub SpeaksOf : Files → List Entry → CheckError → Type 0
+SpeaksOf files entries (Missing i) = IsSomeAnd (slice_get entries i) (LacksEntry files)
+SpeaksOf files entries (Differs i) = IsSomeAnd (slice_get entries i) (HasOther files)
+SpeaksOf files entries error = ⊤

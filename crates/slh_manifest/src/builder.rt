@@ -23,7 +23,8 @@ use crate::measure::{Found, measure};
 use crate::store::Store;
 use hybrid_array::ArraySize;
 use line_serve::ByteString;
-use slh_dsa::{ParameterSet, Signature, SigningKey, check_opt_rand};
+use slh_core::params::chain_sizes;
+use slh_dsa::{Error, ParameterSet, Signature, SigningKey, check_opt_rand};
 use std::alloc::{AllocError, Global};
 use std::marker::Model;
 
@@ -150,9 +151,11 @@ fn sign_body<P: ParameterSet>(
         IfOk result (λ signature. signature
         ≡ signature_of P.scheme key.now opt_rand (frame manifest_context body.now)) }
 {
+    chain_sizes::<P>();
     match key.try_sign_with_context(alloc, body, CONTEXT, opt_rand) {
         Ok(signature) => Ok(signature),
-        Err(_) => Err(BuildError::Memory),
+        Err(Error::Memory) => Err(BuildError::Memory),
+        Err(_) => unreachable!(),
     }
 }
 

@@ -1,11 +1,11 @@
 //! The entries of a manifest, and the places of their parts.
 ghost use Rattle.std.specs.Prelude.{◌≡◌, ◌<◌, ◌≤◌, ◌+◌, ◌*◌, MatchOption, length};
-ghost use Rattle.std.specs.Prelude.{[], Some, None, IfSome, drop, if◌then◌else◌};
+ghost use Rattle.std.specs.Prelude.{[], Some, None, IfSome, if◌then◌else◌};
 ghost use Rattle.std.specs.Option.{option_copied};
 ghost use Rattle.std.specs.Int.{w64, from_be_bytes};
 ghost use Rattle.slh_manifest.specs.Manifest.{may_follow as spec_may_follow};
 ghost use Rattle.slh_manifest.specs.Reading.{IsFrontView, front_size};
-ghost use Rattle.slh_manifest.specs.Reading.{are_entries, name_in, rest_after};
+ghost use Rattle.slh_manifest.specs.Reading.{are_entries, rest_after};
 
 use line_serve::ByteString;
 
@@ -31,7 +31,7 @@ pub struct Entry {
 pub(crate) struct EntryView<'a> {
     pub name: &'a [u8],
     pub len: u64,
-    pub digest: &'a [u8],
+    pub digest: &'a [u8; 32],
     pub rest: &'a [u8],
 }
 
@@ -68,7 +68,7 @@ pub(crate) fn front_entry(bytes: &[u8]) -> Option<EntryView<'_>>
     Some(EntryView {
         name: &bytes[1..name_end],
         len: number(&bytes[name_end..name_end + 8]),
-        digest: &bytes[name_end + 8..name_end + 40],
+        digest: bytes[name_end + 8..name_end + 40].first_chunk()?,
         rest: &bytes[name_end + 40..],
     })
 }
@@ -92,16 +92,4 @@ pub(crate) fn skip_entries(count: u32, bytes: &[u8]) -> Option<&[u8]>
         left = entry.rest;
     }
     Some(left)
-}
-
-/// The name of an entry of a manifest by its number, from 0 on, as `Missing` and `Differs` tell it.
-/// `None`: not so many entries stand there.
-pub fn entry_name(manifest: &[u8], entry: u32) -> Option<&[u8]>
-    ensures { option_copied result ≡ name_in entry (drop 4 manifest.now) }
-{
-    let mut left = manifest.get(4..)?;
-    'each_entry: for _ in 0..entry {
-        left = front_entry(left)?.rest;
-    }
-    Some(front_entry(left)?.name)
 }

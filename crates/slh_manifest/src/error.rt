@@ -49,3 +49,14 @@ pub enum CheckError {
     /// A read of the store failed.
     Fault,
 }
+
+/// Why an entry isn't right over a store.
+#[derive(Clone, Copy, Debug, PartialEq, Eq)]
+pub enum EntryError {
+    /// The store has no such name.
+    Missing,
+    /// The bytes under the name aren't as many, or don't have that digest.
+    Differs,
+    /// A read of the store failed.
+    Fault,
+}

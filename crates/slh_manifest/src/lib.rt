@@ -39,27 +39,37 @@
 //! }
 //! ```
 //!
+//! A manifest is read by [`Manifest::open`], which verifies it once. [`EntryRef::check`] checks one of
+//! its entries, so that all that aren't right are told, and an [`EntryChecker`] takes an entry's bytes
+//! in pieces as they come, so that they are used only where they match, without reading them twice.
+//!
 //! Bytes are hashed as they are read, through a buffer of 4096 bytes, whatever there is of them.
-//! [`Builder::add`] keeps an entry alone, and [`check`] takes no memory. Each refusal comes for the
-//! cause that its variant names, the first in the order of the variants, but for a read that fails,
-//! which ends the call.
+//! [`Builder::add`] keeps an entry alone, and [`check`] and [`Manifest`] take no memory. Each refusal
+//! comes for the cause that its variant names, the first in the order of the variants, but for a read
+//! that fails, which ends the call.
 #![tactic(auto)]
 
 mod builder;
+mod checker;
 mod checking;
 pub mod clones;
 mod entry;
+mod entry_ref;
 mod error;
 pub mod laws;
+mod manifest;
 mod measure;
 mod memory;
 mod parts;
 mod store;
 
 pub use builder::Builder;
+pub use checker::EntryChecker;
 pub use checking::check;
-pub use entry::{Entry, MAX_ENTRIES, MAX_LEN, MAX_NAME, entry_name};
-pub use error::{BuildError, CheckError};
+pub use entry::{Entry, MAX_ENTRIES, MAX_LEN, MAX_NAME};
+pub use entry_ref::EntryRef;
+pub use error::{BuildError, CheckError, EntryError};
 pub use line_serve::Failed;
+pub use manifest::{Entries, Manifest};
 pub use memory::MemStore;
 pub use store::{Store, copy_from};

@@ -8,6 +8,8 @@ mod forms;
 #[cfg(test)]
 mod manifests;
 #[cfg(test)]
+mod opened;
+#[cfg(test)]
 mod page_of_manifests;
 #[cfg(test)]
 mod reads;

@@ -1,0 +1,67 @@
+//! The example of docs/KEYS.md: names of links that say until when, under which number and for what.
+use slh_chain::{Chain, delegate};
+use slh_dsa::{ParameterSet, SigningKey};
+use slh_trees::toy::Toy;
+use std::alloc::Global;
+use std::str;
+
+// Whether a name of the form `UNTIL/SERIAL/PURPOSE` allows this purpose on a day, and its number isn't
+// among those that were revoked.
+fn allows(name: &[u8], today: &str, revoked: &[&str], purpose: &str) -> Option<bool> {
+    let (until, rest) = str::from_utf8(name).ok()?.split_once('/')?;
+    let (serial, allowed) = rest.split_once('/')?;
+    for number in revoked {
+        if *number == serial {
+            return Some(false);
+        }
+    }
+    Some(until.len() == 10 && until >= today && allowed == purpose)
+}
+
+// Whether each link of a chain does.
+fn is_allowed<P: ParameterSet>(
+    chain: &Chain<'_, P>,
+    today: &str,
+    revoked: &[&str],
+    purpose: &str,
+) -> bool {
+    for link in chain.links() {
+        if allows(link.name, today, revoked, purpose) != Some(true) {
+            return false;
+        }
+    }
+    true
+}
+
+fn key(number: u8) -> Option<SigningKey<Toy>> {
+    SigningKey::slh_keygen_internal(&[5], &[7], &[number]).ok()
+}
+
+// A day, the revoked numbers and a purpose, and whether a chain of one link allows them.
+const DAYS: [(&str, &[&str], &str, bool); 5] = [
+    ("2027-06-29", &[], "firmware", true),
+    ("2027-06-30", &["16", "1"], "firmware", true),
+    ("2027-07-01", &[], "firmware", false),
+    ("2027-06-29", &["16", "17"], "firmware", false),
+    ("2027-06-29", &[], "config", false),
+];
+
+fn are_judged(alloc: Global) -> Option<bool> {
+    let root = key(0)?;
+    let subject = key(1)?.verifying_key();
+    let name = b"2027-06-30/17/firmware";
+    let bytes = delegate(alloc, &root, name, 0, &subject, None).ok()?;
+    let public = root.verifying_key();
+    let chain = Chain::open(&public, &bytes).ok()?;
+    for (today, revoked, purpose, allowed) in &DAYS {
+        if is_allowed(&chain, today, revoked, purpose) != *allowed {
+            return Some(false);
+        }
+    }
+    Some(true)
+}
+
+#[test]
+fn names_say_until_when_and_for_what(rt: HostRuntime) {
+    assert!(rt; are_judged(rt.alloc()) == Some(true));
+}
