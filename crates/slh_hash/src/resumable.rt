@@ -27,6 +27,16 @@ impl Hashes {
             sha512: Hash512::new(),
         }
     }
+
+    /// Two hashes that have absorbed the same bytes.
+    pub fn copy(&self) -> Self
+        ensures { result ≡ self.now }
+    {
+        Hashes {
+            sha256: self.sha256.copy(),
+            sha512: self.sha512.copy(),
+        }
+    }
 }
 
 /// A hash suite whose states are put aside as numbers, and taken up again. Which hash function is
