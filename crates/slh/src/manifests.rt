@@ -6,11 +6,10 @@ use crate::failure::Failure;
 use crate::files;
 use crate::folder::{Folder, names_below};
 use clap::ArgMatches;
-use slh_dsa::ParameterSet;
 use slh_files::Outcome;
 use slh_line::{signing_key as signing_key_of, verifying_key as verifying_key_of};
 use slh_manifest::{BuildError, Builder, CheckError, check as check_over, entry_name};
-use slh_sets::OnSet;
+use slh_sets::{OnSet, SetSuite};
 use std::alloc::{AllocError, Global};
 use std::{fs, io, str};
 
@@ -32,7 +31,7 @@ impl<'s> OnSet for Sealing<'s> {
 
     ghost gives = { λ _ _ _ _. ⊤ };
 
-    fn on<P: ParameterSet>(self) -> Result<Vec<u8>, BuildError> {
+    fn on<P: SetSuite>(self) -> Result<Vec<u8>, BuildError> {
         let Sealing {
             alloc,
             key,
@@ -175,7 +174,7 @@ impl<'s> OnSet for Checking<'s> {
 
     ghost gives = { λ _ _ _ _. ⊤ };
 
-    fn on<P: ParameterSet>(self) -> (Result<(), CheckError>, Folder<'s>) {
+    fn on<P: SetSuite>(self) -> (Result<(), CheckError>, Folder<'s>) {
         let Checking {
             key,
             manifest,
