@@ -2,7 +2,7 @@
 
 ghost use Rattle.std.specs.Prelude.{◌≡◌, ⊤, ℕ, ◌+◌, ◌^◌, ◌≤◌, ◌↔◌, List, [], ◌++◌, IsTrue, length};
 ghost use Rattle.hmac_sha256.specs.Hash.{StandsFor, absorbed_bytes};
-ghost use Rattle.hmac_sha256.specs.Hmac.{hmac_sha256, key_block, masked};
+ghost use Rattle.hmac_sha256.specs.Hmac.{hmac_sha256, inner_block, key_block, masked};
 
 use crate::comparison::is_same;
 use crate::hashing::{Hash, MAX_BYTES};
@@ -63,6 +63,32 @@ impl HMAC {
             inner: started(&block, INNER_MASK),
             outer: started(&block, OUTER_MASK),
         }
+    }
+
+    /// The HMAC under the key `k`, of at most 2^60 bytes, that goes on from an inner hash, as
+    /// `into_inner` gave it.
+    #[tactic(auto, unfolding(crate::specs::Mac::mac_absorbed_bytes))]
+    pub fn with_inner(k: &[u8], inner: Hash) -> Self
+        requires { length k.now ≤ 2 ^ 60 }
+        ensures stands { (m : List ℕ) → StandsFor inner (inner_block k.now ++ m)
+            → Authenticates result k.now m }
+        ensures counts { mac_absorbed_bytes result ≡ absorbed_bytes inner }
+    {
+        HMAC {
+            inner,
+            outer: started(&key_block(k), OUTER_MASK),
+        }
+    }
+
+    /// The inner hash, which has absorbed the key's block and what came after it.
+    #[tactic(auto, unfolding(crate::specs::Mac::mac_absorbed_bytes))]
+    pub fn into_inner(self) -> Hash
+        ensures stands { (key m : List ℕ) → Authenticates self key m
+            → StandsFor result (inner_block key ++ m) }
+        ensures counts { absorbed_bytes result ≡ mac_absorbed_bytes self }
+    {
+        let HMAC { inner, .. } = self;
+        inner
     }
 
     /// Absorbs `input`, after what was absorbed before. The total counts the key's block too.

@@ -10,7 +10,7 @@ use slh_batch::{Batch, BatchError, ReceiptError, Sealed, accept};
 use slh_dsa::ParameterSet;
 use slh_files::Outcome;
 use slh_line::{signing_key as signing_key_of, verifying_key as verifying_key_of};
-use slh_sets::OnSet;
+use slh_sets::{OnSet, SetSuite};
 use std::alloc::AllocError;
 
 // The files of a batch that is to be signed.
@@ -29,7 +29,7 @@ impl<'k, 's, 'a> OnSet for Sealing<'k, 's, 'a> {
 
     ghost gives = { λ _ _ _ _. ⊤ };
 
-    fn on<P: ParameterSet>(self) -> Result<(), Failure<'a>> {
+    fn on<P: SetSuite>(self) -> Result<(), Failure<'a>> {
         let Ok(key) = signing_key_of::<P>(self.key) else {
             return Err(Failure::Told("--key", "not a key of its set"));
         };
@@ -151,7 +151,7 @@ impl<'s> OnSet for Accepting<'s> {
 
     ghost gives = { λ _ _ _ _. ⊤ };
 
-    fn on<P: ParameterSet>(self) -> Result<(), ReceiptError> {
+    fn on<P: SetSuite>(self) -> Result<(), ReceiptError> {
         let Ok(key) = verifying_key_of::<P>(self.key) else {
             return Err(ReceiptError::Form);
         };

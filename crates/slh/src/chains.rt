@@ -9,11 +9,10 @@ use crate::signatures::tell_verdict;
 use crate::{files, outputs};
 use clap::ArgMatches;
 use slh_chain::{ChainError, LinkError, delegate as link_of, walk as end_of};
-use slh_dsa::ParameterSet;
 use slh_files::{Key, Kind, Outcome, digits_of};
 use slh_line::{signing_key as signing_key_of, verifying_key as verifying_key_of};
 use slh_run::ByteString;
-use slh_sets::{OnSet, Set};
+use slh_sets::{OnSet, Set, SetSuite};
 use std::alloc::Global;
 
 // A link that is to be made.
@@ -34,7 +33,7 @@ impl<'k, 'a> OnSet for Delegation<'k, 'a> {
 
     ghost gives = { λ _ _ _ _. ⊤ };
 
-    fn on<P: ParameterSet>(self) -> Result<Vec<u8>, Failure<'static>> {
+    fn on<P: SetSuite>(self) -> Result<Vec<u8>, Failure<'static>> {
         let Ok(key) = signing_key_of::<P>(self.key) else {
             return Err(Failure::Told("--key", "not a key of its set"));
         };
@@ -159,7 +158,7 @@ impl<'s> OnSet for Walking<'s> {
 
     ghost gives = { λ _ _ _ _. ⊤ };
 
-    fn on<P: ParameterSet>(self) -> Result<ByteString, WalkError> {
+    fn on<P: SetSuite>(self) -> Result<ByteString, WalkError> {
         let Ok(root) = verifying_key_of::<P>(self.root) else {
             return Err(WalkError::Link(ChainError::Form(0)));
         };

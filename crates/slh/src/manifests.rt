@@ -10,7 +10,7 @@ use slh_dsa::{ParameterSet, VerifyingKey};
 use slh_files::Outcome;
 use slh_line::{signing_key as signing_key_of, verifying_key as verifying_key_of};
 use slh_manifest::{BuildError, Builder, CheckError, MAX_ENTRIES, Manifest};
-use slh_sets::OnSet;
+use slh_sets::{OnSet, SetSuite};
 use std::alloc::{AllocError, Global};
 use std::{fs, io, str};
 use whole_files::is_part;
@@ -35,7 +35,7 @@ impl<'s> OnSet for Sealing<'s> {
 
     ghost gives = { λ _ _ _ _. ⊤ };
 
-    fn on<P: ParameterSet>(self) -> Result<Vec<u8>, BuildError> {
+    fn on<P: SetSuite>(self) -> Result<Vec<u8>, BuildError> {
         let Sealing {
             alloc,
             key,
@@ -196,7 +196,7 @@ impl<'s> OnSet for Checking<'s> {
 
     ghost gives = { λ _ _ _ _. ⊤ };
 
-    fn on<P: ParameterSet>(self) -> (Finding<'s>, Folder<'s>) {
+    fn on<P: SetSuite>(self) -> (Finding<'s>, Folder<'s>) {
         let Checking {
             key,
             manifest,

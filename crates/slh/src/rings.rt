@@ -9,7 +9,7 @@ use slh_dsa::ParameterSet;
 use slh_files::{Key, Outcome, digits_of};
 use slh_ring::{Path, RestoreError, Ring, RingError, derive};
 use slh_run::ByteString;
-use slh_sets::{OnSet, Set};
+use slh_sets::{OnSet, Set, SetSuite};
 use std::alloc::{AllocError, Global};
 
 /// The most bytes of a master.
@@ -52,7 +52,7 @@ impl<'m, 'p> OnSet for Derivation<'m, 'p> {
 
     ghost gives = { λ _ _ _ _. ⊤ };
 
-    fn on<P: ParameterSet>(self) -> Result<ByteString, AllocError> {
+    fn on<P: SetSuite>(self) -> Result<ByteString, AllocError> {
         if self.master.len() > MAX_MASTER {
             return Err(AllocError);
         }
@@ -97,7 +97,7 @@ impl<'m, 's, 'a> OnSet for Recording<'m, 's, 'a> {
 
     ghost gives = { λ _ _ _ _. ⊤ };
 
-    fn on<P: ParameterSet>(self) -> Result<Vec<u8>, Failure<'a>> {
+    fn on<P: SetSuite>(self) -> Result<Vec<u8>, Failure<'a>> {
         if self.master.len() > MAX_MASTER {
             return Err(Failure::Memory);
         }
@@ -171,7 +171,7 @@ impl<'s> OnSet for Restoring<'s> {
 
     ghost gives = { λ _ _ _ _. ⊤ };
 
-    fn on<P: ParameterSet>(self) -> Result<ByteString, RestoreError> {
+    fn on<P: SetSuite>(self) -> Result<ByteString, RestoreError> {
         if self.master.len() > MAX_MASTER {
             return Err(RestoreError::Memory);
         }

@@ -14,7 +14,7 @@ use crate::mode::mode_of;
 use crate::set::{read_in_set, write_in_set};
 use crate::status::{OK, UNKNOWN_MODE, UNKNOWN_SET, number_of};
 use slh_dsa::{Error, Mode, ParameterSet, SigningKey, VerifyingKey};
-use slh_sets::{OnSet, WriteOnSet};
+use slh_sets::{OnSet, SetSuite, WriteOnSet};
 use slh_stream::{sign_digest, verify_digest};
 
 // A signature to verify by the digest of its message.
@@ -43,7 +43,7 @@ impl<'a> OnSet for VerifyDigest<'a> {
     ghost gives = { λ c Z _ result. result ≡ in_mode (mode_numbered c.mode) (λ m. number_of_refusal
         (verify_digest_error_by_key Z m c.public.now c.ctx.now c.digest.now c.sig.now)) };
 
-    fn on<P: ParameterSet>(self) -> u32 {
+    fn on<P: SetSuite>(self) -> u32 {
         match mode_of(self.mode) {
             Some(mode) => {
                 match verify_by::<P>(mode, self) {
@@ -116,7 +116,7 @@ impl<'a> WriteOnSet for SignDigest<'a> {
         IfSome (mode_numbered c.mode) (λ m.
         sig ≡ signature_of Z c.key.now opt_rand (digest_frame m c.ctx.now c.digest.now)) };
 
-    fn write<P: ParameterSet>(self, out: &mut [u8]) -> u32 {
+    fn write<P: SetSuite>(self, out: &mut [u8]) -> u32 {
         match mode_of(self.mode) {
             Some(mode) => {
                 match sign_by::<P>(mode, self, out) {

@@ -9,8 +9,8 @@ use crate::set::write_in_set;
 use crate::status::{LENGTH, OK, number_of};
 use hybrid_array::ArraySize;
 use slh_core::params::chain_sizes;
-use slh_dsa::{ParameterSet, SigningKey};
-use slh_sets::WriteOnSet;
+use slh_dsa::SigningKey;
+use slh_sets::{SetSuite, WriteOnSet};
 
 // The seeds of a signing key, whose verifying key is to have so many bytes.
 #[derive(Drop)]
@@ -29,7 +29,7 @@ impl<'a> WriteOnSet for Keygen<'a> {
 
     ghost writes = { λ c Z key. (key ≡ key_of_seeds Z c.seeds.now) × IsTrueKey Z key };
 
-    fn write<P: ParameterSet>(self, out: &mut [u8]) -> u32 {
+    fn write<P: SetSuite>(self, out: &mut [u8]) -> u32 {
         chain_sizes::<P>();
         let n = P::N::USIZE;
         let seeds = self.seeds;

@@ -10,8 +10,7 @@ use crate::status::{KEY_MISMATCH, LENGTH, OK, UNKNOWN_SET};
 use hybrid_array::ArraySize;
 use slh_core::equal_parts::part_of;
 use slh_core::params::chain_sizes;
-use slh_dsa::ParameterSet;
-use slh_sets::{OnSet, WriteOnSet};
+use slh_sets::{OnSet, SetSuite, WriteOnSet};
 use slh_trees::uncounted::top_root;
 
 // A signing key whose verifying key is wanted.
@@ -29,7 +28,7 @@ impl<'a> WriteOnSet for Public<'a> {
 
     ghost writes = { λ c Z public. public ≡ drop (2 * Z.n) c.key.now };
 
-    fn write<P: ParameterSet>(self, out: &mut [u8]) -> u32 {
+    fn write<P: SetSuite>(self, out: &mut [u8]) -> u32 {
         chain_sizes::<P>();
         let public_bytes = 2 * P::N::USIZE;
         if self.key.len() != 2 * public_bytes || out.len() != public_bytes {
@@ -63,7 +62,7 @@ impl<'a> OnSet for CheckKey<'a> {
 
     ghost gives = { λ c Z _ result. result ≡ key_number Z c.key.now };
 
-    fn on<P: ParameterSet>(self) -> u32 {
+    fn on<P: SetSuite>(self) -> u32 {
         chain_sizes::<P>();
         let key = self.key;
         if key.len() != 4 * P::N::USIZE {

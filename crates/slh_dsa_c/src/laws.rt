@@ -12,9 +12,8 @@ ghost use Rattle.slh_trees.specs.Keys.{IsTrueKey};
 ghost use Rattle.slh_trees.specs.Signing.{signature_of};
 
 use crate::set::read_in_set;
-use slh_dsa::ParameterSet;
 use slh_dsa::laws::signed_is_accepted;
-use slh_sets::OnSet;
+use slh_sets::{OnSet, SetSuite};
 
 // The law that a set accepts what its true keys sign.
 #[derive(Drop)]
@@ -29,7 +28,7 @@ impl OnSet for Accepts {
         → hash_verify_error Z mode (drop (2 * Z.n) key) context message
         (signature_of Z key opt_rand (mode_frame mode context message)) ≡ None };
 
-    fn on<P: ParameterSet>(self) {
+    fn on<P: SetSuite>(self) {
         signed_is_accepted::<P>();
     }
 }

@@ -4,9 +4,8 @@ ghost use Rattle.std.specs.Prelude.{◌≡◌};
 ghost use Rattle.slh_dsa_c.specs.Status.{verify_number, verify_status};
 
 use crate::one_by_one::OneByOne;
-use crate::verify::Verify;
+use crate::verify::{Verify, status_by};
 use slh_dsa::{ParameterSet, Sha2_128f, Sha2_128s, Sha2_192f, Sha2_192s, Sha2_256f, Sha2_256s};
-use slh_sets::OnSet;
 
 // The status of a signature in a set.
 fn verify_in<P: ParameterSet>(mode: u32, public: &[u8], msg: &[u8], ctx: &[u8], sig: &[u8]) -> u32
@@ -19,7 +18,7 @@ fn verify_in<P: ParameterSet>(mode: u32, public: &[u8], msg: &[u8], ctx: &[u8], 
         ctx,
         sig,
     };
-    call.on::<P>()
+    status_by::<P>(call)
 }
 
 /// As `slh_dsa_sha2_verify`, in SLH-DSA-SHA2-128s.

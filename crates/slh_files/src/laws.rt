@@ -15,7 +15,7 @@ ghost use Rattle.slh_sets.specs.Sets.{scheme_for};
 ghost use Rattle.slh_sets.specs.declared.set.Set.{Set as KeySet};
 
 use slh_dsa::ParameterSet;
-use slh_sets::{OnSet, Set};
+use slh_sets::{OnSet, Set, SetSuite};
 
 /// The text of each key's file is read as this key and no other, for each kind and set.
 pub fn written_is_read()
@@ -44,7 +44,7 @@ impl OnSet for MadeGenuine {
 
     ghost gives = { λ _ Z _ _. MadeIsGenuine Z };
 
-    fn on<P: ParameterSet>(self) {
+    fn on<P: SetSuite>(self) {
         made_is_genuine_in::<P>();
     }
 }

@@ -7,3 +7,4 @@ pub mod Lengths
 pub mod Keyed
 pub mod Sets
 pub mod ValueBytes
+pub mod Suspended

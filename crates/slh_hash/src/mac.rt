@@ -4,6 +4,7 @@ ghost use Rattle.hmac_sha256.specs.Hmac.{masked as spec_masked};
 ghost use Rattle.slh_hash.specs.HmacSha512.{hmac_sha512 as spec_hmac_sha512};
 ghost use Rattle.slh_hash.specs.HmacSha512.{key_block as spec_key_block};
 ghost use Rattle.slh_hash.specs.States.{Authenticates512};
+ghost use Rattle.sha512_lanes.specs.Hash.{StandsFor as StandsFor512};
 
 use sha512_lanes::Hash512;
 
@@ -60,6 +61,28 @@ impl Hmac512 {
             inner: Hash512::new_with_prefix(&masked(&block, INNER_MASK)),
             outer: Hash512::new_with_prefix(&masked(&block, OUTER_MASK)),
         }
+    }
+
+    /// The HMAC under a key that goes on from an inner hash, as `into_inner` gave it.
+    pub fn with_inner(key: &[u8], inner: Hash512) -> Self
+        ensures { (m : List ℕ)
+            → StandsFor512 inner (spec_masked 0x36 (spec_key_block key.now) ++ m)
+            → Authenticates512 result.inner result.outer key.now m }
+    {
+        let block = key_block(key);
+        Hmac512 {
+            inner,
+            outer: Hash512::new_with_prefix(&masked(&block, OUTER_MASK)),
+        }
+    }
+
+    /// The inner hash, which has absorbed the key's block and what came after it.
+    pub fn into_inner(self) -> Hash512
+        ensures { (key m : List ℕ) → Authenticates512 self.inner self.outer key m
+            → StandsFor512 result (spec_masked 0x36 (spec_key_block key) ++ m) }
+    {
+        let Hmac512 { inner, .. } = self;
+        inner
     }
 
     /// Absorbs `input`, after what was absorbed before.

@@ -6,9 +6,11 @@ ghost use Rattle.slh_hash.specs.States.{Digests256};
 
 use crate::join::put_three;
 use crate::mgf1::mgf1_256;
+use crate::resumable::{Hashes, ResumableSuite};
 use crate::sha2_l1::Sha2L1;
 use hmac_sha256::{HMAC, Hash};
 use hybrid_array::ArraySize;
+use hybrid_array::sizes::U16;
 use slh_core::nbytes::NBytes;
 use slh_core::pieces::MessageSuite;
 use std::marker::PhantomData;
@@ -90,5 +92,45 @@ impl<N: ArraySize, M: ArraySize> MessageSuite for Sha2L1<N, M> {
         let mut seed = [0u8; 96];
         let end = put_three(rand.as_slice(), pk_seed.as_slice(), &hashed, &mut seed);
         mgf1_256(&seed[..end], out);
+    }
+}
+
+impl<M: ArraySize> ResumableSuite for Sha2L1<U16, M> {
+    fn suspend_digest(digest: Digest256<U16>, hashes: &mut Hashes) {
+        hashes.sha256 = digest.hash;
+    }
+
+    fn resume_digest(
+        hashes: &Hashes,
+        rand: &NBytes<U16>,
+        pk_seed: &NBytes<U16>,
+        most: u64,
+    ) -> Option<Digest256<U16>> {
+        // (R, the seed and the root stand before the message)
+        let front = 2 * rand.as_slice().len() + pk_seed.as_slice().len();
+        if hashes.sha256.absorbed() > most + front as u64 {
+            return None;
+        }
+        Some(Digest256 {
+            rand: rand.copy(),
+            pk_seed: pk_seed.copy(),
+            hash: hashes.sha256.copy(),
+        })
+    }
+
+    fn suspend_mac(mac: Mac256<U16>, hashes: &mut Hashes) {
+        hashes.sha256 = mac.mac.into_inner();
+    }
+
+    fn resume_mac(hashes: &Hashes, sk_prf: &NBytes<U16>, most: u64) -> Option<Mac256<U16>> {
+        let mac = HMAC::with_inner(sk_prf.as_slice(), hashes.sha256.copy());
+        // (the key's block and the randomizer stand before the message)
+        if mac.absorbed() > most + 80 {
+            return None;
+        }
+        Some(Mac256 {
+            mac,
+            size: PhantomData,
+        })
     }
 }

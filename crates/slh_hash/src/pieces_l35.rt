@@ -1,12 +1,17 @@
 //! The states of the suite of security categories 3 and 5 (FIPS 205, section 11.2.2).
-ghost use Rattle.std.specs.Prelude.{◌≤◌, ◌++◌};
+ghost use Rattle.std.specs.Prelude.{◌≡◌, ℕ, ◌≤◌, List, ◌++◌};
+ghost use Rattle.hmac_sha256.specs.Hmac.{masked};
+ghost use Rattle.sha512_lanes.specs.Hash.{StandsFor};
+ghost use Rattle.slh_hash.specs.HmacSha512.{key_block};
 ghost use Rattle.slh_hash.specs.States.{Authenticates512, Digests512};
 
 use crate::join::put_three;
 use crate::mac::Hmac512;
 use crate::mgf1::mgf1_512;
+use crate::resumable::{Hashes, ResumableSuite};
 use crate::sha2_l35::Sha2L35;
 use hybrid_array::ArraySize;
+use hybrid_array::sizes::{U24, U32};
 use sha512_lanes::Hash512;
 use slh_core::nbytes::NBytes;
 use slh_core::pieces::MessageSuite;
@@ -88,5 +93,80 @@ impl<N: ArraySize, M: ArraySize> MessageSuite for Sha2L35<N, M> {
         let mut seed = [0u8; 128];
         let end = put_three(rand.as_slice(), pk_seed.as_slice(), &hashed, &mut seed);
         mgf1_512(&seed[..end], out);
+    }
+}
+
+// H_msg, with a hash that was put aside.
+fn resumed_digest<N: ArraySize>(
+    hashes: &Hashes,
+    rand: &NBytes<N>,
+    pk_seed: &NBytes<N>,
+) -> Digest512<N>
+    ensures { (root m : List ℕ)
+        → StandsFor hashes.now.sha512 (rand.now ++ pk_seed.now ++ root ++ m)
+        → Digests512 result.rand result.pk_seed result.hash rand.now pk_seed.now root m }
+{
+    Digest512 {
+        rand: rand.copy(),
+        pk_seed: pk_seed.copy(),
+        hash: hashes.sha512.copy(),
+    }
+}
+
+// PRF_msg, with a hash that was put aside.
+fn resumed_mac<N: ArraySize>(hashes: &Hashes, sk_prf: &NBytes<N>) -> Mac512<N>
+    ensures { (m : List ℕ)
+        → StandsFor hashes.now.sha512 (masked 0x36 (key_block sk_prf.now) ++ m)
+        → Authenticates512 result.mac.inner result.mac.outer sk_prf.now m }
+{
+    Mac512 {
+        mac: Hmac512::with_inner(sk_prf.as_slice(), hashes.sha512.copy()),
+        size: PhantomData,
+    }
+}
+
+impl<M: ArraySize> ResumableSuite for Sha2L35<U24, M> {
+    fn suspend_digest(digest: Digest512<U24>, hashes: &mut Hashes) {
+        hashes.sha512 = digest.hash;
+    }
+
+    fn resume_digest(
+        hashes: &Hashes,
+        rand: &NBytes<U24>,
+        pk_seed: &NBytes<U24>,
+        _most: u64,
+    ) -> Option<Digest512<U24>> {
+        Some(resumed_digest(hashes, rand, pk_seed))
+    }
+
+    fn suspend_mac(mac: Mac512<U24>, hashes: &mut Hashes) {
+        hashes.sha512 = mac.mac.into_inner();
+    }
+
+    fn resume_mac(hashes: &Hashes, sk_prf: &NBytes<U24>, _most: u64) -> Option<Mac512<U24>> {
+        Some(resumed_mac(hashes, sk_prf))
+    }
+}
+
+impl<M: ArraySize> ResumableSuite for Sha2L35<U32, M> {
+    fn suspend_digest(digest: Digest512<U32>, hashes: &mut Hashes) {
+        hashes.sha512 = digest.hash;
+    }
+
+    fn resume_digest(
+        hashes: &Hashes,
+        rand: &NBytes<U32>,
+        pk_seed: &NBytes<U32>,
+        _most: u64,
+    ) -> Option<Digest512<U32>> {
+        Some(resumed_digest(hashes, rand, pk_seed))
+    }
+
+    fn suspend_mac(mac: Mac512<U32>, hashes: &mut Hashes) {
+        hashes.sha512 = mac.mac.into_inner();
+    }
+
+    fn resume_mac(hashes: &Hashes, sk_prf: &NBytes<U32>, _most: u64) -> Option<Mac512<U32>> {
+        Some(resumed_mac(hashes, sk_prf))
     }
 }

@@ -8,7 +8,7 @@ ghost use Rattle.slh_line.specs.declared.line_error.LineError.TheVariants.{Memor
 use crate::line_error::LineError;
 use line_serve::{ByteString, Replier, all_fields};
 use slh_dsa::ParameterSet;
-use slh_sets::{OnSet, Set};
+use slh_sets::{OnSet, Set, SetSuite};
 use std::alloc::{AllocError, Global};
 
 /// The commands of a program.
@@ -40,7 +40,7 @@ impl<'a, C: Commands> OnSet for Line<'a, C> {
     ghost gives = { λ line Z name result.
         (result ≡ C.answers Z name (contents line.fields.now)) ⊎ (result ≡ Err Memory) };
 
-    fn on<P: ParameterSet>(self) -> Result<ByteString, LineError> {
+    fn on<P: SetSuite>(self) -> Result<ByteString, LineError> {
         self.commands.answer::<P>(self.alloc, self.fields)
     }
 }

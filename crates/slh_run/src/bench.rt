@@ -22,7 +22,7 @@ use line_serve::{
 };
 use slh_core::params::{chain_sizes, forest_sizes, layer_sizes};
 use slh_dsa::{Mode, ParameterSet, SigningKey};
-use slh_sets::{OnSet, Set};
+use slh_sets::{OnSet, Set, SetSuite};
 use std::alloc::{AllocError, Global};
 
 // How many bytes the longest message has.
@@ -253,7 +253,7 @@ impl OnSet for Signing {
     ghost gives = { λ task Z _ result. IfOk result (λ text. text
         ≡ outcome_lines Z (spec_bench_prk task.bench.number) task.bench.count) };
 
-    fn on<P: ParameterSet>(self) -> Result<ByteString, AllocError> {
+    fn on<P: SetSuite>(self) -> Result<ByteString, AllocError> {
         outcome_in::<P>(self.alloc, self.bench)
     }
 }

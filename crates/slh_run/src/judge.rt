@@ -12,7 +12,7 @@ use slh_audit::{AuditError, Evidence, hash_audit, hash_check_evidence};
 use slh_core::params::chain_sizes;
 use slh_dsa::{Mode, ParameterSet, SigningKey, VerifyingKey};
 use slh_line::as_bytes;
-use slh_sets::{OnSet, Set};
+use slh_sets::{OnSet, Set, SetSuite};
 use std::alloc::{AllocError, Global};
 
 impl From<slh_dsa::Error> for Error {
@@ -207,7 +207,7 @@ impl<'a> OnSet for OfSet<'a> {
 
     ghost gives = { λ task Z _ result. IsJudged Z task.job.now result };
 
-    fn on<P: ParameterSet>(self) -> Result<Answer, Error> {
+    fn on<P: SetSuite>(self) -> Result<Answer, Error> {
         run_set::<P>(self.alloc, self.job)
     }
 }

@@ -5,7 +5,7 @@ ghost use Rattle.slh_sets.specs.Sets.{scheme_for};
 
 use slh_dsa::ParameterSet;
 use slh_dsa::laws::signed_is_accepted;
-use slh_sets::{OnSet, Set};
+use slh_sets::{OnSet, Set, SetSuite};
 
 fn accepts_all_in<P: ParameterSet>()
     ensures { (prk : List ℕ) (count : ℕ) → accepted_count P.scheme prk count ≡ count }
@@ -21,7 +21,7 @@ impl OnSet for AcceptsAll {
 
     ghost gives = { λ _ Z _ _. (prk : List ℕ) (count : ℕ) → accepted_count Z prk count ≡ count };
 
-    fn on<P: ParameterSet>(self) {
+    fn on<P: SetSuite>(self) {
         accepts_all_in::<P>();
     }
 }

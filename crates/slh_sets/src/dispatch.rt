@@ -5,6 +5,22 @@ ghost use Rattle.slh_sets.specs.Sets.{name_of, scheme_for};
 
 use crate::set::Set;
 use slh_dsa::{ParameterSet, Sha2_128f, Sha2_128s, Sha2_192f, Sha2_192s, Sha2_256f, Sha2_256s};
+use slh_hash::ResumableSuite;
+
+/// What each of the sets is as a type.
+pub trait SetSuite: ParameterSet + ResumableSuite {}
+
+impl SetSuite for Sha2_128s {}
+
+impl SetSuite for Sha2_128f {}
+
+impl SetSuite for Sha2_192s {}
+
+impl SetSuite for Sha2_192f {}
+
+impl SetSuite for Sha2_256s {}
+
+impl SetSuite for Sha2_256f {}
 
 /// Something to do, of which only the parameter set isn't known.
 pub trait OnSet {
@@ -15,7 +31,7 @@ pub trait OnSet {
     ghost gives: { Self → Scheme → List ℕ → Self.Out → Type 0 };
 
     /// Does it.
-    fn on<P: ParameterSet>(self) -> Self::Out
+    fn on<P: SetSuite>(self) -> Self::Out
         ensures { gives self P.scheme P.set_name result };
 }
 
@@ -35,7 +51,7 @@ pub trait WriteOnSet {
     ghost writes: { Self → Scheme → List ℕ → Type 0 };
 
     /// Writes them.
-    fn write<P: ParameterSet>(self, out: &mut [u8]) -> Self::Out
+    fn write<P: SetSuite>(self, out: &mut [u8]) -> Self::Out
         ensures answer { gives self P.scheme (length out.old) result }
         ensures value { wrote result → writes self P.scheme out.new }
         ensures same { (wrote result → ⊥) → out.new ≡ out.old };

@@ -1,7 +1,7 @@
 //! The parameter sets of SLH-DSA over SHA-2 (FIPS 205, section 11, table 2), where which is meant
 //! is known only when the program runs: by name, by number, and what to do in one.
 //!
-//! A [`Set`] is one of six. What is to be done in it is a task over any `ParameterSet`: an
+//! A [`Set`] is one of six. What is to be done in it is a task over any [`SetSuite`]: an
 //! [`OnSet`] answers a value, a [`WriteOnSet`] writes into a slice of the caller's besides.
 //! [`Set::run`] and [`Set::run_into`] are the one place where a set becomes a type. In `slh_tests`,
 //! `sets::example_of_the_page` runs this:
@@ -22,5 +22,5 @@ pub mod laws;
 mod set;
 mod sizes;
 
-pub use dispatch::{OnSet, WriteOnSet};
+pub use dispatch::{OnSet, SetSuite, WriteOnSet};
 pub use set::Set;

@@ -4,11 +4,10 @@ ghost use Rattle.slh_core.specs.Parameters.{Scheme};
 ghost use Rattle.slh_sets.specs.Sets.{scheme_for};
 ghost use Rattle.slh_trees.specs.Checking.{signature_size};
 
-use crate::dispatch::OnSet;
+use crate::dispatch::{OnSet, SetSuite};
 use crate::set::Set;
 use hybrid_array::ArraySize;
 use slh_core::params::forest_sizes;
-use slh_dsa::ParameterSet;
 
 #[derive(Drop)]
 struct N;
@@ -18,7 +17,7 @@ impl OnSet for N {
 
     ghost gives = { λ _ Z _ result. (result ≡ Z.n) × (result ≤ 32) };
 
-    fn on<P: ParameterSet>(self) -> usize {
+    fn on<P: SetSuite>(self) -> usize {
         forest_sizes::<P>();
         P::N::USIZE
     }
@@ -32,7 +31,7 @@ impl OnSet for SignatureLen {
 
     ghost gives = { λ _ Z _ result. result ≡ signature_size Z };
 
-    fn on<P: ParameterSet>(self) -> usize {
+    fn on<P: SetSuite>(self) -> usize {
         P::SigLen::USIZE
     }
 }
