@@ -1,0 +1,13 @@
+pub mod Origins
+pub mod Cut
+pub mod Symbols
+pub mod Signatures
+pub mod Plain
+pub mod ReadBack
+pub mod MadeNote
+pub mod Opened
+pub mod Taken
+pub mod Sizes
+pub mod Made
+pub mod SignedTexts
+pub mod Forms

@@ -1,0 +1,5 @@
+pub mod Texts
+pub mod Reading
+pub mod Notes
+pub mod Calls
+pub mod Heads
