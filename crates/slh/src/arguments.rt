@@ -83,8 +83,8 @@ fn mode(words: &ArgMatches<'_>) -> Result<Mode, Failure<'static>> {
     }
 }
 
-/// The context of `--context` or `--context-hex`, or none. Those of batches, chains, logs and manifests
-/// are refused: what they sign is nothing else's.
+/// The context of `--context` or `--context-hex`, or none. Those of batches, chains, logs and
+/// manifests are refused: what they sign is nothing else's.
 pub fn context(rt: &HostRuntime, words: &ArgMatches<'_>) -> Result<ByteString, Failure<'static>> {
     let context = match words.get_str("context-hex") {
         Some(digits) => match digits_of(rt.alloc(), digits.as_bytes())? {

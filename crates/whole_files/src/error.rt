@@ -5,8 +5,8 @@
 pub enum Written {
     /// Its bytes and its name are on the disk.
     Settled,
-    /// Its bytes are on the disk, and it has its name; but the folder couldn't be brought to the disk,
-    /// so that after a loss of power what was there may be back.
+    /// Its bytes are on the disk, and it has its name; but the folder couldn't be brought to the
+    /// disk, so that after a loss of power what was there may be back.
     Unsettled,
 }
 

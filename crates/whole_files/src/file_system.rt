@@ -6,9 +6,10 @@ ghost use Rattle.whole_files.specs.Files.{Files, Same, Shows, Creates, Appends, 
 
 use crate::file::{Failed, Stat};
 
-/// What a program does to files. Each call that changes something asks first that every outcome of it
-/// is permitted, also where it fails or is cut short. So a function that is proved for every `permits`
-/// makes of the files, wherever everything stops, what it requires to be permitted and nothing else.
+/// What a program does to files. Each call that changes something asks first that every outcome of
+/// it is permitted, also where it fails or is cut short. So a function that is proved for every
+/// `permits` makes of the files, wherever everything stops, what it requires to be permitted and
+/// nothing else.
 pub trait FileSystem {
     /// Whether it tells what stands at paths. Where it doesn't, nothing is said of that.
     ghost tells: { Bool };
@@ -19,7 +20,8 @@ pub trait FileSystem {
     /// What may be made of the files at any moment.
     ghost permits: { Files → Type 0 };
 
-    /// Whether the name at a path is on the disk, with what it leads to. A change of names may lose it.
+    /// Whether the name at a path is on the disk, with what it leads to. A change of names may lose
+    /// it.
     ghost is_kept: { Self → List ℕ → Bool };
 
     /// How many calls failed, up to 2^64 - 1.
@@ -38,7 +40,8 @@ pub trait FileSystem {
         ensures files { IsTrue tells → Creates (files self.old) path.now mode result (files self.new) }
         ensures cause { HasCause (faults self.old) (faults self.new) result };
 
-    /// Writes bytes at the end of the file that it made last. Where that fails, some may be written.
+    /// Writes bytes at the end of the file that it made last. Where that fails, some may be
+    /// written.
     fn append(&mut self, path: &str, piece: &[u8]) -> Result<(), Failed>
         requires there { IsTrue tells → files self.old path.now ≢ None }
         requires permitted { IsTrue tells → (n : Files) (r : Result (Unit {0}) Failed)

@@ -9,9 +9,10 @@ use std::fs::{self, File, Metadata, OpenFile, OpenOptions, Permissions};
 use std::io::{self, ErrorKind, Write};
 use std::os::unix::fs::{MetadataExt, OpenOptionsExt, PermissionsExt};
 
-/// The files of the system, of which nothing is told. A file that is made with the mode [`NEW_MODE`]
-/// has what the user's mask leaves of it, and any other one has its mode exactly. A folder that can't
-/// be opened to be read, or whose file system doesn't bring folders to the disk, is left to the system.
+/// The files of the system, of which nothing is told. A file that is made with the mode
+/// [`NEW_MODE`] has what the user's mask leaves of it, and any other one has its mode exactly. A
+/// folder that can't be opened to be read, or whose file system doesn't bring folders to the disk,
+/// is left to the system.
 #[derive(Drop)]
 pub struct HostFiles<'r> {
     /// Why a call failed: the last one that did.

@@ -1,11 +1,11 @@
 //! Files that are written whole or not at all, over a trait for what a program does to files.
 //!
-//! [`FileSystem`] has the calls, each with what it makes of the files whether it succeeds, fails or is
-//! cut short. Over it stand [`write_whole`], which takes the place of a regular file or of nothing,
-//! [`make_new`] and [`make_secret`], which replace nothing, and [`make_pair`], which makes a secret and
-//! a public file or neither. What they require to be permitted says what the files are wherever
-//! everything stops. [`MemFiles`] are files in memory of which chosen calls fail, and [`HostFiles`] are
-//! those of the system, of which nothing is told.
+//! [`FileSystem`] has the calls, each with what it makes of the files whether it succeeds, fails or
+//! is cut short. Over it stand [`write_whole`], which takes the place of a regular file or of
+//! nothing, [`make_new`] and [`make_secret`], which replace nothing, and [`make_pair`], which makes
+//! a secret and a public file or neither. What they require to be permitted says what the files are
+//! wherever everything stops. [`MemFiles`] are files in memory of which chosen calls fail, and
+//! [`HostFiles`] are those of the system, of which nothing is told.
 #![tactic(auto)]
 
 mod error;

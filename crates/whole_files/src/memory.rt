@@ -10,7 +10,8 @@ use crate::script::Script;
 use std::alloc::{AllocError, Global};
 use std::collections::BTreeMap;
 
-/// Files in memory, of which chosen calls fail, and all from some call on. All names are in one folder.
+/// Files in memory, of which chosen calls fail, and all from some call on. All names are in one
+/// folder.
 #[derive(Drop)]
 pub struct MemFiles {
     alloc: Global,

@@ -56,8 +56,8 @@ fn settle_both<F: FileSystem>(fs: &mut F, one: &str, other: &str) -> Written
     }
 }
 
-/// Makes a secret, with the mode 600 from its first byte on, and a public file, both or neither, where
-/// nothing stands. After `Left` one or both may stand there, each whole.
+/// Makes a secret, with the mode 600 from its first byte on, and a public file, both or neither,
+/// where nothing stands. After `Left` one or both may stand there, each whole.
 pub fn make_pair<F: FileSystem>(
     fs: &mut F,
     key_path: &str,
@@ -69,7 +69,8 @@ pub fn make_pair<F: FileSystem>(
 ) -> Result<Written, WriteError>
     requires apart { AreApart key_path.now key_part.now public_path.now public_part.now }
 
-    // Wherever everything stops, each path has what it had, or its file, whole, where nothing stood.
+    // Wherever everything stops, each path has what it had, or its file, whole, where nothing
+    // stood.
     requires permitted { IsTrue F.tells → (n : Files)
         → IsPairing (F.files fs.old) key_path.now key_part.now key.now
         public_path.now public_part.now public.now n → F.permits n }

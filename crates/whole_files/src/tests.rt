@@ -12,8 +12,8 @@ use std::test::Fail;
 
 const NEVER: u64 = u64::MAX;
 
-// What a write makes: it asks what stands there, makes the part, fills it, brings it to the disk, gives
-// it the name, and brings the folder to the disk.
+// What a write makes: it asks what stands there, makes the part, fills it, brings it to the disk,
+// gives it the name, and brings the folder to the disk.
 const CALLS_OF_A_WRITE: u64 = 6;
 
 // A part is made, filled, brought to the disk, linked and taken away.

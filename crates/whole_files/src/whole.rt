@@ -101,9 +101,9 @@ pub(crate) fn settle<F: FileSystem>(fs: &mut F, path: &str) -> Written
     }
 }
 
-/// Writes a file in place of a regular file, whose mode it takes, or of nothing. It is written whole as
-/// `part` first, where nothing may stand, and brought to the disk; then it takes the place of what is
-/// at the path, and the folder is brought to the disk.
+/// Writes a file in place of a regular file, whose mode it takes, or of nothing. It is written
+/// whole as `part` first, where nothing may stand, and brought to the disk; then it takes the place
+/// of what is at the path, and the folder is brought to the disk.
 pub fn write_whole<F: FileSystem>(
     fs: &mut F,
     path: &str,
@@ -134,7 +134,8 @@ pub fn write_whole<F: FileSystem>(
     }
 }
 
-/// Makes a file where nothing stands, without the folder's sync. After `Left` it may be there, whole.
+/// Makes a file where nothing stands, without the folder's sync. After `Left` it may be there,
+/// whole.
 pub(crate) fn link_new<F: FileSystem>(
     fs: &mut F,
     path: &str,
@@ -165,9 +166,10 @@ pub(crate) fn link_new<F: FileSystem>(
     }
 }
 
-/// Makes a file where nothing stands. It is written whole as `part` first, with its mode from the first
-/// byte on, and brought to the disk; then it gets the path as its name, in place of nothing, loses the
-/// other one, and the folder is brought to the disk. After `Left` it may stand at the path, whole.
+/// Makes a file where nothing stands. It is written whole as `part` first, with its mode from the
+/// first byte on, and brought to the disk; then it gets the path as its name, in place of nothing,
+/// loses the other one, and the folder is brought to the disk. After `Left` it may stand at the
+/// path, whole.
 pub fn make_new<F: FileSystem>(
     fs: &mut F,
     path: &str,
