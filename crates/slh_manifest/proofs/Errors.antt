@@ -1,5 +1,5 @@
 -- What the entries of a manifest are answered, one after another.
-use Rattle.std.proofs.Common.{◌≡◌, ℕ, ◌+◌, ◌-◌, ◌<◌, List, [], ◌∷◌, refl, sym, ◌∙◌, ap, Option, None, Some, ◌⊎◌, inl, inr, Bool, true, false, if◌then◌else◌}
+use Rattle.std.proofs.Common.{◌≡◌, ℕ, ◌+◌, List, [], ◌∷◌, refl, ◌∙◌, ap, Option, None, Some, ◌⊎◌, inl, inr, true, false, if◌then◌else◌}
 use Rattle.std.specs.Option.{option_map}
 use Rattle.slh_trees.specs.Refusals.{first_refusal}
 use Rattle.slh_manifest.specs.Checking.{bytes_error, entries_error}

@@ -1,5 +1,5 @@
 -- Entries that are left, where they stand.
-use Rattle.std.proofs.Common.{◌≡◌, ℕ, zero, suc, ◌+◌, ◌-◌, ◌<◌, ◌≤◌, ◌^◌, true, List, [], ◌∷◌, length, take, drop, refl, sym, ◌∙◌, ap, subst, arith, length-take, length-drop, slice_range, slice_index}
+use Rattle.std.proofs.Common.{◌≡◌, ℕ, zero, suc, ◌+◌, ◌-◌, ◌<◌, ◌≤◌, ◌^◌, true, List, ◌∷◌, length, take, drop, refl, sym, ◌∙◌, ap, subst, arith, length-take, length-drop, slice_range}
 use Rattle.std.proofs.lemmas.List.{take_all}
 use Rattle.slh_manifest.specs.Entries.{Stand}
 use Rattle.slh_manifest.specs.Reading.{IsFrontView, after_front, are_entries, entries_in, front_entry, front_size, is_front}

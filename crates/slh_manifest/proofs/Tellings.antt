@@ -1,5 +1,5 @@
 -- What the error of a check says of an entry.
-use Rattle.std.proofs.Common.{◌≡◌, ◌≢◌, ℕ, zero, suc, ◌<◌, List, [], ◌∷◌, ◌++◌, length, refl, sym, ◌∙◌, ap, subst, ◌⊎◌, inl, inr, Option, None, Some, Result, Ok, Err, IsErrOf, IfErr, IfSome, IsSomeAnd}
+use Rattle.std.proofs.Common.{◌≡◌, ◌≢◌, ℕ, ◌<◌, List, [], ◌∷◌, ◌++◌, length, refl, sym, ◌∙◌, ap, subst, inl, inr, Option, Some, Result, Ok, Err, IsErrOf, IfErr, IsSomeAnd}
 use Rattle.std.specs.Prelude.{slice_get}
 use Rattle.slh_trees.specs.Refusals.{RefusedExactly}
 use Rattle.slh_manifest.specs.Checking.{HasOther, IsFirst, LacksEntry, NamesEntry, RefusedOrFault, SpeaksOf, entries_error}

@@ -1,4 +1,4 @@
-use Rattle.std.proofs.Common.{arith, rules, ◌≡◌, ◌<◌, ◌-◌, ◌∷◌, ◌∙◌, sym, ap, length}
+use Rattle.std.proofs.Common.{arith, rules, ◌≡◌, ◌<◌, ◌-◌, ◌∷◌, ◌∙◌, sym}
 use Rattle.slh_manifest.specs.Reading.{entries_in}
 use Rattle.slh_manifest.proofs.Places.{entries_next, entry_of_view, stand_len, stand_next}
 use Rattle.slh_manifest.proofs.manifest.EntriesIterator.next.Goals as goal
