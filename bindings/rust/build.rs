@@ -1,7 +1,7 @@
 //! Finds the library for C, and refuses one of another interface.
 //!
-//! `SLH_DSA_DIR` names a folder that has `libslh_dsa.a` or `libslh_dsa.so`, as `examples/c/build`
-//! makes it. Where it isn't set, `pkg-config` (`PKG_CONFIG` names another) finds what is installed.
+//! `SLH_DSA_DIR` is the whole path of a folder that has `libslh_dsa.a` or `libslh_dsa.so`, as
+//! `examples/c/build` makes it. Where it isn't set, `pkg-config` (`PKG_CONFIG` names another) finds what is installed.
 //! The archive is linked where both are there.
 
 use std::path::{Path, PathBuf};
@@ -22,11 +22,14 @@ fn version_of(header: &str) -> Option<String> {
     rest.split('"').next().map(str::to_owned)
 }
 
-fn in_folder(folder: PathBuf) -> Found {
+fn in_folder(folder: PathBuf) -> Result<Found, String> {
+    if !folder.is_absolute() {
+        return Err(format!("SLH_DSA_DIR isn't a whole path: {}", folder.display()));
+    }
     let header = folder.join("slh_dsa.h");
     println!("cargo:rerun-if-changed={}", header.display());
     let version = fs::read_to_string(header).ok().as_deref().and_then(version_of);
-    Found { folder, version }
+    Ok(Found { folder, version })
 }
 
 /// What `pkg-config` prints.
@@ -74,7 +77,7 @@ fn kind_in(folder: &Path) -> Result<&'static str, String> {
 
 fn link() -> Result<(), String> {
     let found = match env::var_os("SLH_DSA_DIR") {
-        Some(folder) => in_folder(folder.into()),
+        Some(folder) => in_folder(folder.into())?,
         None => installed().map_err(|error| {
             format!("no library for C: SLH_DSA_DIR isn't set, and pkg-config: {error}")
         })?,

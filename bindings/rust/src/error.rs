@@ -5,6 +5,9 @@ use std::fmt;
 use crate::evidence::Evidence;
 use crate::ffi::Status;
 
+/// The status with which an audit writes evidence.
+const FOREIGN: Status = 2;
+
 /// A status of the library that isn't `SLH_DSA_OK`, by its name in `slh_dsa.h`.
 #[derive(Clone, Copy, Debug, PartialEq, Eq, Hash)]
 #[non_exhaustive]
@@ -31,7 +34,8 @@ pub enum Error {
     UnknownMode,
     /// No evidence has this kind. No call of this crate gives one.
     UnknownEvidence,
-    /// The state of a message in pieces wasn't begun, is at its end, or is of another signature.
+    /// A message in pieces wasn't begun, is at its end, or is of another signature. No call of this
+    /// crate gives one.
     State,
     /// The system gave no random bytes. No status of the library.
     NoRandom,
@@ -45,7 +49,7 @@ impl Error {
     pub fn status(self) -> Option<u32> {
         match self {
             Error::Invalid => Some(1),
-            Error::Foreign(_) => Some(2),
+            Error::Foreign(_) => Some(FOREIGN),
             Error::NotShown => Some(3),
             Error::KeyMismatch => Some(4),
             Error::Length => Some(5),
@@ -64,8 +68,8 @@ impl Error {
     /// What a status means; `evidence` is what an audit wrote.
     pub(crate) fn of_audit(status: Status, evidence: Option<Evidence>) -> Result<(), Error> {
         match (status, evidence) {
-            (2, Some(evidence)) => Err(Error::Foreign(evidence)),
-            (2, None) => Err(Error::UnknownEvidence),
+            (FOREIGN, Some(evidence)) => Err(Error::Foreign(evidence)),
+            (FOREIGN, None) => Err(Error::UnknownEvidence),
             _ => Error::of(status),
         }
     }
