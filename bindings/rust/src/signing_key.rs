@@ -176,8 +176,7 @@ impl<P: ParameterSet> SigningKey<P> {
     /// Tells whether evidence shows.
     ///
     /// # Errors
-    /// [`Error::NotShown`], [`Error::ContextTooLong`], [`Error::MessageTooLong`],
-    /// [`Error::KeyMismatch`]
+    /// [`Error::NotShown`], [`Error::ContextTooLong`], [`Error::MessageTooLong`]
     pub fn check_evidence(
         &self,
         mode: Mode,

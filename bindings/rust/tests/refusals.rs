@@ -120,8 +120,9 @@ fn a_root_of_other_seeds() {
     let (mode, error) = (Mode::Pure, Error::KeyMismatch);
     assert_eq!(other.check(), Err(error));
     assert_eq!(other.audit(mode, b"m", b"", &signature), Err(error));
+    // which a check of evidence doesn't look at
     let checked = other.check_evidence(mode, b"m", b"", &signature, Evidence::ForsRoots);
-    assert_eq!(checked, Err(error));
+    assert_eq!(checked, Err(Error::NotShown));
 }
 
 #[test]
