@@ -34,9 +34,6 @@ pub enum Error {
     UnknownMode,
     /// No evidence has this kind. No call of this crate gives one.
     UnknownEvidence,
-    /// A message in pieces wasn't begun, is at its end, or is of another signature. No call of this
-    /// crate gives one.
-    State,
     /// The system gave no random bytes. No status of the library.
     NoRandom,
     /// A status that this crate doesn't know.
@@ -59,7 +56,6 @@ impl Error {
             Error::UnknownSet => Some(9),
             Error::UnknownMode => Some(10),
             Error::UnknownEvidence => Some(11),
-            Error::State => Some(13),
             Error::NoRandom => None,
             Error::Unknown(status) => Some(status),
         }
@@ -88,7 +84,6 @@ impl Error {
             9 => Error::UnknownSet,
             10 => Error::UnknownMode,
             11 => Error::UnknownEvidence,
-            13 => Error::State,
             _ => Error::Unknown(status),
         })
     }
@@ -108,7 +103,6 @@ impl fmt::Display for Error {
             Error::UnknownSet => "no such parameter set",
             Error::UnknownMode => "no such mode",
             Error::UnknownEvidence => "no such evidence",
-            Error::State => "the message in pieces was not begun, or is at its end",
             Error::NoRandom => "the system gave no random bytes",
             Error::Unknown(_) => "no such status",
         })

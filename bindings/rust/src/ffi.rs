@@ -127,27 +127,6 @@ mod c {
             signature: *const u8, signature_bytes: usize,
         ) -> Status;
 
-        #[cfg(feature = "pieces")]
-        pub(super) fn slh_dsa_sha2_verify_begin(
-            verifier: *mut super::Verifier,
-            set: u32, mode: u32,
-            verifying_key: *const u8, verifying_key_bytes: usize,
-            context: *const u8, context_bytes: usize,
-            signature: *const u8, signature_bytes: usize,
-        ) -> Status;
-
-        #[cfg(feature = "pieces")]
-        pub(super) fn slh_dsa_sha2_verify_update(
-            verifier: *mut super::Verifier,
-            piece: *const u8, piece_bytes: usize,
-        ) -> Status;
-
-        #[cfg(feature = "pieces")]
-        pub(super) fn slh_dsa_sha2_verify_finish(
-            verifier: *mut super::Verifier,
-            signature: *const u8, signature_bytes: usize,
-        ) -> Status;
-
         pub(super) fn slh_dsa_sha2_audit(
             set: u32, mode: u32,
             signing_key: *const u8, signing_key_bytes: usize,
@@ -248,32 +227,6 @@ pub(crate) fn audit(job: &Job<'_>, signature: &[u8], evidence: &mut RawEvidence)
 pub(crate) fn check_evidence(job: &Job<'_>, signature: &[u8], evidence: &RawEvidence) -> Status {
     let Job { set, mode, key, signed, context } = *job;
     call!(slh_dsa_sha2_check_evidence, set, mode; key, signed, context, signature;; evidence)
-}
-
-/// `slh_dsa_verifier`: numbers alone, which may be copied and moved.
-#[cfg(feature = "pieces")]
-#[repr(C, align(16))]
-#[derive(Clone)]
-pub(crate) struct Verifier([u8; 768]);
-
-/// Begins a message in pieces; the job's own message isn't looked at.
-#[cfg(feature = "pieces")]
-pub(crate) fn verify_begin(job: &Job<'_>, signature: &[u8]) -> (Verifier, Status) {
-    let Job { set, mode, key, context, .. } = *job;
-    let mut verifier = Verifier([0; 768]);
-    let state = &mut verifier;
-    let status = call!(slh_dsa_sha2_verify_begin, state, set, mode; key, context, signature;;);
-    (verifier, status)
-}
-
-#[cfg(feature = "pieces")]
-pub(crate) fn verify_update(verifier: &mut Verifier, piece: &[u8]) -> Status {
-    call!(slh_dsa_sha2_verify_update, verifier; piece;;)
-}
-
-#[cfg(feature = "pieces")]
-pub(crate) fn verify_finish(verifier: &mut Verifier, signature: &[u8]) -> Status {
-    call!(slh_dsa_sha2_verify_finish, verifier; signature;;)
 }
 
 /// Clears bytes by writes that no compiler leaves out.

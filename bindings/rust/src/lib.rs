@@ -29,8 +29,8 @@
 //! **Digests.** [`Mode::Sha256`] is meant for the sets of 128 bits alone (FIPS 205, section
 //! 10.2.2). Nothing checks that.
 //!
-//! **Features.** `pieces`: messages in pieces, where the library has them. `signature`: the traits
-//! of the crate `signature`, by the manifest `with_signature/Cargo.toml`.
+//! **Features.** `signature`: the traits of the crate `signature`, by the manifest
+//! `with_signature/Cargo.toml`.
 
 #![deny(missing_docs, unsafe_code)]
 
@@ -38,8 +38,6 @@ mod error;
 mod evidence;
 mod ffi;
 mod mode;
-#[cfg(feature = "pieces")]
-mod pieces;
 mod random;
 mod secret;
 mod set;
@@ -52,8 +50,6 @@ mod verifying_key;
 pub use error::Error;
 pub use evidence::Evidence;
 pub use mode::Mode;
-#[cfg(feature = "pieces")]
-pub use pieces::MessageVerifier;
 pub use set::{
     Bytes, ParameterSet, Sha2_128f, Sha2_128s, Sha2_192f, Sha2_192s, Sha2_256f, Sha2_256s,
 };
