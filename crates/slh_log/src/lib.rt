@@ -7,8 +7,8 @@
 //! signature. The text is signed in mode `Pure` (FIPS 205, algorithm 22) with the context
 //! `slh-log`. The tree is that of RFC 9162 (2.1), which `merkle_tree` has.
 //!
-//! A log signs its head, and a client that knows its key and its origin takes it, and that an entry
-//! is there. `example_of_the_page_of_logs` of `slh_log_tests` runs this:
+//! A log signs its head, and a client that knows its key and its origin takes a later head after an
+//! earlier one:
 //!
 //! ```
 //! use slh_dsa::{Sha2_128f, SigningKey, VerifyingKey};

@@ -3,3 +3,4 @@ pub mod Verifying
 pub mod Passes
 pub mod Digests
 pub mod Digesting
+pub mod Suspended

@@ -43,7 +43,8 @@
 //! (`PassError::Changed`). What it signs is what it was given itself. A state stands for the bytes
 //! that it has absorbed, which the contracts say by a relation: for each message for which it
 //! stood it stands, after a piece, for that message and the piece. A refused piece changes nothing.
-//! No call takes memory.
+//! A verifier may be put aside between two pieces, as a [`SuspendedVerifier`] of numbers alone. No
+//! call takes memory.
 #![tactic(auto)]
 
 mod absorbing;
@@ -56,6 +57,7 @@ mod key_parts;
 pub mod laws;
 mod pass_error;
 mod passes;
+mod suspended;
 mod tail;
 mod verifier;
 
@@ -63,4 +65,5 @@ pub use digest_signer::DigestSigner;
 pub use digests::{sign_digest, sign_digest_counted, verify_digest, verify_digest_counted};
 pub use pass_error::PassError;
 pub use passes::{FirstPass, SecondPass};
+pub use suspended::SuspendedVerifier;
 pub use verifier::MessageVerifier;

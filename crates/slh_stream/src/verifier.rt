@@ -29,12 +29,12 @@ use std::sync::ledger::{Blank, Ledger};
 /// A signature and H_msg of a message, as the message comes.
 #[derive(Drop)]
 pub struct MessageVerifier<'a, P: ParameterSet + MessageSuite> {
-    pk_seed: NBytes<P::N>,
-    pk_root: NBytes<P::N>,
-    sig: SigView<'a, P>,
-    digest: P::Digest,
-    tail: Tail,
-    taken: u64,
+    pub(crate) pk_seed: NBytes<P::N>,
+    pub(crate) pk_root: NBytes<P::N>,
+    pub(crate) sig: SigView<'a, P>,
+    pub(crate) digest: P::Digest,
+    pub(crate) tail: Tail,
+    pub(crate) taken: u64,
     ghost short: { taken ≤ 2 ^ 60 },
     ghost room: { P.digest_count digest ≤ taken + 257 },
     ghost hashed: { hashed_count tail ≤ taken },

@@ -2,15 +2,15 @@
 // of three seeds, which repeat 1, 2 and 3.
 ghost use Rattle.std.specs.Prelude.{◌≤◌};
 
-use crate::pieces::{Cut, is_signed, key, untouched, verified};
+use crate::pieces::{Cut, is_accepted_aside, is_signed, key, untouched, verified};
 use hmac_sha256::Hash;
 use hybrid_array::ArraySize;
 use slh_core::params::chain_sizes;
-use slh_core::pieces::MessageSuite;
 use slh_dsa::{
     Error, Mode, ParameterSet, Sha2_128f, Sha2_128s, Sha2_192f, Sha2_192s, Sha2_256f, Sha2_256s,
     SigningKey,
 };
+use slh_hash::ResumableSuite;
 use std::alloc::Global;
 
 // The numbers from 0 on, of which the first n are a randomizer.
@@ -27,7 +27,7 @@ fn has_digest(bytes: &[u8], wanted: &str) -> bool {
 }
 
 // Whether the pieces get the wanted signature, and it is accepted.
-fn is_known<P: ParameterSet + MessageSuite>(
+fn is_known<P: ParameterSet + ResumableSuite>(
     key: &SigningKey<P>,
     mode: Mode,
     ctx: &[u8],
@@ -40,9 +40,10 @@ fn is_known<P: ParameterSet + MessageSuite>(
     is_signed(key, mode, ctx, opt_rand, message, &cut, out)
         && has_digest(out, wanted)
         && verified(&key.verifying_key(), mode, ctx, out, message, &cut).is_ok()
+        && is_accepted_aside(&key.verifying_key(), mode, ctx, out, message, 2)
 }
 
-fn are_known<P: ParameterSet + MessageSuite>(
+fn are_known<P: ParameterSet + ResumableSuite>(
     alloc: Global,
     pure: &str,
     by_sha256: &str,

@@ -17,3 +17,5 @@ mod pieces;
 mod random_cuts;
 #[cfg(test)]
 mod refusals;
+#[cfg(test)]
+mod suspended;

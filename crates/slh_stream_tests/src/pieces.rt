@@ -5,7 +5,10 @@ use hybrid_array::{Array, ArraySize};
 use slh_core::params::chain_sizes;
 use slh_core::pieces::MessageSuite;
 use slh_dsa::{Error, Mode, ParameterSet, SigningKey, VerifyingKey};
-use slh_stream::{DigestSigner, FirstPass, MessageVerifier, PassError, SecondPass};
+use slh_hash::ResumableSuite;
+use slh_stream::{
+    DigestSigner, FirstPass, MessageVerifier, PassError, SecondPass, SuspendedVerifier,
+};
 use std::alloc::{AllocError, Global};
 
 /// The byte that outputs are filled with, before a call may write into them.
@@ -179,4 +182,28 @@ pub(crate) fn is_untouched(bytes: &[u8]) -> bool {
         all = *byte == UNTOUCHED && all;
     }
     all
+}
+
+/// Whether a call of a verifier that was put aside was made, and accepts.
+pub(crate) fn is_good(answer: Option<Result<(), Error>>) -> bool {
+    matches!(answer, Some(Ok(())))
+}
+
+/// Whether a verifier that is put aside before each of two pieces accepts.
+pub(crate) fn is_accepted_aside<P: ParameterSet + ResumableSuite>(
+    key: &VerifyingKey<P>,
+    mode: Mode,
+    ctx: &[u8],
+    sig: &[u8],
+    message: &[u8],
+    at: usize,
+) -> bool {
+    let Ok(verifier) = MessageVerifier::<P>::new(key, mode, ctx, sig) else {
+        return false;
+    };
+    let mut state = SuspendedVerifier::new(verifier);
+    let (first, second) = message.split_at(at.min(message.len()));
+    is_good(state.update::<P>(mode, first))
+        && is_good(state.update::<P>(mode, second))
+        && is_good(state.finish::<P>(mode, sig))
 }

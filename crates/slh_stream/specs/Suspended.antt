@@ -1,0 +1,49 @@
+-- What the numbers of a verifier stand for that is put aside between two pieces.
+use Rattle.std.specs.Prelude.{◌≡◌, ℕ, ◌≤◌, ◌^◌, List, [], ◌++◌, length, take}
+use Rattle.hmac_sha256.specs.Hash.{StandsFor}
+use Rattle.sha512_lanes.specs.Hash.{StandsFor as StandsFor512}
+use Rattle.slh_core.specs.Bytes.{part}
+use Rattle.slh_frames.specs.Frames.{head_of}
+use Rattle.slh_frames.specs.declared.frame.Mode.{Mode}
+use Rattle.slh_frames.specs.declared.frame.Mode.TheVariants.{Pure, Sha256, Sha512}
+use Rattle.slh_hash.specs.Suspended.{HasHashed, is_category_1}
+use Rattle.slh_hash.specs.declared.resumable.Hashes.{Hashes}
+use Rattle.slh_stream.specs.Tails.{StandsAfter}
+use Rattle.slh_stream.specs.declared.tail.Tail.{Tail}
+use Rattle.slh_stream.specs.declared.suspended.SuspendedVerifier.{SuspendedVerifier}
+
+-- the hash of the mode, where it has one, has absorbed the message
+abbrev pub HasTail : Mode → Hashes → List ℕ → Type 0
+HasTail Pure hashes m = Unit {0}
+HasTail Sha256 hashes m = StandsFor hashes.sha256 m
+HasTail Sha512 hashes m = StandsFor512 hashes.sha512 m
+
+-- what of the message H_msg has absorbed as it is
+abbrev pub passed_in : Mode → List ℕ → List ℕ
+passed_in Pure m = m
+passed_in Sha256 m = []
+passed_in Sha512 m = []
+
+-- The numbers stand for a mode, the bytes of a verifying key of values of n bytes, a context, the
+-- randomizer of a signature and a message.
+pub record IsSuspended (n : ℕ) (state : SuspendedVerifier) (mode : Mode)
+    (key context rand message : List ℕ) : Type 0 where
+  pub seed_is : take n state.seed ≡ part n key 0
+  pub root_is : take n state.root ≡ part n key 1
+  pub rand_is : take n state.rand ≡ rand
+  pub context_fits : length context ≤ 255
+  pub taken_is : state.taken ≡ length message
+  pub short : length message ≤ 2 ^ 60
+  pub tail_is : HasTail mode state.tail message
+  pub stands : HasHashed (is_category_1 n) state.front
+      (rand ++ part n key 0 ++ part n key 1
+      ++ ((head_of mode context ++ context) ++ passed_in mode message))
+
+-- H_msg and what becomes of the pieces, taken up again, stand for the same.
+pub record IsResumed (n : ℕ) (digests : List ℕ → List ℕ → List ℕ → List ℕ → Type 0) (tail : Tail)
+    (held seed root : List ℕ) (mode : Mode) (key context rand message : List ℕ) : Type 0 where
+  pub seed_is : seed ≡ part n key 0
+  pub root_is : root ≡ part n key 1
+  pub rand_is : held ≡ rand
+  pub context_fits : length context ≤ 255
+  pub stands : StandsAfter (digests rand seed root) tail (head_of mode context ++ context) message
