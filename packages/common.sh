@@ -29,16 +29,7 @@ needs() {
     done
 }
 
-# lay_out ROOT LIBDIR: installs all below ROOT/usr, libraries in its folder LIBDIR
+# lay_out ROOT LIBDIR [--openssl]: installs all below ROOT/usr, libraries in its folder LIBDIR
 lay_out() {
-    DESTDIR=$1 LIBDIR=$2 "$top/install" /usr
-}
-
-# glibc_of FILE..: the newest version of glibc that programs and shared objects ask for
-glibc_of() {
-    asked=$(for file in "$@"; do objdump -p "$file"; done)
-    others=$(echo "$asked" | sed -n '/ libc\.so\.6$/d; s/^ *NEEDED *//p')
-    [ -z "$others" ] || { say "no package is known that has $others"; return 1; }
-    echo "$asked" | sed -n 's/GLIBC_ABI_DT_RELR/GLIBC_2.36/; s/^ .* GLIBC_\([0-9.]*\)$/\1/p' |
-        sort -t . -k 1,1n -k 2,2n -k 3,3n | tail -n 1
+    DESTDIR=$1 LIBDIR=$2 "$top/install" ${3:+"$3"} /usr
 }
