@@ -62,7 +62,7 @@ fn gives_one_alone(alloc: Global) -> Option<bool> {
     let opened = Manifest::open(&public, &manifest).ok()?;
     let mut entries = opened.iter();
     let first = entries.next()?;
-    Some(first.name == b"a" && entries.next().is_none())
+    Some(first.name == b"a".as_slice() && entries.next().is_none())
 }
 
 #[test]
