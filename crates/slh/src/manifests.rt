@@ -118,12 +118,26 @@ fn entries_of<'a>(
     let mut folder = Folder::new(rt, path);
     let mut entries = Builder::new(rt.alloc());
     for name in names {
-        if let Err(error) = entries.add(name.as_bytes(), &mut folder) {
-            let name = shown(rt.alloc(), name.as_bytes())?;
-            return Err(entry_failure(path, name, error, folder.fault.take()));
-        }
+        add_entry(rt, path, name.as_str(), &mut folder, &mut entries)?;
     }
     Ok(entries)
+}
+
+// Adds the entry of the file of a name.
+fn add_entry<'a>(
+    rt: &HostRuntime,
+    path: &'a str,
+    name: &str,
+    folder: &mut Folder<'_>,
+    entries: &mut Builder,
+) -> Result<(), Failure<'a>> {
+    match entries.add(name.as_bytes(), folder) {
+        Ok(()) => Ok(()),
+        Err(error) => {
+            let name = shown(rt.alloc(), name.as_bytes())?;
+            Err(entry_failure(path, name, error, folder.fault.take()))
+        }
+    }
 }
 
 // Why the file of this name is no entry.
