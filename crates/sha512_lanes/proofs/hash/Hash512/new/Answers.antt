@@ -1,8 +1,8 @@
 use Rattle.std.proofs.Common.{rules}
 use Rattle.sha2.specs.Sha512.{hash_after}
-use Rattle.sha512_lanes.specs.Hash.{StandsFor}
+use Rattle.sha512_lanes.specs.Hash.{StandsFor, counted}
 use Rattle.sha512_lanes.proofs.hash.Hash512.new.Goals as goal
 
 pub returns : goal.returns
-unfolding StandsFor hash_after
+unfolding StandsFor counted hash_after
 returns c = search rules
