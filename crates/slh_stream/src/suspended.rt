@@ -22,6 +22,7 @@ use slh_trees::SigView;
 
 /// A verifier between two pieces, without its signature and its key: numbers alone, so that a caller
 /// keeps it where it likes. Any numbers are one, though of no message that anybody absorbed.
+#[repr(C)]
 #[derive(Drop)]
 pub struct SuspendedVerifier {
     seed: [u8; 32],
@@ -157,6 +158,20 @@ fn resume_for<'a, P: ParameterSet + ResumableSuite>(
 }
 
 impl SuspendedVerifier {
+    /// The numbers of nothing, to be written over.
+    pub fn blank() -> Self
+        ensures { result.taken ≡ 0 }
+    {
+        SuspendedVerifier {
+            seed: [0; 32],
+            root: [0; 32],
+            rand: [0; 32],
+            taken: 0,
+            front: Hashes::new(),
+            tail: Hashes::new(),
+        }
+    }
+
     /// Puts a verifier aside.
     pub fn new<'a, P: ParameterSet + ResumableSuite>(verifier: MessageVerifier<'a, P>) -> Self
         ensures { (mode : SigningMode) (key context sig m : List ℕ)
