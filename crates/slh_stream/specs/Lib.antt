@@ -4,3 +4,4 @@ pub mod Passes
 pub mod Digests
 pub mod Digesting
 pub mod Suspended
+pub mod SuspendedPass

@@ -43,8 +43,8 @@
 //! (`PassError::Changed`). What it signs is what it was given itself. A state stands for the bytes
 //! that it has absorbed, which the contracts say by a relation: for each message for which it
 //! stood it stands, after a piece, for that message and the piece. A refused piece changes nothing.
-//! A verifier may be put aside between two pieces, as a [`SuspendedVerifier`] of numbers alone. No
-//! call takes memory.
+//! A verifier may be put aside between two pieces, as a [`SuspendedVerifier`] of numbers alone, and a
+//! pass as a [`SuspendedPass`]. No call takes memory.
 #![tactic(auto)]
 
 mod absorbing;
@@ -58,6 +58,7 @@ pub mod laws;
 mod pass_error;
 mod passes;
 mod suspended;
+mod suspended_pass;
 mod tail;
 mod verifier;
 
@@ -66,4 +67,5 @@ pub use digests::{sign_digest, sign_digest_counted, verify_digest, verify_digest
 pub use pass_error::PassError;
 pub use passes::{FirstPass, SecondPass};
 pub use suspended::SuspendedVerifier;
+pub use suspended_pass::SuspendedPass;
 pub use verifier::MessageVerifier;

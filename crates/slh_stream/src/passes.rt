@@ -30,7 +30,11 @@ use std::marker::Brand;
 use std::sync::ledger::{Blank, Ledger};
 
 // PRF_msg of what stands before a message, to go on from.
-fn begin_made<P: MessageSuite>(sk_prf: &NBytes<P::N>, opt_rand: &NBytes<P::N>, ctx: &[u8]) -> P::Mac
+pub(crate) fn begin_made<P: MessageSuite>(
+    sk_prf: &NBytes<P::N>,
+    opt_rand: &NBytes<P::N>,
+    ctx: &[u8],
+) -> P::Mac
     requires { length ctx.now ≤ 255 }
     ensures begun { P.authenticates result sk_prf.now opt_rand.now
         (frame_head ctx.now ++ ctx.now ++ []) }
@@ -45,11 +49,11 @@ fn begin_made<P: MessageSuite>(sk_prf: &NBytes<P::N>, opt_rand: &NBytes<P::N>, c
 /// The first pass over a message that is signed as it is: it makes R.
 #[derive(Drop)]
 pub struct FirstPass<'a, P: ParameterSet + MessageSuite> {
-    key: &'a SigningKey<P>,
+    pub(crate) key: &'a SigningKey<P>,
     ctx: Context,
-    opt_rand: NBytes<P::N>,
-    mac: P::Mac,
-    taken: u64,
+    pub(crate) opt_rand: NBytes<P::N>,
+    pub(crate) mac: P::Mac,
+    pub(crate) taken: u64,
     ghost short: { taken ≤ 2 ^ 60 },
     ghost room: { P.mac_count mac ≤ taken + 257 },
 }
@@ -148,12 +152,12 @@ impl<'a, P: ParameterSet + MessageSuite> FirstPass<'a, P> {
 /// The second pass over a message: it makes the MAC again, and the digest that is signed.
 #[derive(Drop)]
 pub struct SecondPass<'a, P: ParameterSet + MessageSuite> {
-    key: &'a SigningKey<P>,
-    opt_rand: NBytes<P::N>,
-    rand: NBytes<P::N>,
-    mac: P::Mac,
-    digest: P::Digest,
-    taken: u64,
+    pub(crate) key: &'a SigningKey<P>,
+    pub(crate) opt_rand: NBytes<P::N>,
+    pub(crate) rand: NBytes<P::N>,
+    pub(crate) mac: P::Mac,
+    pub(crate) digest: P::Digest,
+    pub(crate) taken: u64,
     ghost short: { taken ≤ 2 ^ 60 },
     ghost room: { P.mac_count mac ≤ taken + 257 },
     ghost space: { P.digest_count digest ≤ taken + 257 },

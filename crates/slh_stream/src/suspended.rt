@@ -34,7 +34,7 @@ pub struct SuspendedVerifier {
 }
 
 // A value as the first bytes of 32.
-fn stored<N: ArraySize>(value: &NBytes<N>) -> [u8; 32]
+pub(crate) fn stored<N: ArraySize>(value: &NBytes<N>) -> [u8; 32]
     ensures { take N.USIZE result ≡ value.now }
 {
     let mut store = [0u8; 32];
