@@ -110,10 +110,11 @@ static void verdicts(void)
 
 static void texts(void)
 {
-    const char *none = slh_dsa_status_text(SLH_DSA_UNKNOWN_EVIDENCE + 1);
+    const char *none = slh_dsa_status_text(SLH_DSA_CHANGED + 1);
 
-    for (slh_dsa_status one = 0; one <= SLH_DSA_UNKNOWN_EVIDENCE; one++) {
-        WANT(strcmp(slh_dsa_status_text(one), none) != 0);
+    for (slh_dsa_status one = 0; one <= SLH_DSA_CHANGED; one++) {
+        /* No status has the number 12. */
+        WANT((strcmp(slh_dsa_status_text(one), none) == 0) == (one == 12));
         for (slh_dsa_status other = 0; other < one; other++)
             WANT(strcmp(slh_dsa_status_text(one), slh_dsa_status_text(other)) != 0);
     }

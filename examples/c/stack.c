@@ -77,6 +77,30 @@ static void *verify_digest(void *unused)
     return unused;
 }
 
+static void *verify_pieces(void *unused)
+{
+    static slh_dsa_verifier verifier;
+
+    want(slh_dsa_sha2_verify_begin(&verifier, set, SLH_DSA_PREHASH_SHA512, public_key, 2 * n, empty,
+                                   1, signature, signature_bytes),
+         SLH_DSA_OK);
+    want(slh_dsa_sha2_verify_update(&verifier, message, sizeof message), SLH_DSA_OK);
+    want(slh_dsa_sha2_verify_finish(&verifier, signature, signature_bytes), SLH_DSA_OK);
+    return unused;
+}
+
+static void *sign_pieces(void *unused)
+{
+    static slh_dsa_signer signer;
+
+    want(slh_dsa_sha2_sign_begin(&signer, set, key, 4 * n, empty, 1, seeds, n), SLH_DSA_OK);
+    want(slh_dsa_sha2_sign_update(&signer, message, sizeof message), SLH_DSA_OK);
+    want(slh_dsa_sha2_sign_again(&signer, empty, 1), SLH_DSA_OK);
+    want(slh_dsa_sha2_sign_update(&signer, message, sizeof message), SLH_DSA_OK);
+    want(slh_dsa_sha2_sign_finish(&signer, key, 4 * n, signature, signature_bytes), SLH_DSA_OK);
+    return unused;
+}
+
 static void *verify_small(void *unused)
 {
     static slh_dsa_status (*const calls[])(slh_dsa_mode, const uint8_t *, const uint8_t *, size_t,
@@ -164,6 +188,8 @@ int main(void)
     good &= is_within("verify", verify, SLH_DSA_VERIFY_STACK_BYTES);
     good &= is_within("sign_digest", sign_digest, SLH_DSA_SIGN_STACK_BYTES);
     good &= is_within("verify_digest", verify_digest, SLH_DSA_VERIFY_STACK_BYTES);
+    good &= is_within("verify in pieces", verify_pieces, SLH_DSA_VERIFY_STACK_BYTES);
+    good &= is_within("sign in pieces", sign_pieces, SLH_DSA_SIGN_STACK_BYTES);
     good &= is_within("verify_small", verify_small, SLH_DSA_VERIFY_STACK_BYTES);
     good &= is_within("check_key", check_key, SLH_DSA_KEYGEN_STACK_BYTES);
     good &= is_within("audit", audit, SLH_DSA_AUDIT_STACK_BYTES);

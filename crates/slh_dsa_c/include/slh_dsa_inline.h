@@ -329,6 +329,8 @@ SLH_DSA_MUST_CHECK SLH_DSA_INLINE const char *slh_dsa_status_text(slh_dsa_status
     case SLH_DSA_UNKNOWN_SET: return "no such parameter set";
     case SLH_DSA_UNKNOWN_MODE: return "no such mode";
     case SLH_DSA_UNKNOWN_EVIDENCE: return "no such evidence";
+    case SLH_DSA_STATE: return "the state is not one of this call, key or signature";
+    case SLH_DSA_CHANGED: return "the second pass was over other bytes than the first";
     default: return "no such status";
     }
 }

@@ -6,7 +6,7 @@ ghost use Rattle.slh_dsa_c.specs.Status.{number_of_refusal};
 ghost use Rattle.slh_trees.specs.Keys.{IsTrueKey};
 
 use crate::set::write_in_set;
-use crate::status::{LENGTH, OK, number_of};
+use crate::status::{LENGTH, OK, UNKNOWN_SET, number_of};
 use hybrid_array::ArraySize;
 use slh_core::params::chain_sizes;
 use slh_dsa::SigningKey;
@@ -68,14 +68,11 @@ pub extern "C" fn slh_dsa_sha2_keygen(
     ensures same { result ≢ 0 → (key.new ≡ key.old) × (public.new ≡ public.old) }
 {
     let public_bytes = public.len();
-    let status = write_in_set(
-        set,
-        Keygen {
-            seeds,
-            public_bytes,
-        },
-        key,
-    );
+    let call = Keygen {
+        seeds,
+        public_bytes,
+    };
+    let status = write_in_set(set, call, key, UNKNOWN_SET);
     if status == OK {
         // The verifying key is the signing key's last half.
         public.copy_from_slice(&key[public_bytes..]);

@@ -19,11 +19,13 @@ mod mode;
 mod one_by_one;
 mod set;
 mod sign;
+mod sign_pieces;
 mod sizes;
 mod status;
 #[cfg(test)]
 mod tests;
 mod verify;
+mod verify_pieces;
 mod verify_set;
 
 pub use audit::{slh_dsa_sha2_audit, slh_dsa_sha2_check_evidence};
@@ -34,8 +36,15 @@ pub use evidence::CEvidence;
 pub use keygen::slh_dsa_sha2_keygen;
 pub use keys::{slh_dsa_sha2_check_key, slh_dsa_sha2_public};
 pub use sign::{slh_dsa_sha2_sign, slh_dsa_sha2_sign_deterministic};
+pub use sign_pieces::{
+    CSigner, slh_dsa_sha2_sign_again, slh_dsa_sha2_sign_begin,
+    slh_dsa_sha2_sign_begin_deterministic, slh_dsa_sha2_sign_finish, slh_dsa_sha2_sign_update,
+};
 pub use sizes::{slh_dsa_sha2_n, slh_dsa_sha2_signature_bytes};
 pub use verify::slh_dsa_sha2_verify;
+pub use verify_pieces::{
+    CVerifier, slh_dsa_sha2_verify_begin, slh_dsa_sha2_verify_finish, slh_dsa_sha2_verify_update,
+};
 pub use verify_set::{
     slh_dsa_sha2_128f_verify, slh_dsa_sha2_128f_verify_small, slh_dsa_sha2_128s_verify,
     slh_dsa_sha2_128s_verify_small, slh_dsa_sha2_192f_verify, slh_dsa_sha2_192f_verify_small,

@@ -5,8 +5,15 @@ use crate::evidence::CEvidence;
 use crate::keygen::slh_dsa_sha2_keygen;
 use crate::keys::{slh_dsa_sha2_check_key, slh_dsa_sha2_public};
 use crate::sign::{slh_dsa_sha2_sign, slh_dsa_sha2_sign_deterministic};
+use crate::sign_pieces::{
+    CSigner, slh_dsa_sha2_sign_again, slh_dsa_sha2_sign_begin,
+    slh_dsa_sha2_sign_begin_deterministic, slh_dsa_sha2_sign_finish, slh_dsa_sha2_sign_update,
+};
 use crate::sizes::{slh_dsa_sha2_n, slh_dsa_sha2_signature_bytes};
 use crate::verify::slh_dsa_sha2_verify;
+use crate::verify_pieces::{
+    CVerifier, slh_dsa_sha2_verify_begin, slh_dsa_sha2_verify_finish, slh_dsa_sha2_verify_update,
+};
 use crate::verify_set::{slh_dsa_sha2_128f_verify, slh_dsa_sha2_128f_verify_small};
 
 // A set's number, its n and the bytes of its signatures (FIPS 205, section 11, table 2).
@@ -240,4 +247,116 @@ fn a_key_tells_its_verifying_key_and_its_root(rt: HostRuntime) {
     key[63] ^= 1;
     assert!(rt; slh_dsa_sha2_check_key(SET, &key) == 4);
     assert!(rt; slh_dsa_sha2_check_key(SET, &key[1..]) == 5);
+}
+
+// The header has 92 and 100 words of eight bytes.
+#[test]
+fn states_have_the_bytes_of_the_header(rt: HostRuntime) {
+    assert!(rt; size_of::<CVerifier>() == 736 && size_of::<CSigner>() == 800);
+}
+
+// What the calls in pieces answer to a signature of the pieces, each by itself, of `mode`.
+fn verify_pieces(mode: u32, pieces: &[&[u8]], sig: &[u8]) -> (u32, u32, u32) {
+    let (_, _, public) = keys();
+    let mut verifier = CVerifier::new();
+    let begun = slh_dsa_sha2_verify_begin(&mut verifier, SET, mode, &public, b"ctx", sig);
+    let mut absorbed = 0;
+    for piece in pieces {
+        absorbed |= slh_dsa_sha2_verify_update(&mut verifier, piece);
+    }
+    (
+        begun,
+        absorbed,
+        slh_dsa_sha2_verify_finish(&mut verifier, sig),
+    )
+}
+
+#[test]
+fn a_message_in_pieces_is_verified_as_the_whole(rt: HostRuntime) {
+    for mode in [0, 1, 2] {
+        let (_, sig) = sign(mode, b"ctx", &[4; 16]);
+        assert!(rt; verify_pieces(mode, &[b"He", b"", b"llo"], &sig) == (0, 0, 0));
+        assert!(rt; verify_pieces(mode, &[b"He", b"lo"], &sig) == (0, 0, 1));
+    }
+}
+
+#[test]
+fn a_verification_in_pieces_begins_where_the_whole_is_not_refused(rt: HostRuntime) {
+    let (_, _, public) = keys();
+    let long = [0u8; 256];
+    let mut verifier = CVerifier::new();
+    assert!(rt; slh_dsa_sha2_verify_begin(&mut verifier, 7, 3, &[], &long, &[]) == 9);
+    assert!(rt; slh_dsa_sha2_verify_begin(&mut verifier, SET, 3, &[], &long, &[]) == 10);
+    assert!(rt; slh_dsa_sha2_verify_begin(&mut verifier, SET, 0, &[], &long, &[0; LEN]) == 5);
+    assert!(rt; slh_dsa_sha2_verify_begin(&mut verifier, SET, 0, &public, &long, &[0; 1]) == 5);
+    assert!(rt; slh_dsa_sha2_verify_begin(&mut verifier, SET, 0, &public, &long, &[0; LEN]) == 6);
+    assert!(rt; slh_dsa_sha2_verify_update(&mut verifier, b"") == 13);
+}
+
+#[test]
+fn a_verification_in_pieces_ends_once_and_with_its_signature(rt: HostRuntime) {
+    let (_, _, public) = keys();
+    let (_, sig) = sign(0, b"ctx", &[4; 16]);
+    let mut verifier = CVerifier::new();
+    assert!(rt; slh_dsa_sha2_verify_update(&mut verifier, b"Hello") == 13);
+    assert!(rt; slh_dsa_sha2_verify_finish(&mut verifier, &sig) == 13);
+    let (_, other) = sign(0, b"ctx", &[5; 16]);
+    assert!(rt; slh_dsa_sha2_verify_begin(&mut verifier, SET, 0, &public, b"ctx", &sig) == 0);
+    assert!(rt; slh_dsa_sha2_verify_update(&mut verifier, b"Hello") == 0);
+    assert!(rt; slh_dsa_sha2_verify_finish(&mut verifier, &other) == 13);
+    assert!(rt; slh_dsa_sha2_verify_finish(&mut verifier, &sig) == 13);
+}
+
+// Signs pieces twice, and answers what each step does, the last of them with its signature.
+fn sign_pieces(first: &[&[u8]], second: &[&[u8]]) -> (u32, u32, u32, Sig) {
+    let (_, key, _) = keys();
+    let mut signer = CSigner::new();
+    let begun = slh_dsa_sha2_sign_begin(&mut signer, SET, &key, b"ctx", &[4; 16]);
+    let mut absorbed = 0;
+    for piece in first {
+        absorbed |= slh_dsa_sha2_sign_update(&mut signer, piece);
+    }
+    absorbed |= slh_dsa_sha2_sign_again(&mut signer, b"ctx");
+    for piece in second {
+        absorbed |= slh_dsa_sha2_sign_update(&mut signer, piece);
+    }
+    let mut sig = [0u8; LEN];
+    let status = slh_dsa_sha2_sign_finish(&mut signer, &key, &mut sig);
+    (begun, absorbed, status, sig)
+}
+
+#[test]
+fn a_message_in_pieces_is_signed_as_the_whole(rt: HostRuntime) {
+    let (begun, absorbed, status, sig) = sign_pieces(&[b"He", b"", b"llo"], &[b"Hello"]);
+    assert!(rt; (begun, absorbed, status) == (0, 0, 0) && sig == sign(0, b"ctx", &[4; 16]).1);
+    let (begun, absorbed, status, sig) = sign_pieces(&[b"Hello"], &[b"Hell", b"0"]);
+    assert!(rt; (begun, absorbed, status) == (0, 0, 14) && sig == [0; LEN]);
+}
+
+#[test]
+fn signing_in_pieces_keeps_its_order_and_ends_once(rt: HostRuntime) {
+    let (_, key, _) = keys();
+    let (mut signer, mut sig) = (CSigner::new(), [7u8; LEN]);
+    assert!(rt; slh_dsa_sha2_sign_update(&mut signer, b"Hello") == 13);
+    assert!(rt; slh_dsa_sha2_sign_again(&mut signer, b"") == 13);
+    assert!(rt; slh_dsa_sha2_sign_begin(&mut signer, 0, &[], &[0; 256], &[]) == 9);
+    assert!(rt; slh_dsa_sha2_sign_begin(&mut signer, SET, &[], &[0; 256], &[]) == 5);
+    assert!(rt; slh_dsa_sha2_sign_begin(&mut signer, SET, &key, &[0; 256], &[]) == 6);
+    assert!(rt; slh_dsa_sha2_sign_begin(&mut signer, SET, &key, b"", &[]) == 7);
+    assert!(rt; slh_dsa_sha2_sign_begin_deterministic(&mut signer, SET, &key, b"") == 0);
+    assert!(rt; slh_dsa_sha2_sign_finish(&mut signer, &key, &mut sig) == 13);
+    assert!(rt; slh_dsa_sha2_sign_again(&mut signer, b"") == 13 && sig == [7; LEN]);
+}
+
+#[test]
+fn signing_in_pieces_wants_the_key_that_began_it(rt: HostRuntime) {
+    let (_, key, _) = keys();
+    let (mut signer, mut sig) = (CSigner::new(), [7u8; LEN]);
+    let mut other = key;
+    other[63] ^= 1;
+    for (bytes, status) in [(other.as_slice(), 13), (&key[1..], 5), (key.as_slice(), 0)] {
+        let begun = slh_dsa_sha2_sign_begin_deterministic(&mut signer, SET, &key, b"");
+        assert!(rt; begun == 0 && slh_dsa_sha2_sign_again(&mut signer, b"") == 0);
+        assert!(rt; slh_dsa_sha2_sign_finish(&mut signer, bytes, &mut sig) == status);
+    }
 }

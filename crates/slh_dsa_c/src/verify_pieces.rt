@@ -1,0 +1,222 @@
+//! Verifying a message that comes in pieces.
+ghost use Rattle.std.specs.Prelude.{◌≡◌, ◌≢◌, ◌*◌, ℕ, List, [], ◌++◌, length, take};
+ghost use Rattle.std.specs.Prelude.{IfOk, MatchResult, None, Err};
+ghost use Rattle.slh_dsa_c.specs.Numbers.{mode_numbered};
+ghost use Rattle.slh_dsa_c.specs.VerifyPieces.{HasOtherRandomizer, IsNone, StandsIn, Verifies};
+ghost use Rattle.slh_dsa_c.specs.VerifyPieces.{begin_number, begin_refusal, begin_status, update_number};
+ghost use Rattle.slh_dsa_c.specs.Status.{verify_number, verify_status};
+ghost use Rattle.slh_stream.specs.Suspended.{IsSuspended};
+ghost use Rattle.slh_trees.specs.Checking.{signature_size};
+ghost use Rattle.slh_trees.specs.Refusals.{RefusedExactly};
+
+use crate::mode::mode_of;
+use crate::set::read_in_set;
+use crate::status::{MESSAGE_TOO_LONG, OK, STATE, UNKNOWN_MODE, UNKNOWN_SET, number_of};
+use slh_dsa::{Error, Mode, VerifyingKey};
+use slh_sets::{OnSet, SetSuite};
+use slh_stream::{MessageVerifier, SuspendedVerifier};
+
+/// The verification of a message that comes in pieces, between two of them: numbers alone. Those
+/// that no call has written are answered by a status.
+#[repr(C)]
+#[derive(Drop)]
+pub struct CVerifier {
+    set: u32,
+    mode: u32,
+    state: SuspendedVerifier,
+}
+
+impl CVerifier {
+    /// No verification, to be written over by `slh_dsa_sha2_verify_begin`.
+    pub fn new() -> Self
+        ensures { IsNone result }
+    {
+        CVerifier {
+            set: 0,
+            mode: 0,
+            state: SuspendedVerifier::blank(),
+        }
+    }
+}
+
+// A signature whose message is to come.
+#[derive(Drop)]
+struct Begin<'a> {
+    mode: u32,
+    public: &'a [u8],
+    ctx: &'a [u8],
+    sig: &'a [u8],
+}
+
+impl<'a> Begin<'a> {
+    fn in_mode<P: SetSuite>(&self, mode: Mode) -> Result<SuspendedVerifier, Error>
+        ensures refusal { let c = self.now in RefusedExactly result
+            (begin_refusal P.scheme c.public.now c.ctx.now c.sig.now) }
+        ensures key { let c = self.now in IfOk result (λ _. length c.public.now ≡ 2 * P.scheme.n) }
+        ensures begun { let c = self.now in IfOk result (λ state. IsSuspended P.N.USIZE state mode
+            c.public.now c.ctx.now (take P.N.USIZE c.sig.now) []) }
+    {
+        let key = VerifyingKey::<P>::try_from(self.public)?;
+        let verifier = MessageVerifier::new(&key, mode, self.ctx, self.sig)?;
+        Ok(SuspendedVerifier::new(verifier))
+    }
+}
+
+impl<'a> OnSet for Begin<'a> {
+    type Out = Result<SuspendedVerifier, u32>;
+
+    ghost gives = { λ c Z _ result. let number = begin_number Z c.mode c.public.now c.ctx.now
+        c.sig.now in MatchResult result
+        (λ state. (number ≡ 0) × StandsIn Z c.mode state c.public.now c.ctx.now c.sig.now [])
+        (λ e. (e ≡ number) × (e ≢ 0)) };
+
+    fn on<P: SetSuite>(self) -> Result<SuspendedVerifier, u32> {
+        match mode_of(self.mode) {
+            Some(mode) => match self.in_mode::<P>(mode) {
+                Ok(state) => Ok(state),
+                Err(error) => Err(number_of(error)),
+            },
+            None => Err(UNKNOWN_MODE),
+        }
+    }
+}
+
+/// Begins to verify a signature of a message that comes in pieces, with a context.
+#[unsafe(no_mangle)]
+pub extern "C" fn slh_dsa_sha2_verify_begin(
+    verifier: &mut CVerifier,
+    set: u32,
+    mode: u32,
+    public: &[u8],
+    ctx: &[u8],
+    sig: &[u8],
+) -> u32
+    ensures status { result ≡ begin_status set mode public.now ctx.now sig.now }
+    ensures chosen { result ≡ 0 → (verifier.new.set ≡ set) × (verifier.new.mode ≡ mode) }
+    ensures begun { result ≡ 0 → Verifies verifier.new public.now ctx.now sig.now [] }
+    ensures same { result ≢ 0 → verifier.new ≡ verifier.old }
+{
+    let call = Begin {
+        mode,
+        public,
+        ctx,
+        sig,
+    };
+    match read_in_set(set, call, Err(UNKNOWN_SET)) {
+        Ok(state) => {
+            *verifier = CVerifier { set, mode, state };
+            OK
+        }
+        Err(number) => number,
+    }
+}
+
+// A piece of a message.
+#[derive(Drop)]
+struct Update<'a> {
+    mode: u32,
+    state: SuspendedVerifier,
+    piece: &'a [u8],
+}
+
+impl<'a> OnSet for Update<'a> {
+    type Out = Result<SuspendedVerifier, u32>;
+
+    ghost gives = { λ c Z _ result.
+        ((key context sig m : List ℕ) → StandsIn Z c.mode c.state key context sig m
+        → MatchResult result
+        (λ state. (update_number (m ++ c.piece.now) ≡ 0)
+        × StandsIn Z c.mode state key context sig (m ++ c.piece.now))
+        (λ e. e ≡ update_number (m ++ c.piece.now)))
+        × (mode_numbered c.mode ≡ None → result ≡ Err 13)
+        × MatchResult result (λ _. Unit {0}) (λ e. e ≢ 0) };
+
+    fn on<P: SetSuite>(self) -> Result<SuspendedVerifier, u32> {
+        let Some(mode) = mode_of(self.mode) else {
+            return Err(STATE);
+        };
+        let mut state = self.state;
+        match state.update::<P>(mode, self.piece) {
+            Some(Ok(())) => Ok(state),
+            Some(Err(_)) => Err(MESSAGE_TOO_LONG),
+            None => Err(STATE),
+        }
+    }
+}
+
+/// Absorbs a piece of the message, after those before.
+#[unsafe(no_mangle)]
+pub extern "C" fn slh_dsa_sha2_verify_update(verifier: &mut CVerifier, piece: &[u8]) -> u32
+    ensures status { (key context sig m : List ℕ) → Verifies verifier.old key context sig m
+        → result ≡ update_number (m ++ piece.now) }
+    ensures joins { (key context sig m : List ℕ) → Verifies verifier.old key context sig m
+        → result ≡ 0 → Verifies verifier.new key context sig (m ++ piece.now) }
+    ensures chosen { (verifier.new.set ≡ verifier.old.set)
+        × (verifier.new.mode ≡ verifier.old.mode) }
+    ensures unknown { IsNone verifier.old → result ≡ 13 }
+    ensures same { result ≢ 0 → verifier.new ≡ verifier.old }
+{
+    let call = Update {
+        mode: verifier.mode,
+        state: verifier.state.copy(),
+        piece,
+    };
+    match read_in_set(verifier.set, call, Err(STATE)) {
+        Ok(state) => {
+            verifier.state = state;
+            OK
+        }
+        Err(number) => number,
+    }
+}
+
+// A verification whose message has come.
+#[derive(Drop)]
+struct Finish<'a> {
+    mode: u32,
+    state: SuspendedVerifier,
+    sig: &'a [u8],
+}
+
+impl<'a> OnSet for Finish<'a> {
+    type Out = u32;
+
+    ghost gives = { λ c Z _ result.
+        ((key context m : List ℕ) → StandsIn Z c.mode c.state key context c.sig.now m
+        → result ≡ verify_number Z c.mode key context m c.sig.now)
+        × ((key context sig m : List ℕ) → StandsIn Z c.mode c.state key context sig m
+        → length c.sig.now ≡ signature_size Z → take Z.n c.sig.now ≢ take Z.n sig → result ≡ 13)
+        × (mode_numbered c.mode ≡ None → result ≡ 13) };
+
+    fn on<P: SetSuite>(self) -> u32 {
+        let Some(mode) = mode_of(self.mode) else {
+            return STATE;
+        };
+        match self.state.finish::<P>(mode, self.sig) {
+            Some(Ok(())) => OK,
+            Some(Err(error)) => number_of(error),
+            None => STATE,
+        }
+    }
+}
+
+/// Answers what `slh_dsa_sha2_verify` does for the message that was absorbed. The signature is
+/// handed in a second time, and the verifier is used up.
+#[unsafe(no_mangle)]
+pub extern "C" fn slh_dsa_sha2_verify_finish(verifier: &mut CVerifier, sig: &[u8]) -> u32
+    ensures status { (key context m : List ℕ) → Verifies verifier.old key context sig.now m
+        → result ≡ verify_status verifier.old.set verifier.old.mode key context m sig.now }
+    ensures other { (key context begun m : List ℕ) → Verifies verifier.old key context begun m
+        → HasOtherRandomizer verifier.old.set sig.now begun → result ≡ 13 }
+    ensures unknown { IsNone verifier.old → result ≡ 13 }
+    ensures spent { IsNone verifier.new }
+{
+    let call = Finish {
+        mode: verifier.mode,
+        state: verifier.state.copy(),
+        sig,
+    };
+    let status = read_in_set(verifier.set, call, STATE);
+    *verifier = CVerifier::new();
+    status
+}
