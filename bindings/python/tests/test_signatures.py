@@ -6,7 +6,16 @@ import mmap
 import threading
 import unittest
 
-from slh_dsa import PARAMETER_SETS, InvalidSignature, SigningKey, VerifyingKey
+from slh_dsa import (
+    PARAMETER_SETS,
+    ContextTooLongError,
+    InvalidSignature,
+    LengthError,
+    SigningKey,
+    StateError,
+    UnknownPrehashError,
+    VerifyingKey,
+)
 from support import DATA, FAST, bent, known_key, n_of
 
 # What the known answers are of, by examples/data/README.md.
@@ -66,6 +75,47 @@ class RoundTrips(unittest.TestCase):
         key = known_key(FAST)
         self.assertNotEqual(key.sign(b"m"), key.sign(b"m"))
         self.assertEqual(key.sign(b"m", deterministic=True), key.sign(b"m", deterministic=True))
+
+
+class Pieces(unittest.TestCase):
+    """Messages in pieces against the calls for the whole."""
+
+    MESSAGE = bytes(range(256)) * 2
+
+    def verified(self, key, signature, pieces, **options):
+        verifier = key.verifying_key.verifier(signature, **options)
+        for piece in pieces:
+            verifier.update(piece)
+        verifier.verify()
+        return verifier
+
+    def test_each_cut_is_verified_as_the_whole(self):
+        for name in (FAST, "SLH-DSA-SHA2-192f"):
+            key = known_key(name)
+            for prehash in (None, "sha256", "sha512"):
+                options = {"context": b"context", "prehash": prehash}
+                signature = key.sign(self.MESSAGE, **options)
+                for cut in (0, 1, 63, 64, 127, 128, 300, len(self.MESSAGE)):
+                    pieces = self.MESSAGE[:cut], memoryview(self.MESSAGE)[cut:]
+                    self.verified(key, signature, pieces, **options)
+                with self.assertRaises(InvalidSignature):
+                    self.verified(key, signature, (self.MESSAGE[1:],), **options)
+
+    def test_a_verifier_is_used_once(self):
+        key = known_key(FAST)
+        verifier = self.verified(key, key.sign(b"m"), (b"m",))
+        for call in (verifier.verify, lambda: verifier.update(b"")):
+            with self.assertRaises(StateError):
+                call()
+
+    def test_what_can_not_begin_is_refused(self):
+        public, signature = known_key(FAST).verifying_key, known_key(FAST).sign(b"m")
+        with self.assertRaises(LengthError):
+            public.verifier(signature[1:])
+        with self.assertRaises(ContextTooLongError):
+            public.verifier(signature, context=bytes(256))
+        with self.assertRaises(UnknownPrehashError):
+            public.verifier(signature, prehash="sha3")
 
 
 class Verifying(unittest.TestCase):

@@ -34,6 +34,11 @@ pub enum Error {
     UnknownMode,
     /// No evidence has this kind. No call of this crate gives one.
     UnknownEvidence,
+    /// The state isn't one of this call, key or signature. No call of this crate gives one.
+    State,
+    /// [`SecondPass::finish`](crate::SecondPass::finish): the second pass was over other bytes than
+    /// the first.
+    Changed,
     /// The system gave no random bytes. No status of the library.
     NoRandom,
     /// A status that this crate doesn't know.
@@ -56,6 +61,8 @@ impl Error {
             Error::UnknownSet => Some(9),
             Error::UnknownMode => Some(10),
             Error::UnknownEvidence => Some(11),
+            Error::State => Some(13),
+            Error::Changed => Some(14),
             Error::NoRandom => None,
             Error::Unknown(status) => Some(status),
         }
@@ -84,6 +91,8 @@ impl Error {
             9 => Error::UnknownSet,
             10 => Error::UnknownMode,
             11 => Error::UnknownEvidence,
+            13 => Error::State,
+            14 => Error::Changed,
             _ => Error::Unknown(status),
         })
     }
@@ -103,6 +112,8 @@ impl fmt::Display for Error {
             Error::UnknownSet => "no such parameter set",
             Error::UnknownMode => "no such mode",
             Error::UnknownEvidence => "no such evidence",
+            Error::State => "the state is not one of this call, key or signature",
+            Error::Changed => "the second pass was over other bytes than the first",
             Error::NoRandom => "the system gave no random bytes",
             Error::Unknown(_) => "no such status",
         })
@@ -151,7 +162,7 @@ mod tests {
     #[test]
     fn each_status_of_the_header_has_its_variant() {
         let statuses = statuses();
-        assert!(statuses.len() >= 12);
+        assert!(statuses.len() >= 14);
         assert_eq!(statuses[0], ("OK".to_owned(), 0));
         for (name, number) in &statuses[1..] {
             let error = Error::of_audit(*number, Some(Evidence::ForsRoots)).unwrap_err();

@@ -26,6 +26,41 @@ pub(crate) struct RawEvidence {
     pub(crate) level: u32,
 }
 
+/// `slh_dsa_verifier`: a verification between two pieces of its message.
+#[repr(C)]
+#[derive(Clone)]
+pub(crate) struct RawVerifier {
+    words: [u64; 92],
+}
+
+/// `slh_dsa_signer`: a signing between two pieces of its message. It is secret.
+#[repr(C)]
+pub(crate) struct RawSigner {
+    words: [u64; 100],
+}
+
+impl RawVerifier {
+    pub(crate) fn new() -> RawVerifier {
+        RawVerifier { words: [0; 92] }
+    }
+}
+
+impl RawSigner {
+    pub(crate) fn new() -> RawSigner {
+        RawSigner { words: [0; 100] }
+    }
+}
+
+impl Drop for RawSigner {
+    fn drop(&mut self) {
+        for word in &mut self.words {
+            // Safety: a word that is borrowed alone may be written.
+            unsafe { ptr::write_volatile(word, 0) };
+        }
+        compiler_fence(Ordering::SeqCst);
+    }
+}
+
 /// What is signed, verified or audited: a message or its digest, under the bytes of a key.
 #[derive(Clone, Copy)]
 pub(crate) struct Job<'a> {
@@ -50,7 +85,7 @@ impl<'a> Job<'a> {
 /// The declarations of `slh_dsa.h`, in its order.
 #[rustfmt::skip]
 mod c {
-    use super::{RawEvidence, Status};
+    use super::{RawEvidence, RawSigner, RawVerifier, Status};
 
     extern "C" {
         #[cfg(test)]
@@ -100,6 +135,55 @@ mod c {
             message: *const u8, message_bytes: usize,
             context: *const u8, context_bytes: usize,
             signature: *const u8, signature_bytes: usize,
+        ) -> Status;
+
+        pub(super) fn slh_dsa_sha2_verify_begin(
+            verifier: *mut RawVerifier,
+            set: u32, mode: u32,
+            verifying_key: *const u8, verifying_key_bytes: usize,
+            context: *const u8, context_bytes: usize,
+            signature: *const u8, signature_bytes: usize,
+        ) -> Status;
+
+        pub(super) fn slh_dsa_sha2_verify_update(
+            verifier: *mut RawVerifier,
+            piece: *const u8, piece_bytes: usize,
+        ) -> Status;
+
+        pub(super) fn slh_dsa_sha2_verify_finish(
+            verifier: *mut RawVerifier,
+            signature: *const u8, signature_bytes: usize,
+        ) -> Status;
+
+        pub(super) fn slh_dsa_sha2_sign_begin(
+            signer: *mut RawSigner,
+            set: u32,
+            signing_key: *const u8, signing_key_bytes: usize,
+            context: *const u8, context_bytes: usize,
+            randomizer: *const u8, randomizer_bytes: usize,
+        ) -> Status;
+
+        pub(super) fn slh_dsa_sha2_sign_begin_deterministic(
+            signer: *mut RawSigner,
+            set: u32,
+            signing_key: *const u8, signing_key_bytes: usize,
+            context: *const u8, context_bytes: usize,
+        ) -> Status;
+
+        pub(super) fn slh_dsa_sha2_sign_update(
+            signer: *mut RawSigner,
+            piece: *const u8, piece_bytes: usize,
+        ) -> Status;
+
+        pub(super) fn slh_dsa_sha2_sign_again(
+            signer: *mut RawSigner,
+            context: *const u8, context_bytes: usize,
+        ) -> Status;
+
+        pub(super) fn slh_dsa_sha2_sign_finish(
+            signer: *mut RawSigner,
+            signing_key: *const u8, signing_key_bytes: usize,
+            signature: *mut u8, signature_bytes: usize,
         ) -> Status;
 
         pub(super) fn slh_dsa_sha2_sign_digest(
@@ -217,6 +301,52 @@ pub(crate) fn verify(job: &Job<'_>, signature: &[u8]) -> Status {
 pub(crate) fn verify_digest(job: &Job<'_>, signature: &[u8]) -> Status {
     let Job { set, mode, key, signed, context } = *job;
     call!(slh_dsa_sha2_verify_digest, set, mode; key, signed, context, signature;;)
+}
+
+/// Begins to verify; the job's message is to come, and isn't looked at.
+pub(crate) fn verify_begin(
+    verifier: &mut RawVerifier,
+    job: &Job<'_>,
+    signature: &[u8],
+) -> Status {
+    let Job { set, mode, key, context, .. } = *job;
+    call!(slh_dsa_sha2_verify_begin, verifier, set, mode; key, context, signature;;)
+}
+
+pub(crate) fn verify_update(verifier: &mut RawVerifier, piece: &[u8]) -> Status {
+    call!(slh_dsa_sha2_verify_update, verifier; piece;;)
+}
+
+pub(crate) fn verify_finish(verifier: &mut RawVerifier, signature: &[u8]) -> Status {
+    call!(slh_dsa_sha2_verify_finish, verifier; signature;;)
+}
+
+/// Begins to sign, by the deterministic variant without a randomizer; the job's message and mode
+/// aren't looked at.
+pub(crate) fn sign_begin(
+    signer: &mut RawSigner,
+    job: &Job<'_>,
+    randomizer: Option<&[u8]>,
+) -> Status {
+    let Job { set, key, context, .. } = *job;
+    match randomizer {
+        Some(randomizer) => {
+            call!(slh_dsa_sha2_sign_begin, signer, set; key, context, randomizer;;)
+        }
+        None => call!(slh_dsa_sha2_sign_begin_deterministic, signer, set; key, context;;),
+    }
+}
+
+pub(crate) fn sign_update(signer: &mut RawSigner, piece: &[u8]) -> Status {
+    call!(slh_dsa_sha2_sign_update, signer; piece;;)
+}
+
+pub(crate) fn sign_again(signer: &mut RawSigner, context: &[u8]) -> Status {
+    call!(slh_dsa_sha2_sign_again, signer; context;;)
+}
+
+pub(crate) fn sign_finish(signer: &mut RawSigner, key: &[u8], signature: &mut [u8]) -> Status {
+    call!(slh_dsa_sha2_sign_finish, signer; key; signature;)
 }
 
 pub(crate) fn audit(job: &Job<'_>, signature: &[u8], evidence: &mut RawEvidence) -> Status {

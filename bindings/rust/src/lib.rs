@@ -19,6 +19,9 @@
 //! the library proves is proved of the calls in C: this crate hands its arguments over, and is
 //! tested and not proved.
 //!
+//! **In pieces.** [`VerifyingKey::verify_pieces`] and [`SigningKey::sign_pieces`] take a message of any
+//! size piece by piece, as writers do.
+//!
 //! **Secrets.** The library is not constant-time. A [`SigningKey`] lies on the heap, and its bytes
 //! are cleared when it is dropped, as are the random bytes that were made for it. What a caller
 //! copies isn't ([`SigningKey::to_bytes`]), nor is the stack of a call.
@@ -38,6 +41,7 @@ mod error;
 mod evidence;
 mod ffi;
 mod mode;
+mod pieces;
 mod random;
 mod secret;
 mod set;
@@ -50,6 +54,7 @@ mod verifying_key;
 pub use error::Error;
 pub use evidence::Evidence;
 pub use mode::Mode;
+pub use pieces::{FirstPass, MessageVerifier, SecondPass};
 pub use set::{
     Bytes, ParameterSet, Sha2_128f, Sha2_128s, Sha2_192f, Sha2_192s, Sha2_256f, Sha2_256s,
 };

@@ -6,6 +6,7 @@ use crate::error::Error;
 use crate::evidence::Evidence;
 use crate::ffi::{self, Job, RawEvidence};
 use crate::mode::Mode;
+use crate::pieces::FirstPass;
 use crate::random;
 use crate::secret::Secret;
 use crate::set::{Bytes, ParameterSet};
@@ -156,6 +157,20 @@ impl<P: ParameterSet> SigningKey<P> {
         self.sign_in_mode(mode, msg, ctx, Some(randomizer.bytes()))
     }
 
+    /// Begins to sign a message that comes in pieces, twice, as it is ([`Mode::Pure`]): with n
+    /// fresh random bytes, or without any by the deterministic variant. Sign the digest of what comes
+    /// once alone: [`sign_digest`](SigningKey::sign_digest).
+    ///
+    /// # Errors
+    /// [`Error::ContextTooLong`], [`Error::RandomizerLength`]
+    pub fn sign_pieces(
+        &self,
+        ctx: &[u8],
+        opt_rand: Option<&[u8]>,
+    ) -> Result<FirstPass<'_, P>, Error> {
+        FirstPass::new(self, &self.job(Mode::Pure, &[], ctx), ctx, opt_rand)
+    }
+
     /// Tells whether the key made a signature that it accepts.
     ///
     /// # Errors
@@ -187,6 +202,10 @@ impl<P: ParameterSet> SigningKey<P> {
     ) -> Result<(), Error> {
         let (job, evidence) = (self.job(mode, msg, ctx), evidence.to_raw());
         Error::of(ffi::check_evidence(&job, signature.as_ref(), &evidence))
+    }
+
+    pub(crate) fn secret_bytes(&self) -> &[u8] {
+        self.secret.bytes()
     }
 
     fn job<'a>(&'a self, mode: Mode, signed: &'a [u8], context: &'a [u8]) -> Job<'a> {

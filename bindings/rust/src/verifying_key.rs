@@ -5,6 +5,7 @@ use std::fmt;
 use crate::error::Error;
 use crate::ffi;
 use crate::mode::Mode;
+use crate::pieces::MessageVerifier;
 use crate::set::{array_of, ParameterSet};
 use crate::signature_bytes::Signature;
 
@@ -57,6 +58,20 @@ impl<P: ParameterSet> VerifyingKey<P> {
     ) -> Result<(), Error> {
         let job = ffi::Job::of::<P>(mode, self.bytes.as_ref(), msg, ctx);
         Error::of(ffi::verify(&job, signature.as_ref()))
+    }
+
+    /// Begins to verify a signature of a message that comes in pieces, in a mode.
+    ///
+    /// # Errors
+    /// [`Error::ContextTooLong`]
+    pub fn verify_pieces<'s>(
+        &self,
+        mode: Mode,
+        ctx: &[u8],
+        signature: &'s Signature<P>,
+    ) -> Result<MessageVerifier<'s, P>, Error> {
+        let job = ffi::Job::of::<P>(mode, self.bytes.as_ref(), &[], ctx);
+        MessageVerifier::new(&job, signature)
     }
 
     /// Verifies by the digest of a message that was hashed elsewhere (algorithm 25).

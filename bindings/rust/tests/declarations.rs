@@ -24,6 +24,8 @@ fn in_rust(parameter: &str) -> String {
         ("size_t", false) => "usize",
         ("const uint8_t", true) => "*const u8",
         ("uint8_t", true) => "*mut u8",
+        ("slh_dsa_verifier", true) => "*mut RawVerifier",
+        ("slh_dsa_signer", true) => "*mut RawSigner",
         ("slh_dsa_evidence", true) => "*mut RawEvidence",
         ("const slh_dsa_evidence", true) => "*const RawEvidence",
         _ => panic!("another parameter: {parameter}"),
@@ -36,7 +38,7 @@ fn functions_have_the_parameters_of_the_header() {
     let ours = declarations(OURS, "pub(super) fn slh_dsa_sha2_");
     let mut theirs = declarations(HEADER, "slh_dsa_status slh_dsa_sha2_");
     theirs.extend(declarations(HEADER, "size_t slh_dsa_sha2_"));
-    assert!(ours.len() >= 13, "{} declarations", ours.len());
+    assert!(ours.len() >= 21, "{} declarations", ours.len());
     for (name, parameters) in ours {
         let theirs = theirs.get(name).unwrap_or_else(|| panic!("the header has no {name}"));
         let wanted: Vec<String> = theirs.iter().map(|one| in_rust(one)).collect();
@@ -53,6 +55,14 @@ fn structures_have_the_sizes_of_the_header() {
     assert_eq!(names, ["kind;", "layer;", "index;", "level;"]);
     for name in names {
         assert!(OURS.contains(&format!("pub(crate) {}: u32,", name.trim_end_matches(';'))));
+    }
+    for (theirs, ours) in [("slh_dsa_verifier", "RawVerifier"), ("slh_dsa_signer", "RawSigner")] {
+        let words = |text: &str, begin: &str| {
+            let rest = text.split(begin).nth(1).expect("a state").trim_start().to_owned();
+            rest.split(|c: char| !c.is_ascii_digit()).next().map(str::to_owned)
+        };
+        let theirs = words(HEADER, &format!("typedef struct {theirs} {{\n    uint64_t words["));
+        assert_eq!(words(OURS, &format!("struct {ours} {{\n    words: [u64;")), theirs);
     }
 }
 

@@ -9,6 +9,7 @@ A call runs beside other threads, each of which needs 112 kB of stack.
 """
 
 from ._errors import (
+    ChangedError,
     ContextTooLongError,
     InvalidSignature,
     KeyMismatchError,
@@ -18,28 +19,33 @@ from ._errors import (
     RandomizerLengthError,
     Refused,
     SlhDsaError,
+    StateError,
     UnknownEvidenceError,
     UnknownPrehashError,
     UnknownSetError,
 )
 from ._keys import EVIDENCE_KINDS, Evidence, SigningKey, VerifyingKey
+from ._pieces import MessageVerifier
 from ._sets import PARAMETER_SETS
 from ._version import __version__
 
 __all__ = [
     "EVIDENCE_KINDS",
     "PARAMETER_SETS",
+    "ChangedError",
     "ContextTooLongError",
     "Evidence",
     "InvalidSignature",
     "KeyMismatchError",
     "LengthError",
     "MessageTooLongError",
+    "MessageVerifier",
     "PemError",
     "RandomizerLengthError",
     "Refused",
     "SigningKey",
     "SlhDsaError",
+    "StateError",
     "UnknownEvidenceError",
     "UnknownPrehashError",
     "UnknownSetError",

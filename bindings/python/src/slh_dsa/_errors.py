@@ -82,6 +82,20 @@ class UnknownEvidenceError(Refused):
     text = "there is no such evidence"
 
 
+class StateError(Refused):
+    """A state in pieces was never begun, or was finished, or is of another key or signature."""
+
+    status = 13
+    text = "the state is not one of this call, key or signature"
+
+
+class ChangedError(Refused):
+    """The second pass of signing was over other bytes than the first."""
+
+    status = 14
+    text = "the second pass was over other bytes than the first"
+
+
 class PemError(Refused):
     """A text isn't a key in PEM as it is wanted."""
 

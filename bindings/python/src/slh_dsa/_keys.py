@@ -21,6 +21,7 @@ from ._library import (
     done,
     status_of,
 )
+from ._pieces import MessageVerifier
 from ._sets import Parameters, Prehash, mode_of, parameters_of
 
 EVIDENCE_KINDS = ("fors-node", "fors-roots", "chain-step", "leaf", "tree-node", "early")
@@ -122,6 +123,16 @@ class VerifyingKey:
             return
         with message_of(source) as message:
             self._verify("verify", signature, message, context, None)
+
+    def verifier(
+        self,
+        signature: BytesLike,
+        *,
+        context: BytesLike = b"",
+        prehash: Prehash | None = None,
+    ) -> MessageVerifier:
+        """A verifier of a message that comes in pieces, from a socket say."""
+        return MessageVerifier(self._parameters, self._key, signature, context, prehash)
 
     def _verify(
         self,

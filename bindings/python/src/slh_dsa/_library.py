@@ -49,6 +49,12 @@ class EvidenceStructure(ctypes.Structure):
     _fields_ = [(name, ctypes.c_uint32) for name in ("kind", "layer", "index", "level")]
 
 
+class VerifierStructure(ctypes.Structure):
+    """`slh_dsa_verifier` of slh_dsa.h."""
+
+    _fields_ = [("words", ctypes.c_uint64 * 92)]
+
+
 _view = ctypes.POINTER(_View)
 _borrow = ctypes.PYFUNCTYPE(ctypes.c_int, ctypes.py_object, _view, ctypes.c_int)(
     ("PyObject_GetBuffer", ctypes.pythonapi)
@@ -64,9 +70,13 @@ def interface_of(version: str) -> str:
 
 
 def _declared(library: ctypes.CDLL) -> dict[str, Any]:
-    """The calls, by their names without the prefix: each takes numbers, then buffers."""
+    """The calls, by their names without the prefix: each takes numbers, then buffers.
+
+    Those in pieces take a state before the numbers.
+    """
     number, size = ctypes.c_uint32, ctypes.c_size_t
     evidence = [ctypes.POINTER(EvidenceStructure)]
+    verifier = [ctypes.POINTER(VerifierStructure)]
     calls: dict[str, tuple[Any, int, int, list[Any]]] = {
         "n": (size, 1, 0, []),
         "signature_bytes": (size, 1, 0, []),
@@ -82,12 +92,20 @@ def _declared(library: ctypes.CDLL) -> dict[str, Any]:
         "audit": (number, 2, 4, evidence),
         "check_evidence": (number, 2, 4, evidence),
     }
+    in_pieces = {"verify_begin": (2, 3), "verify_update": (0, 1), "verify_finish": (0, 1)}
     declared = {}
-    for name, (result, numbers, buffers, more) in calls.items():
+
+    def declare(name: str, result: Any, arguments: list[Any]) -> None:
         call = getattr(library, _PREFIX + name)
         call.restype = result
-        call.argtypes = [number] * numbers + [ctypes.c_void_p, size] * buffers + more
+        call.argtypes = arguments
         declared[name] = call
+
+    for name, (result, numbers, buffers, more) in calls.items():
+        declare(name, result, [number] * numbers + [ctypes.c_void_p, size] * buffers + more)
+    for name, (numbers, buffers) in in_pieces.items():
+        arguments = verifier + [number] * numbers + [ctypes.c_void_p, size] * buffers
+        declare(name, number, arguments)
     return declared
 
 
@@ -115,7 +133,7 @@ _calls = _loaded()
 
 def status_of(
     name: str,
-    numbers: Iterable[int],
+    numbers: Iterable[Any],
     inputs: Sequence[BytesLike],
     outputs: Sequence[bytearray] = (),
     *more: Any,
@@ -139,7 +157,7 @@ def status_of(
 
 def done(
     name: str,
-    numbers: Iterable[int],
+    numbers: Iterable[Any],
     inputs: Sequence[BytesLike],
     outputs: Sequence[bytearray] = (),
 ) -> None:
