@@ -1,12 +1,13 @@
-//! Hashes, signs and verifies a message of pieces of 64 KiB, and writes a line after each step.
-//! `examples/hash_rates` takes the times between the lines. The word is the number of pieces.
+//! Hashes, signs and verifies a message of pieces of 64 KiB, and writes a line after each step, where
+//! the word is the number of pieces. Where it is `sha256` or `sha512`, hashes standard input, and writes
+//! the digest. `examples/hash_rates` takes the times.
 #![tactic(auto)]
 
 ghost use Rattle.std.specs.Prelude.{◌≤◌, IfSome};
 
 use hmac_sha256::Hash;
-use line_serve::decimal_value;
-use line_stdio::words_of;
+use line_serve::{Source, decimal_value};
+use line_stdio::{StdSource, words_of};
 use sha512_lanes::Hash512;
 use slh_core::pieces::MessageSuite;
 use slh_dsa::{Error, Mode, ParameterSet, Sha2_128f, Sha2_192f, SigningKey, VerifyingKey};
@@ -89,12 +90,11 @@ fn hash_both(rt: &HostRuntime, piece: &[u8; PIECE_LEN], pieces: u32) -> Option<(
     println!(rt; "sha512 {first}").ok()
 }
 
-// The number of pieces that the words ask for.
-fn count_of(rt: &HostRuntime) -> Option<u32>
+// The number of pieces that a word asks for.
+fn count_of(word: &[u8]) -> Option<u32>
     ensures { IfSome result (λ count. count ≤ MAX_PIECES) }
 {
-    let words = words_of(rt).ok()?;
-    let count = decimal_value(words.get(0)?, 7, MAX_PIECES)?;
+    let count = decimal_value(word, 7, MAX_PIECES)?;
     Some(count as u32)
 }
 
@@ -108,12 +108,58 @@ fn all_steps(rt: &HostRuntime, pieces: u32) -> Option<bool>
     Some(category_1 && category_3)
 }
 
+// The SHA-256 of what a source gives.
+fn hashed_source<S: Source>(source: &mut S) -> Option<[u8; 32]> {
+    let mut hash = Hash::new();
+    let mut store = [0; PIECE_LEN];
+    'pieces: for i in 0..u32::MAX {
+        match source.read(&mut store).ok()? {
+            0 => return Some(hash.finalize()),
+            count => hash.update(&store[..count]),
+        }
+    }
+    None
+}
+
+// Its SHA-512.
+fn hashed_source_512<S: Source>(source: &mut S) -> Option<[u8; 64]> {
+    let mut hash = Hash512::new();
+    let mut store = [0; PIECE_LEN];
+    for _i in 0..u32::MAX {
+        match source.read(&mut store).ok()? {
+            0 => return Some(hash.finalize()),
+            count => hash.update(&store[..count]),
+        }
+    }
+    None
+}
+
+fn write_digest(rt: &HostRuntime, digest: &[u8]) -> Option<bool> {
+    let text = hex::encode(rt.alloc(), digest).ok()?;
+    println!(rt; "{text}").ok()?;
+    Some(true)
+}
+
+fn run_word(rt: &HostRuntime, word: &[u8]) -> Option<bool> {
+    let mut source = StdSource::new(rt.reader());
+    match word {
+        b"sha256" => write_digest(rt, &hashed_source(&mut source)?),
+        b"sha512" => write_digest(rt, &hashed_source_512(&mut source)?),
+        _ => all_steps(rt, count_of(word)?),
+    }
+}
+
 fn main(rt: HostRuntime) -> ExitCode {
-    let Some(pieces) = count_of(&rt) else {
-        return ExitCode::from(2);
+    let Ok(words) = words_of(&rt) else {
+        return ExitCode::from(1);
     };
-    match all_steps(&rt, pieces) {
+    let done = match words.get(0) {
+        Some(word) => run_word(&rt, word),
+        None => None,
+    };
+    match done {
         Some(true) => ExitCode::SUCCESS,
-        _ => ExitCode::from(1),
+        Some(false) => ExitCode::from(1),
+        None => ExitCode::from(2),
     }
 }
