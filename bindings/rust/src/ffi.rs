@@ -304,11 +304,7 @@ pub(crate) fn verify_digest(job: &Job<'_>, signature: &[u8]) -> Status {
 }
 
 /// Begins to verify; the job's message is to come, and isn't looked at.
-pub(crate) fn verify_begin(
-    verifier: &mut RawVerifier,
-    job: &Job<'_>,
-    signature: &[u8],
-) -> Status {
+pub(crate) fn verify_begin(verifier: &mut RawVerifier, job: &Job<'_>, signature: &[u8]) -> Status {
     let Job { set, mode, key, context, .. } = *job;
     call!(slh_dsa_sha2_verify_begin, verifier, set, mode; key, context, signature;;)
 }

@@ -59,6 +59,10 @@ fn keys_and_seeds_are_cleared() {
     let read = || SigningKey::<Sha2_128f>::try_from(key().to_bytes().as_slice());
     assert_eq!(found_in(|| drop(read())), 0);
     assert_eq!(found_in(|| drop(key().try_sign_with_context(b"m", b"", None))), 0);
+    let begun = || drop(key().sign_pieces(b"", None).map(drop));
+    assert_eq!(found_in(begun), 0);
+    let turned = || drop(key().sign_pieces(b"", None).and_then(|pass| pass.again().map(drop)));
+    assert_eq!(found_in(turned), 0);
     let refused = || key().try_sign_with_context(b"m", &SECRETS[0].repeat(16), None);
     assert_eq!(found_in(|| assert_eq!(refused().err(), Some(Error::ContextTooLong))), 1);
 }
