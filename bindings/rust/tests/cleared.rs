@@ -4,7 +4,7 @@ use std::alloc::{GlobalAlloc, Layout, System};
 use std::slice;
 use std::sync::atomic::{AtomicUsize, Ordering};
 
-use slh_dsa_verified::{Error, Sha2_128f, SigningKey};
+use slh_dsa_verified::{Error, FirstPass, Sha2_128f, SigningKey};
 
 /// The secret seed and the PRF key of the key that is made.
 const SECRETS: [[u8; 16]; 2] = [*b"a secret seed 16", *b"a PRF key of 16."];
@@ -59,9 +59,9 @@ fn keys_and_seeds_are_cleared() {
     let read = || SigningKey::<Sha2_128f>::try_from(key().to_bytes().as_slice());
     assert_eq!(found_in(|| drop(read())), 0);
     assert_eq!(found_in(|| drop(key().try_sign_with_context(b"m", b"", None))), 0);
-    let begun = || drop(key().sign_pieces(b"", None).map(drop));
+    let begun = || assert!(key().sign_pieces(b"", None).is_ok());
     assert_eq!(found_in(begun), 0);
-    let turned = || drop(key().sign_pieces(b"", None).and_then(|pass| pass.again().map(drop)));
+    let turned = || assert!(key().sign_pieces(b"", None).and_then(FirstPass::again).is_ok());
     assert_eq!(found_in(turned), 0);
     let refused = || key().try_sign_with_context(b"m", &SECRETS[0].repeat(16), None);
     assert_eq!(found_in(|| assert_eq!(refused().err(), Some(Error::ContextTooLong))), 1);
