@@ -1,6 +1,6 @@
 -- What becomes of the bytes that a reader gives. `left` is what it has left, where that is known,
 -- and `stands` what an absorber stands for.
-use Rattle.std.specs.Prelude.{◌≡◌, ℕ, List, [], ◌++◌, ⊤, Option, IfSome, Result, Ok, Err}
+use Rattle.std.specs.Prelude.{◌≡◌, ℕ, List, [], ◌++◌, ⊤, Option, Some, IfSome, Result, Ok, Err}
 use Rattle.std.specs.Io.KnownBytes.{Consumes, IsAtEnd}
 use Rattle.slh_readers.specs.Terms.{Terms}
 use Rattle.slh_readers.specs.declared.error.ReadError.{ReadError}
