@@ -13,6 +13,7 @@ use Rattle.slh_run.specs.declared.job.Error.{Error}
 use Rattle.slh_run.specs.declared.job.Error.TheVariants.{Length, Memory}
 use Rattle.slh_run.specs.declared.job.Job.TheVariants.{Sign}
 use Rattle.slh_stream.specs.Passes.{randomizer_for}
+use Rattle.slh_trees.specs.Signing.{signature_of}
 
 -- The answer is that for some bytes, which are all that the reader had, where that is known. Of a
 -- fault of the reader nothing is said.
@@ -41,6 +42,20 @@ digest_answer Z Sha512 key context opt_rand m = signing_answer Z Sha512 key cont
 abbrev pub IsSigned : {T : Type 0} → Option (List ℕ) → (List ℕ → Result T Error)
     → Result T ReadError → Type 0
 IsSigned left answer result = IsAnswer left answer result ⊎ (result ≡ Err (Refused Memory))
+
+-- A second pass ends in the signature of what it stands for, where PRF_msg of that is R, and else as
+-- changed, unless memory is wanting.
+unfoldable pub EndsPass : Scheme → (List ℕ → Option (List ℕ) → List ℕ → List ℕ → Type 0) → List ℕ
+    → Result (List ℕ) ReadError → Type 0
+EndsPass Z passes rand (Ok signature) =
+    (key : List ℕ) (opt_rand : Option (List ℕ)) (context m : List ℕ) → passes key opt_rand context m
+    → (randomizer_for Z key opt_rand (frame context m) ≡ rand)
+    × (signature ≡ signature_of Z key opt_rand (frame context m))
+EndsPass Z passes rand (Err (Read fault)) = ⊥
+EndsPass Z passes rand (Err (Refused refusal)) = refusal ≡ Memory
+EndsPass Z passes rand (Err Changed) =
+    (key : List ℕ) (opt_rand : Option (List ℕ)) (context m : List ℕ) → passes key opt_rand context m
+    → randomizer_for Z key opt_rand (frame context m) ≢ rand
 
 -- Two readers gave some bytes. What the second one gave is signed where both have the same PRF_msg,
 -- and refused as changed where they don't. A refusal is that of the bytes of one.

@@ -53,7 +53,7 @@ impl<'a, P: ParameterSet + MessageSuite> Absorber for FirstPass<'a, P> {
 
 impl<'a, P: ParameterSet + MessageSuite> Absorber for SecondPass<'a, P> {
     ghost stands = { λ p t m. ⟦<SecondPass<'a, P> as Passing>⟧.passes p
-        t.key t.opt_rand t.context m };
+        t.key t.opt_rand t.context m × (p.rand ≡ t.rand) };
 
     fn absorb(&mut self, piece: &[u8]) -> Result<(), Error> {
         self.update(piece)

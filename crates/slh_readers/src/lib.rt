@@ -23,6 +23,7 @@
 
 mod absorber;
 mod error;
+pub mod laws;
 mod reading;
 mod signing;
 mod verifying;

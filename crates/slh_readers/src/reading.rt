@@ -45,6 +45,7 @@ fn absorb_some<R: Read, T: Absorber>(
 }
 
 /// Hands on all that a reader gives, to its end.
+#[tactic(auto, unfolding(crate::specs::Reading::AbsorbsAll))]
 pub(crate) fn absorb_all<R: Read, T: Absorber>(
     reader: &mut R,
     absorber: &mut T,

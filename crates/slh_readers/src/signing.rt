@@ -1,9 +1,13 @@
 //! Signing what a reader gives, once or twice.
-ghost use Rattle.std.specs.Prelude.{◌≡◌, IfOk};
+ghost use Rattle.std.specs.Prelude.{◌≡◌, ℕ, List, Option, IfOk, IfErr};
 ghost use Rattle.std.specs.Option.{option_copied};
-ghost use Rattle.slh_frames.specs.Frames.{frame, mode_frame};
-ghost use Rattle.slh_readers.specs.Answers.{IsSigned, IsSignedTwice, digest_answer};
+ghost use Rattle.slh_frames.specs.Frames.{mode_frame};
+ghost use Rattle.slh_frames.specs.declared.frame.Mode.{Mode as SigningMode};
+ghost use Rattle.slh_readers.specs.Answers.{EndsPass, IsSigned, IsSignedTwice, digest_answer};
+ghost use Rattle.slh_readers.specs.declared.error.ReadError.TheVariants.{Refused};
+ghost use Rattle.slh_run.specs.declared.job.Error.TheVariants.{Memory};
 ghost use Rattle.slh_sets.specs.Sets.{scheme_for};
+ghost use Rattle.slh_trees.specs.Signing.{signature_of};
 
 use crate::error::ReadError;
 use crate::reading::absorb_all;
@@ -12,9 +16,44 @@ use slh_dsa::{Mode, SigningKey};
 use slh_files::Key;
 use slh_run::ByteString;
 use slh_sets::{OnSet, SetSuite};
-use slh_stream::{DigestSigner, FirstPass, PassError};
+use slh_stream::{DigestSigner, Digesting, FirstPass, PassError, Passing, SecondPass};
 use std::alloc::Global;
 use std::io::Read;
+
+// The signature of what a signer of a digest absorbed.
+fn end_digest<'a, P: SetSuite>(
+    alloc: Global,
+    signer: DigestSigner<'a, P>,
+) -> Result<ByteString, ReadError>
+    ensures value { IfOk result (λ signature. (mode : SigningMode) (key : List ℕ)
+        (opt_rand : Option (List ℕ)) (context m : List ℕ)
+        → ⟦<DigestSigner<'a, P> as Digesting>⟧.digests signer.entry mode key opt_rand context m
+        → signature ≡ signature_of P.scheme key opt_rand (mode_frame mode context m)) }
+    ensures memory { IfErr result (λ e. e ≡ Refused Memory) }
+{
+    let mut signature = ByteString::zeroed(alloc, P::SigLen::USIZE)?;
+    match signer.finish_into(signature.as_mut_slice()) {
+        Ok(()) => Ok(signature),
+        Err(_) => unreachable!(),
+    }
+}
+
+// The signature of what a second pass absorbed.
+#[tactic(auto, unfolding(crate::specs::Answers::EndsPass))]
+fn end_pass<'a, P: SetSuite>(
+    alloc: Global,
+    pass: SecondPass<'a, P>,
+) -> Result<ByteString, ReadError>
+    ensures { EndsPass P.scheme (⟦<SecondPass<'a, P> as Passing>⟧.passes pass.entry)
+        pass.entry.rand result }
+{
+    let mut signature = ByteString::zeroed(alloc, P::SigLen::USIZE)?;
+    match pass.finish_into(signature.as_mut_slice()) {
+        Ok(()) => Ok(signature),
+        Err(PassError::Changed) => Err(ReadError::Changed),
+        Err(PassError::Length) => unreachable!(),
+    }
+}
 
 // What a reader gives, to be signed by its digest.
 #[derive(Drop)]
@@ -47,9 +86,7 @@ impl<'a, R: Read + Drop> OnSet for ByDigest<'a, R> {
         let key = SigningKey::<P>::try_from(key)?;
         let mut signer = DigestSigner::<P>::new(&key, mode, context, opt_rand)?;
         absorb_all(&mut reader, &mut signer)?;
-        let mut signature = ByteString::zeroed(alloc, P::SigLen::USIZE)?;
-        signer.finish_into(signature.as_mut_slice())?;
-        Ok(signature)
+        end_digest(alloc, signer)
     }
 }
 
@@ -110,12 +147,7 @@ impl<'a, R: Read + Drop, S: Read + Drop> OnSet for ByPasses<'a, R, S> {
         absorb_all(&mut first, &mut pass)?;
         let mut pass = pass.again();
         absorb_all(&mut second, &mut pass)?;
-        let mut signature = ByteString::zeroed(alloc, P::SigLen::USIZE)?;
-        match pass.finish_into(signature.as_mut_slice()) {
-            Ok(()) => Ok(signature),
-            Err(PassError::Changed) => Err(ReadError::Changed),
-            Err(PassError::Length) => unreachable!(),
-        }
+        end_pass(alloc, pass)
     }
 }
 

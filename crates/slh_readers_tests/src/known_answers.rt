@@ -32,8 +32,8 @@ fn signed(
 
 fn is_accepted(public: &Key, mode: Mode, context: &[u8], signature: &[u8], message: &[u8]) -> bool {
     let whole = verify(public, mode, context, signature, message);
-    let slowly = verify(public, mode, context, signature, slowly(message));
-    matches!(whole, Ok(true)) && matches!(slowly, Ok(true))
+    let in_pieces = verify(public, mode, context, signature, slowly(message));
+    matches!(whole, Ok(true)) && matches!(in_pieces, Ok(true))
 }
 
 fn is_known(

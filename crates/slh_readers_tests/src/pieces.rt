@@ -32,9 +32,9 @@ fn is_verified(alloc: Global, mode: Mode, signature: &[u8], bytes: &[u8]) -> Res
     let public = public(alloc)?;
     let shorter = &bytes[..bytes.len().saturating_sub(1)];
     let whole = verify(&public, mode, b"", signature, bytes);
-    let slowly = verify(&public, mode, b"", signature, slowly(bytes));
+    let in_pieces = verify(&public, mode, b"", signature, slowly(bytes));
     let cut = verify(&public, mode, b"", signature, slowly(shorter));
-    Ok(matches!(whole, Ok(true)) && matches!(slowly, Ok(true)) && matches!(cut, Ok(false)))
+    Ok(matches!(whole, Ok(true)) && matches!(in_pieces, Ok(true)) && matches!(cut, Ok(false)))
 }
 
 fn is_signed(alloc: Global, key: &Key, mode: Mode, wanted: &[u8], bytes: &[u8]) -> bool {
