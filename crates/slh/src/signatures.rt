@@ -23,13 +23,7 @@ pub fn sign<'a>(rt: &HostRuntime, words: &ArgMatches<'a>) -> Result<Outcome, Fai
     check_signature_output(rt, words, path)?;
     let context = context(rt, words)?;
     let key = signing_key(rt, words)?;
-    let signature = if words.get_flag("audit") {
-        audited(rt, words, path, key, context)?
-    } else if mode(words)? == Mode::Pure {
-        signed(rt, words, path, key, context)?
-    } else {
-        signed_by_digest(rt, words, path, &key, context.as_slice())?
-    };
+    let signature = made(rt, words, path, key, context)?;
     put(rt, words, path, signature.as_slice())
 }
 
@@ -55,6 +49,23 @@ fn check_signature_output<'a>(
     check_output(rt, words, &["key", "file"], output.as_str())
 }
 
+// The signature of a file, in the way that the words ask for.
+fn made<'a>(
+    rt: &HostRuntime,
+    words: &ArgMatches<'a>,
+    path: &'a str,
+    key: Key,
+    context: ByteString,
+) -> Result<ByteString, Failure<'a>> {
+    if words.get_flag("audit") {
+        return audited(rt, words, path, key, context);
+    }
+    match mode(words)? {
+        Mode::Pure => signed(rt, words, path, key, context),
+        mode => signed_by_digest(rt, words, path, &key, mode, context.as_slice()),
+    }
+}
+
 // The signature of a file that is whole in memory, which an audit needs.
 fn audited<'a>(
     rt: &HostRuntime,
@@ -78,9 +89,9 @@ fn signed_by_digest<'a>(
     words: &ArgMatches<'a>,
     path: &'a str,
     key: &Key,
+    mode: Mode,
     context: &[u8],
 ) -> Result<ByteString, Failure<'a>> {
-    let mode = mode(words)?;
     let reader = Reader::open(rt, path)?;
     let random = Randomness::new(rt, words)?;
     let rand = random.of_set(key.set);
