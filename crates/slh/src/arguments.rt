@@ -74,7 +74,8 @@ pub fn check_output<'a>(
     Ok(())
 }
 
-fn mode(words: &ArgMatches<'_>) -> Result<Mode, Failure<'static>> {
+/// Whether the file or its digest is signed.
+pub fn mode(words: &ArgMatches<'_>) -> Result<Mode, Failure<'static>> {
     match words.get_str("prehash") {
         Some("sha256") => Ok(Mode::Sha256),
         Some("sha512") => Ok(Mode::Sha512),
@@ -142,8 +143,8 @@ pub fn signing_key<'a>(rt: &HostRuntime, words: &ArgMatches<'a>) -> Result<Key, 
     }
 }
 
-// The signature of `--signature`, of the length that the set's have.
-fn signature<'a>(
+/// The signature of `--signature`, of the length that the set's have.
+pub fn signature<'a>(
     rt: &HostRuntime,
     words: &ArgMatches<'a>,
     set: Set,
@@ -166,13 +167,10 @@ pub struct Claim {
     pub message: Message,
 }
 
-/// What `--signature` says of the file under a key.
-pub fn claim_of<'a>(
-    rt: &HostRuntime,
-    words: &ArgMatches<'a>,
-    context: ByteString,
-    key: Key,
-) -> Result<Claim, Failure<'a>> {
+/// What `--signature` says of the file under the signing key of `--key`.
+pub fn own_claim<'a>(rt: &HostRuntime, words: &ArgMatches<'a>) -> Result<Claim, Failure<'a>> {
+    let context = context(rt, words)?;
+    let key = signing_key(rt, words)?;
     let signature = signature(rt, words, key.set)?;
     let message = message(rt, words, context)?;
     Ok(Claim {
@@ -180,13 +178,6 @@ pub fn claim_of<'a>(
         signature,
         message,
     })
-}
-
-/// What `--signature` says of the file under the signing key of `--key`.
-pub fn own_claim<'a>(rt: &HostRuntime, words: &ArgMatches<'a>) -> Result<Claim, Failure<'a>> {
-    let context = context(rt, words)?;
-    let key = signing_key(rt, words)?;
-    claim_of(rt, words, context, key)
 }
 
 /// What randomizers are made from: nothing for `--deterministic`.

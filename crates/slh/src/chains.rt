@@ -1,7 +1,7 @@
 //! `slh chain`: keys that sign keys.
 use crate::arguments::{
-    Randomness, check_inputs, check_output, claim_of, context, key_of_kind, required, signing_key,
-    tell, verifying_key,
+    Randomness, check_inputs, check_output, context, key_of_kind, required, signing_key, tell,
+    verifying_key,
 };
 use crate::failure::Failure;
 use crate::keys::key_file;
@@ -226,7 +226,7 @@ pub fn verify<'a>(rt: &HostRuntime, words: &ArgMatches<'a>) -> Result<Outcome, F
     check_inputs(words)?;
     let context = context(rt, words)?;
     match last_key(rt, words) {
-        Ok(key) => tell_verdict(rt, words, claim_of(rt, words, context, key)?),
+        Ok(key) => tell_verdict(rt, words, &key, context.as_slice()),
         Err(Failure::BadLink(path, text, i)) => {
             tell_bad_link(rt, Failure::BadLink(path, text, i))
         }

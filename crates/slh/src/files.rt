@@ -1,9 +1,10 @@
-//! Inputs: each is read once, whole, and all but the file that is signed only up to a limit.
+//! Inputs: the file that is signed is read in pieces or whole, and each other one whole, up to a
+//! limit.
 use crate::failure::Failure;
 use slh_files::gather;
 use slh_run::ByteString;
-use std::fs::{self, OpenFile};
-use std::io::{self, Read};
+use std::fs::{self, File, OpenFile};
+use std::io::{self, Read, Seek, SeekFrom, StdinLock};
 use std::os::unix::fs::MetadataExt;
 
 /// The name of standard input and output.
@@ -12,22 +13,86 @@ pub const STANDARD: &str = "-";
 /// The most bytes of a key, a signature, a receipt, a chain, a manifest, a master or a record.
 const MOST: u64 = 1 << 24;
 
-/// The bytes of a file, or of standard input where the path is `-`.
-pub fn read<'a>(rt: &HostRuntime, path: &'a str) -> Result<ByteString, Failure<'a>> {
-    let read = if path == STANDARD {
-        gather(rt.alloc(), &mut rt.reader())
-    } else {
-        read_file(rt, path)
-    };
-    match read {
-        Ok(bytes) => Ok(bytes),
-        Err(error) => Err(Failure::File(path, error)),
+/// Where the bytes of an input come from.
+#[derive(Drop)]
+pub enum Reader {
+    Standard(StdinLock<'static>),
+    File(File),
+}
+
+impl Read for Reader {
+    fn read(&mut self, buf: &mut [u8]) -> io::Result<usize> {
+        match self {
+            Reader::Standard(input) => input.read(buf),
+            Reader::File(file) => file.read(buf),
+        }
     }
 }
 
-fn read_file(rt: &HostRuntime, path: &str) -> io::Result<ByteString> {
-    let mut file = fs::open(rt, path)?;
-    gather(rt.alloc(), &mut file)
+impl Reader {
+    /// A file, or standard input where the path is `-`.
+    pub fn open<'a>(rt: &HostRuntime, path: &'a str) -> Result<Reader, Failure<'a>> {
+        if path == STANDARD {
+            return Ok(Reader::Standard(rt.reader()));
+        }
+        match fs::open(rt, path) {
+            Ok(file) => Ok(Reader::File(file)),
+            Err(error) => Err(Failure::File(path, error)),
+        }
+    }
+
+    /// The regular file that it is, which can be read twice, or the reader again.
+    pub fn into_regular(self) -> Result<File, Reader> {
+        match self {
+            Reader::File(file) if is_regular(&file) => Ok(file),
+            reader => Err(reader),
+        }
+    }
+
+    /// All bytes of the input of a path.
+    pub fn whole<'a>(self, rt: &HostRuntime, path: &'a str) -> Result<ByteString, Failure<'a>> {
+        let mut reader = self;
+        match gather(rt.alloc(), &mut reader) {
+            Ok(bytes) => Ok(bytes),
+            Err(error) => Err(Failure::File(path, error)),
+        }
+    }
+}
+
+fn is_regular(file: &File) -> bool {
+    match file.metadata() {
+        Ok(found) => found.is_file(),
+        Err(_) => false,
+    }
+}
+
+/// A file from its start on, whatever was read of it before.
+#[derive(Drop)]
+pub struct FromStart<'f> {
+    file: &'f File,
+    begun: bool,
+}
+
+impl<'f> FromStart<'f> {
+    pub fn new(file: &'f File) -> Self {
+        FromStart { file, begun: false }
+    }
+}
+
+impl<'f> Read for FromStart<'f> {
+    fn read(&mut self, buf: &mut [u8]) -> io::Result<usize> {
+        let mut file = self.file;
+        if !self.begun {
+            file.seek(SeekFrom::Start(0))?;
+            self.begun = true;
+        }
+        file.read(buf)
+    }
+}
+
+/// The bytes of a file, or of standard input where the path is `-`.
+pub fn read<'a>(rt: &HostRuntime, path: &'a str) -> Result<ByteString, Failure<'a>> {
+    Reader::open(rt, path)?.whole(rt, path)
 }
 
 /// As [`read`], of an input that has at most `MOST` bytes.

@@ -1,13 +1,16 @@
 //! `slh sign` and `slh verify`.
 use crate::arguments::{
-    Claim, Randomness, check_inputs, check_output, claim_of, context, message, required,
+    Randomness, check_inputs, check_output, context, message, mode, required, signature,
     signing_key, tell, verifying_key,
 };
 use crate::failure::Failure;
-use crate::{files, outputs};
+use crate::files::{self, FromStart, Reader};
+use crate::outputs;
 use clap::ArgMatches;
 use slh_files::{Key, Message, Outcome, SignError};
-use slh_run::ByteString;
+use slh_readers::{ReadError, sign_digest, sign_twice};
+use slh_run::{ByteString, Mode};
+use std::fs::File;
 
 // What is put behind the name of a file for the name of its signature.
 const SIGNATURE_END: &str = ".sig";
@@ -20,8 +23,7 @@ pub fn sign<'a>(rt: &HostRuntime, words: &ArgMatches<'a>) -> Result<Outcome, Fai
     check_signature_output(rt, words, path)?;
     let context = context(rt, words)?;
     let key = signing_key(rt, words)?;
-    let message = message(rt, words, context)?;
-    let signature = signed(rt, words, path, key, message)?;
+    let signature = made(rt, words, path, key, context)?;
     put(rt, words, path, signature.as_slice())
 }
 
@@ -47,7 +49,98 @@ fn check_signature_output<'a>(
     check_output(rt, words, &["key", "file"], output.as_str())
 }
 
+// The signature of a file, in the way that the words ask for.
+fn made<'a>(
+    rt: &HostRuntime,
+    words: &ArgMatches<'a>,
+    path: &'a str,
+    key: Key,
+    context: ByteString,
+) -> Result<ByteString, Failure<'a>> {
+    if words.get_flag("audit") {
+        return audited(rt, words, path, key, context);
+    }
+    match mode(words)? {
+        Mode::Pure => signed(rt, words, path, key, context),
+        mode => signed_by_digest(rt, words, path, &key, mode, context.as_slice()),
+    }
+}
+
+// The signature of a file that is whole in memory, which an audit needs.
+fn audited<'a>(
+    rt: &HostRuntime,
+    words: &ArgMatches<'a>,
+    path: &'a str,
+    key: Key,
+    context: ByteString,
+) -> Result<ByteString, Failure<'a>> {
+    let message = message(rt, words, context)?;
+    let random = Randomness::new(rt, words)?;
+    match slh_files::sign_audited(rt.alloc(), key, message, random.bytes()) {
+        Ok(signature) => Ok(signature),
+        Err(SignError::Refused(error)) => Err(Failure::Refused(path, error)),
+        Err(SignError::Fault) => Err(Failure::Fault(path)),
+    }
+}
+
+// The signature of a file by its digest, for which it is read once.
+fn signed_by_digest<'a>(
+    rt: &HostRuntime,
+    words: &ArgMatches<'a>,
+    path: &'a str,
+    key: &Key,
+    mode: Mode,
+    context: &[u8],
+) -> Result<ByteString, Failure<'a>> {
+    let reader = Reader::open(rt, path)?;
+    let random = Randomness::new(rt, words)?;
+    let rand = random.of_set(key.set);
+    match sign_digest(rt.alloc(), key, mode, context, rand, reader) {
+        Ok(signature) => Ok(signature),
+        Err(error) => Err(read_failure(path, error)),
+    }
+}
+
+// The signature of a file itself. One that can't be read twice is kept whole in memory.
 fn signed<'a>(
+    rt: &HostRuntime,
+    words: &ArgMatches<'a>,
+    path: &'a str,
+    key: Key,
+    context: ByteString,
+) -> Result<ByteString, Failure<'a>> {
+    match Reader::open(rt, path)?.into_regular() {
+        Ok(file) => signed_twice(rt, words, path, &key, context.as_slice(), &file),
+        Err(reader) => {
+            let bytes = reader.whole(rt, path)?;
+            let message = Message {
+                mode: Mode::Pure,
+                context,
+                bytes,
+            };
+            signed_whole(rt, words, path, key, message)
+        }
+    }
+}
+
+fn signed_twice<'a>(
+    rt: &HostRuntime,
+    words: &ArgMatches<'a>,
+    path: &'a str,
+    key: &Key,
+    context: &[u8],
+    file: &File,
+) -> Result<ByteString, Failure<'a>> {
+    let random = Randomness::new(rt, words)?;
+    let rand = random.of_set(key.set);
+    let (first, second) = (FromStart::new(file), FromStart::new(file));
+    match sign_twice(rt.alloc(), key, context, rand, first, second) {
+        Ok(signature) => Ok(signature),
+        Err(error) => Err(read_failure(path, error)),
+    }
+}
+
+fn signed_whole<'a>(
     rt: &HostRuntime,
     words: &ArgMatches<'a>,
     path: &'a str,
@@ -55,26 +148,18 @@ fn signed<'a>(
     message: Message,
 ) -> Result<ByteString, Failure<'a>> {
     let random = Randomness::new(rt, words)?;
-    match made(rt, key, message, random.bytes(), words.get_flag("audit")) {
+    match slh_files::sign(rt.alloc(), key, message, random.bytes()) {
         Ok(signature) => Ok(signature),
-        Err(SignError::Refused(error)) => Err(Failure::Refused(path, error)),
-        Err(SignError::Fault) => Err(Failure::Fault(path)),
+        Err(error) => Err(Failure::Refused(path, error)),
     }
 }
 
-fn made(
-    rt: &HostRuntime,
-    key: Key,
-    message: Message,
-    random: Option<&[u8; 32]>,
-    audited: bool,
-) -> Result<ByteString, SignError> {
-    if audited {
-        return slh_files::sign_audited(rt.alloc(), key, message, random);
-    }
-    match slh_files::sign(rt.alloc(), key, message, random) {
-        Ok(signature) => Ok(signature),
-        Err(error) => Err(SignError::Refused(error)),
+// Why a file that is read in pieces isn't signed or verified.
+fn read_failure(path: &str, error: ReadError) -> Failure<'_> {
+    match error {
+        ReadError::Read(error) => Failure::File(path, error),
+        ReadError::Refused(error) => Failure::Refused(path, error),
+        ReadError::Changed => Failure::Told(path, "changed while it was read"),
     }
 }
 
@@ -100,23 +185,23 @@ pub fn verify<'a>(rt: &HostRuntime, words: &ArgMatches<'a>) -> Result<Outcome, F
     check_inputs(words)?;
     let context = context(rt, words)?;
     let key = verifying_key(rt, words)?;
-    tell_verdict(rt, words, claim_of(rt, words, context, key)?)
+    tell_verdict(rt, words, &key, context.as_slice())
 }
 
-/// Tells whether a signature is one of the file.
+/// Tells whether a signature is one of the file under a verifying key.
 pub fn tell_verdict<'a>(
     rt: &HostRuntime,
     words: &ArgMatches<'a>,
-    claim: Claim,
+    key: &Key,
+    context: &[u8],
 ) -> Result<Outcome, Failure<'a>> {
-    let Claim {
-        key,
-        signature,
-        message,
-    } = claim;
-    match slh_files::verify(rt.alloc(), key, message, signature) {
+    let signature = signature(rt, words, key.set)?;
+    let mode = mode(words)?;
+    let path = required(words, "file")?;
+    let reader = Reader::open(rt, path)?;
+    match slh_readers::verify(key, mode, context, signature.as_slice(), reader) {
         Ok(true) => tell(rt, Outcome::Accepted),
         Ok(false) => tell(rt, Outcome::Invalid),
-        Err(error) => Err(Failure::Refused(required(words, "file")?, error)),
+        Err(error) => Err(read_failure(path, error)),
     }
 }

@@ -1,3 +1,3 @@
 mod Begun
 mod Agreeing
-mod Refused
+pub mod Refused

@@ -62,10 +62,10 @@ mod suspended_pass;
 mod tail;
 mod verifier;
 
-pub use digest_signer::DigestSigner;
+pub use digest_signer::{DigestSigner, Digesting};
 pub use digests::{sign_digest, sign_digest_counted, verify_digest, verify_digest_counted};
 pub use pass_error::PassError;
-pub use passes::{FirstPass, SecondPass};
+pub use passes::{FirstPass, Passing, SecondPass};
 pub use suspended::SuspendedVerifier;
 pub use suspended_pass::SuspendedPass;
-pub use verifier::MessageVerifier;
+pub use verifier::{MessageVerifier, Verifying};

@@ -1,0 +1,7 @@
+mod Read
+mod Handing
+mod Passed
+mod Causes
+mod Answered
+mod Verdicts
+mod Signatures

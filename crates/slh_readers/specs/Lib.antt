@@ -1,0 +1,3 @@
+pub mod Terms
+pub mod Reading
+pub mod Answers

@@ -1,0 +1,49 @@
+-- What becomes of the bytes that a reader gives. `left` is what it has left, where that is known,
+-- and `stands` what an absorber stands for.
+use Rattle.std.specs.Prelude.{◌≡◌, ℕ, List, [], ◌++◌, ⊤, Option, None, Some, IfSome, Result, Ok, Err}
+use Rattle.std.specs.Io.KnownBytes.{Consumes, IsAtEnd}
+use Rattle.slh_readers.specs.Terms.{Terms}
+use Rattle.slh_readers.specs.declared.error.ReadError.{ReadError}
+use Rattle.slh_readers.specs.declared.error.ReadError.TheVariants.{Read, Refused, Changed}
+use Rattle.slh_run.specs.declared.job.Error.{Error}
+use Rattle.slh_run.specs.declared.job.Error.TheVariants.{MessageTooLong}
+use Rattle.slh_trees.specs.Refusals.{message_refusal}
+
+-- bytes are all that was left, where that is known
+abbrev pub IsAll : Option (List ℕ) → List ℕ → Type 0
+IsAll left bytes = IfSome left (λ all. bytes ≡ all)
+
+-- what was absorbed goes on by a piece, and isn't too long
+abbrev pub GoesOn : {T : Type 0} → (T → Terms → List ℕ → Type 0) → T → T → List ℕ → List ℕ → Type 0
+GoesOn stands old new before piece = (terms : Terms) → stands old terms before
+    → stands new terms (before ++ piece)
+    × (message_refusal MessageTooLong (before ++ piece) ≡ None)
+
+-- it would be too long
+abbrev pub TooLong : {T : Type 0} → (T → Terms → List ℕ → Type 0) → T → List ℕ → List ℕ → Error
+    → Type 0
+TooLong stands old before piece refusal = (terms : Terms) → stands old terms before
+    → message_refusal MessageTooLong (before ++ piece) ≡ Some refusal
+
+-- A piece was read, as many bytes as are told, none only at the end, and it was absorbed or makes
+-- the message too long. Of a fault of the reader nothing is said.
+abbrev pub Absorbs : {T : Type 0} → (T → Terms → List ℕ → Type 0) → T → T
+    → Option (List ℕ) → Option (List ℕ) → Result ℕ ReadError → Type 0
+Absorbs stands old new left rest (Ok count) =
+    (piece : List ℕ) × Consumes left rest piece × (count ≡ 0 → IsAtEnd rest)
+    × ((before : List ℕ) → GoesOn stands old new before piece)
+Absorbs stands old new left rest (Err (Read fault)) = ⊤
+Absorbs stands old new left rest (Err (Refused refusal)) =
+    (piece : List ℕ) × Consumes left rest piece
+    × ((before : List ℕ) → TooLong stands old before piece refusal)
+Absorbs stands old new left rest (Err Changed) = ⊥
+
+-- all was read and absorbed, after nothing, or it is too long
+unfoldable pub AbsorbsAll : {T : Type 0} → (T → Terms → List ℕ → Type 0) → T → T
+    → Option (List ℕ) → Result (Unit {0}) ReadError → Type 0
+AbsorbsAll stands old new left (Ok _) =
+    (all : List ℕ) × IsAll left all × GoesOn stands old new [] all
+AbsorbsAll stands old new left (Err (Read fault)) = ⊤
+AbsorbsAll stands old new left (Err (Refused refusal)) =
+    (all : List ℕ) × IsAll left all × TooLong stands old [] all refusal
+AbsorbsAll stands old new left (Err Changed) = ⊥

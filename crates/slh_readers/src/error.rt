@@ -1,0 +1,44 @@
+//! Why what a reader gives isn't signed or verified.
+ghost use Rattle.std.specs.Prelude.{◌≡◌};
+ghost use Rattle.slh_readers.specs.declared.error.ReadError.TheVariants.{Read, Refused};
+ghost use Rattle.slh_run.specs.Errors.{error_of};
+ghost use Rattle.slh_run.specs.declared.job.Error.TheVariants.{Memory};
+
+use slh_run::Error;
+use std::alloc::AllocError;
+use std::io;
+
+/// Why what a reader gives isn't signed or verified.
+#[derive(Drop)]
+pub enum ReadError {
+    /// The reader failed.
+    Read(io::Error),
+    /// The job was refused, for the first cause in the order of `slh_run::Error`.
+    Refused(Error),
+    /// The second reader gave other bytes than the first.
+    Changed,
+}
+
+impl From<io::Error> for ReadError {
+    ghost from_gives = { λ e f. f ≡ Read e };
+
+    fn from(error: io::Error) -> Self {
+        ReadError::Read(error)
+    }
+}
+
+impl From<slh_dsa::Error> for ReadError {
+    ghost from_gives = { λ e f. f ≡ Refused (error_of e) };
+
+    fn from(error: slh_dsa::Error) -> Self {
+        ReadError::Refused(Error::from(error))
+    }
+}
+
+impl From<AllocError> for ReadError {
+    ghost from_gives = { λ _ f. f ≡ Refused Memory };
+
+    fn from(_: AllocError) -> Self {
+        ReadError::Refused(Error::Memory)
+    }
+}

@@ -1,0 +1,33 @@
+//! Signing and verifying what a reader gives, of any size, in pieces of 64 KiB.
+//!
+//! The bytes of a file are never whole in memory: [`verify`] and [`sign_digest`] read them once.
+//! [`sign_twice`], for the mode in which the message itself is signed, reads them twice, by two
+//! readers, and signs what the second one gives; where that isn't what the first one gave, it is
+//! refused as changed. What is answered is what `slh_run` answers to the job with these bytes:
+//!
+//! ```
+//! use slh_files::Key;
+//! use slh_readers::{ReadError, sign_twice, verify};
+//! use slh_run::{ByteString, Mode};
+//! use std::alloc::Global;
+//!
+//! fn signed(alloc: Global, key: &Key, file: &[u8]) -> Result<ByteString, ReadError> {
+//!     sign_twice(alloc, key, b"context", None, file, file)
+//! }
+//!
+//! fn accepted(key: &Key, file: &[u8], signature: &[u8]) -> Result<bool, ReadError> {
+//!     verify(key, Mode::Pure, b"context", signature, file)
+//! }
+//! ```
+#![tactic(auto)]
+
+mod absorber;
+mod error;
+pub mod laws;
+mod reading;
+mod signing;
+mod verifying;
+
+pub use error::ReadError;
+pub use signing::{sign_digest, sign_twice};
+pub use verifying::verify;

@@ -1,0 +1,67 @@
+//! Verifying what a reader gives.
+ghost use Rattle.std.specs.Prelude.{◌≡◌};
+ghost use Rattle.slh_files.specs.Jobs.{accepted_by};
+ghost use Rattle.slh_readers.specs.Answers.{IsAnswer};
+ghost use Rattle.slh_run.specs.Judgement.{judgement};
+ghost use Rattle.slh_run.specs.declared.job.Job.TheVariants.{Verify};
+ghost use Rattle.slh_sets.specs.Sets.{scheme_for};
+
+use crate::error::ReadError;
+use crate::reading::absorb_all;
+use slh_dsa::{Mode, VerifyingKey};
+use slh_files::Key;
+use slh_sets::{OnSet, SetSuite};
+use slh_stream::MessageVerifier;
+use std::io::Read;
+
+// A signature of what a reader gives.
+#[derive(Drop)]
+struct Claim<'a, R> {
+    mode: Mode,
+    key: &'a [u8],
+    context: &'a [u8],
+    signature: &'a [u8],
+    reader: R,
+}
+
+impl<'a, R: Read + Drop> OnSet for Claim<'a, R> {
+    type Out = Result<bool, ReadError>;
+
+    ghost gives = { λ c Z _ result. IsAnswer (R.remaining c.reader) (λ m. accepted_by
+        (judgement Z (Verify c.mode c.key.now c.context.now m c.signature.now))) result };
+
+    fn on<P: SetSuite>(self) -> Result<bool, ReadError> {
+        let Claim {
+            mode,
+            key,
+            context,
+            signature,
+            reader,
+        } = self;
+        let mut reader = reader;
+        let key = VerifyingKey::<P>::try_from(key)?;
+        let mut verifier = MessageVerifier::<P>::new(&key, mode, context, signature)?;
+        absorb_all(&mut reader, &mut verifier)?;
+        Ok(verifier.finish().is_ok())
+    }
+}
+
+/// Whether a signature of what a reader gives is accepted under a verifying key.
+pub fn verify<R: Read + Drop>(
+    key: &Key,
+    mode: Mode,
+    context: &[u8],
+    signature: &[u8],
+    reader: R,
+) -> Result<bool, ReadError>
+    ensures { IsAnswer (R.remaining reader) (λ m. accepted_by (judgement (scheme_for key.now.set)
+        (Verify mode key.now.bytes context.now m signature.now))) result }
+{
+    key.set.run(Claim {
+        mode,
+        key: key.bytes.as_slice(),
+        context,
+        signature,
+        reader,
+    })
+}

@@ -1,0 +1,78 @@
+//! Signatures that another program made: the SHA-256 of each.
+use crate::readers::{public, signing, slowly};
+use hmac_sha256::Hash;
+use slh_files::Key;
+use slh_readers::{ReadError, sign_digest, sign_twice, verify};
+use slh_run::{ByteString, Error, Mode};
+use std::alloc::Global;
+
+// The numbers from 0 on, which are a randomizer.
+const NUMBERS: [u8; 16] = [0, 1, 2, 3, 4, 5, 6, 7, 8, 9, 10, 11, 12, 13, 14, 15];
+
+fn has_digest(bytes: &[u8], wanted: &str) -> bool {
+    let mut digest = [0; 32];
+    bytes.len() < 65_536
+        && hex::decode_to_slice(wanted, &mut digest).is_ok()
+        && Hash::hash(bytes) == digest
+}
+
+fn signed(
+    alloc: Global,
+    key: &Key,
+    mode: Mode,
+    context: &[u8],
+    opt_rand: Option<&[u8]>,
+    message: &[u8],
+) -> Result<ByteString, ReadError> {
+    if mode == Mode::Pure {
+        return sign_twice(alloc, key, context, opt_rand, message, slowly(message));
+    }
+    sign_digest(alloc, key, mode, context, opt_rand, slowly(message))
+}
+
+fn is_accepted(public: &Key, mode: Mode, context: &[u8], signature: &[u8], message: &[u8]) -> bool {
+    let whole = verify(public, mode, context, signature, message);
+    let in_pieces = verify(public, mode, context, signature, slowly(message));
+    matches!(whole, Ok(true)) && matches!(in_pieces, Ok(true))
+}
+
+fn is_known(
+    alloc: Global,
+    mode: Mode,
+    context: &[u8],
+    opt_rand: Option<&[u8]>,
+    message: &[u8],
+    wanted: &str,
+) -> Result<bool, Error> {
+    let (key, public) = (signing(alloc)?, public(alloc)?);
+    match signed(alloc, &key, mode, context, opt_rand, message) {
+        Ok(signature) => {
+            let signature = signature.as_slice();
+            Ok(
+                has_digest(signature, wanted)
+                    && is_accepted(&public, mode, context, signature, message),
+            )
+        }
+        Err(_) => Ok(false),
+    }
+}
+
+#[test]
+fn known_signature_of_a_message(rt: HostRuntime) {
+    let wanted = "2349cc54f79b5c1b7d51f2352cf6872bb947ebeb165d1c9f808e7e5a6163df44";
+    assert!(rt; is_known(rt.alloc(), Mode::Pure, b"", None, b"Hello", wanted) == Ok(true));
+}
+
+#[test]
+fn known_signature_of_a_sha256_digest(rt: HostRuntime) {
+    let wanted = "6ede90ccaf41b9fb616a9d264d2f3098bc6ebe374c12ea86c5c89b85084bef74";
+    let (context, hello) = (b"Test context!", b"Hello, world!");
+    assert!(rt; is_known(rt.alloc(), Mode::Sha256, context, None, hello, wanted) == Ok(true));
+}
+
+#[test]
+fn known_signature_of_a_sha512_digest(rt: HostRuntime) {
+    let wanted = "cf156a3cbbea4b6726a994fbc1b5d11c2ec56d661a230319163b0a1333b99d65";
+    let rand = Some(NUMBERS.as_slice());
+    assert!(rt; is_known(rt.alloc(), Mode::Sha512, b"", rand, b"abc", wanted) == Ok(true));
+}
