@@ -18,9 +18,9 @@
 #error "slh_dsa_inline.h wants a compiler with inline functions"
 #endif
 
-/* FORMS THAT TAKE NULL: the calls of slh_dsa.h but those of one set, where a buffer of the length 0
- * may also be NULL. NULL with another length is answered by LENGTH, before all other causes.
- * Evidence isn't NULL. */
+/* FORMS THAT TAKE NULL: the calls of slh_dsa.h whose names begin with slh_dsa_sha2_, but those of
+ * one set, where a buffer of the length 0 may also be NULL. NULL with another length is answered by
+ * LENGTH, before all other causes. Evidence isn't NULL. */
 
 /* Whether bytes are told of and none can be there. */
 SLH_DSA_INLINE int slh_dsa_is_missing(const uint8_t *at, size_t bytes)
@@ -329,6 +329,13 @@ SLH_DSA_MUST_CHECK SLH_DSA_INLINE const char *slh_dsa_status_text(slh_dsa_status
     case SLH_DSA_UNKNOWN_SET: return "no such parameter set";
     case SLH_DSA_UNKNOWN_MODE: return "no such mode";
     case SLH_DSA_UNKNOWN_EVIDENCE: return "no such evidence";
+    case SLH_DSA_FORM: return "the bytes do not have the form";
+    case SLH_DSA_BUDGET: return "a link delegates deeper than it may";
+    case SLH_DSA_NO_ENTRY: return "no such entry";
+    case SLH_DSA_ORIGIN: return "the checkpoint is of another log";
+    case SLH_DSA_UNSIGNED: return "the checkpoint has no signature of this key";
+    case SLH_DSA_EMPTY: return "the old log has no entries";
+    case SLH_DSA_SMALLER: return "the new log has fewer entries than the old";
     default: return "no such status";
     }
 }

@@ -154,7 +154,7 @@ fn sign_in_set(
         ctx,
         opt_rand,
     };
-    write_in_set(set, call, sig)
+    write_in_set(set, call, sig, UNKNOWN_SET)
 }
 
 /// Signs a message by its digest, of 32 bytes in the mode of SHA-256 and 64 in that of SHA-512

@@ -6,7 +6,7 @@ ghost use Rattle.slh_dsa_c.specs.Status.{number_of_refusal};
 ghost use Rattle.slh_trees.specs.Keys.{IsTrueKey};
 
 use crate::set::write_in_set;
-use crate::status::{LENGTH, OK, number_of};
+use crate::status::{LENGTH, OK, UNKNOWN_SET, number_of};
 use hybrid_array::ArraySize;
 use slh_core::params::chain_sizes;
 use slh_dsa::SigningKey;
@@ -75,6 +75,7 @@ pub extern "C" fn slh_dsa_sha2_keygen(
             public_bytes,
         },
         key,
+        UNKNOWN_SET,
     );
     if status == OK {
         // The verifying key is the signing key's last half.

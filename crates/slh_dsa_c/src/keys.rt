@@ -48,7 +48,7 @@ pub extern "C" fn slh_dsa_sha2_public(set: u32, key: &[u8], public: &mut [u8]) -
         public.new ≡ drop (2 * Z.n) key.now) }
     ensures same { result ≢ 0 → public.new ≡ public.old }
 {
-    write_in_set(set, Public { key }, public)
+    write_in_set(set, Public { key }, public, UNKNOWN_SET)
 }
 
 // A signing key to check.
