@@ -1,9 +1,8 @@
 -- Where the entries of a manifest stand in its bytes.
-use Rattle.std.proofs.Common.{◌≡◌, ℕ, zero, suc, ◌+◌, ◌-◌, ◌<◌, ◌≤◌, true, List, [], ◌∷◌, length, take, drop, get_or, slice_index, slice_range, refl, sym, ◌∙◌, ap, subst, arith, length-take, length-drop, Some}
+use Rattle.std.proofs.Common.{◌≡◌, ℕ, zero, suc, ◌+◌, ◌-◌, ◌≤◌, true, List, [], length, take, drop, get_or, slice_index, refl, sym, ◌∙◌, ap, subst, arith, length-take, length-drop, Some}
 use Rattle.std.specs.List.{slice_get}
 use Rattle.std.proofs.lemmas.List.{drop-drop, get_or-drop}
 use Rattle.slh_manifest.specs.Checking.{count_of, entries_of, has_count, has_entries}
-use Rattle.slh_manifest.specs.Entries.{Stand}
 use Rattle.slh_manifest.specs.Reading.{after_front, are_entries, entries_in, front_entry, front_size, is_front}
 use Rattle.slh_manifest.specs.declared.entry.Entry.{Entry}
 use Rattle.slh_manifest.proofs.Fronts.{first_true, front_whole, second_true}

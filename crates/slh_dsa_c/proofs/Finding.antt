@@ -19,7 +19,7 @@ use Rattle.slh_manifest.specs.declared.entry.Entry.{Entry}
 use Rattle.slh_manifest.specs.declared.error.CheckError.{CheckError}
 use Rattle.slh_manifest.specs.declared.error.CheckError.TheVariants.{Form, Invalid, Missing, Differs, Fault}
 use Rattle.slh_manifest.proofs.Fronts.{first_true}
-use Rattle.slh_dsa_c.specs.Manifests.{NameStands, c_entry, count_or_number, entry_answer, entry_numbered, entry_or_number, entry_place, find_answer, number_from, number_named, open_answer}
+use Rattle.slh_dsa_c.specs.Manifests.{NameStands, count_or_number, entry_answer, entry_numbered, entry_or_number, entry_place, find_answer, number_from, number_named, open_answer}
 use Rattle.slh_dsa_c.specs.Status.{status_of}
 use Rattle.slh_dsa_c.specs.declared.manifests.CEntry.{CEntry}
 use Rattle.slh_dsa_c.proofs.Entries.{name_stands}

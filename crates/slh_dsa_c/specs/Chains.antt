@@ -1,6 +1,6 @@
 -- What walking a chain of delegations answers, by the numbers of the header. Z is the scheme.
 use Rattle.std.specs.Prelude.{ℕ, ◌*◌, ◌==◌, List, length, if◌then◌else◌, ⊤}
-use Rattle.std.specs.Prelude.{Option, Result, Ok, Err}
+use Rattle.std.specs.Prelude.{Result, Ok, Err}
 use Rattle.slh_chain.specs.Walks.{Ended, walk_answer}
 use Rattle.slh_chain.specs.declared.error.ChainError.{ChainError}
 use Rattle.slh_chain.specs.declared.error.ChainError.TheVariants.{Form, Budget, Invalid}

@@ -52,7 +52,8 @@ fn walk(chain: &[u8]) -> (u32, [u8; 32], u32, u32) {
 
 #[test]
 fn a_chain_is_walked_to_its_end(rt: HostRuntime) {
-    assert!(rt; walk(&[]) == (0, keys(1).1, 16, 0));
+    let (_, root) = keys(1);
+    assert!(rt; walk(&[]) == (0, root, 16, 0));
     assert!(rt; walk(&link()) == (0, [9; 32], 3, 1));
 }
 

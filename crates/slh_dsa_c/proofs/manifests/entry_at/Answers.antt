@@ -1,4 +1,4 @@
-use Rattle.std.proofs.Common.{◌≡◌, ◌<◌, length, Some, arith, sym, ◌∙◌, ap}
+use Rattle.std.proofs.Common.{◌≡◌, Some, arith, sym, ◌∙◌, ap}
 use Rattle.std.specs.List.{slice_get}
 use Rattle.std.proofs.lemmas.Option.{slice_get_within}
 use Rattle.slh_manifest.specs.Checking.{count_of, entries_of}

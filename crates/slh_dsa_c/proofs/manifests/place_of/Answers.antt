@@ -1,9 +1,8 @@
-use Rattle.std.proofs.Common.{rules, ◌≡◌, ◌<◌, ◌≤◌, ◌+◌, ◌-◌, suc, List, ℕ, refl, length, drop, slice_index, subst, sym, ◌∙◌, arith, length-drop}
+use Rattle.std.proofs.Common.{rules, ◌≡◌, ◌≤◌, ◌+◌, ◌-◌, suc, List, ℕ, refl, length, drop, slice_index, subst, ◌∙◌, arith, length-drop}
 use Rattle.slh_dsa_c.proofs.Entries.{after_place, byte_at, behind, place_step, whole}
 use Rattle.slh_dsa_c.proofs.manifests.place_of.Goals as goal
 use Rattle.slh_manifest.specs.Checking.{count_of}
 use Rattle.slh_manifest.specs.Entries.{Stand}
-use Rattle.slh_manifest.specs.Reading.{front_size}
 
 -- the entry at a place is whole
 ends : (manifest : List ℕ) (left count at : ℕ) → left ≡ suc count → Stand left (drop at manifest) → at + (slice_index manifest at + 41) ≤ length manifest
