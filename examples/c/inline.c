@@ -110,11 +110,13 @@ static void verdicts(void)
 
 static void texts(void)
 {
-    const char *none = slh_dsa_status_text(SLH_DSA_UNKNOWN_EVIDENCE + 1);
+    const char *none = slh_dsa_status_text(SLH_DSA_SMALLER + 1);
 
-    for (slh_dsa_status one = 0; one <= SLH_DSA_UNKNOWN_EVIDENCE; one++) {
-        WANT(strcmp(slh_dsa_status_text(one), none) != 0);
-        for (slh_dsa_status other = 0; other < one; other++)
+    for (slh_dsa_status one = 0; one <= SLH_DSA_SMALLER; one++) {
+        int is_one = one <= SLH_DSA_UNKNOWN_EVIDENCE || one >= SLH_DSA_FORM;
+
+        WANT((strcmp(slh_dsa_status_text(one), none) != 0) == is_one);
+        for (slh_dsa_status other = 0; is_one && other < one; other++)
             WANT(strcmp(slh_dsa_status_text(one), slh_dsa_status_text(other)) != 0);
     }
     WANT(strcmp(slh_dsa_status_text(SLH_DSA_UNKNOWN_SET), "no such parameter set") == 0);
