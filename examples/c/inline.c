@@ -108,6 +108,41 @@ static void verdicts(void)
     }
 }
 
+/* An empty chain, manifest, receipt, origin, checkpoint and proof may be NULL. */
+static void updates(void)
+{
+    const slh_log_head heads[2] = {{1, {0}}, {0, {0}}};
+    uint8_t end_key[sizeof public_key];
+    slh_chain_end end;
+    slh_manifest_file file;
+    slh_log_head head;
+    uint32_t entries;
+
+    WANT(slh_chain_walk_nullable(SET, public_key, sizeof public_key, NULL, 0, end_key,
+                                 sizeof end_key, &end) == SLH_DSA_OK);
+    WANT(memcmp(end_key, public_key, sizeof end_key) == 0 && end.links == 0);
+    WANT(slh_chain_walk_nullable(SET, public_key, sizeof public_key, NULL, 1, end_key,
+                                 sizeof end_key, &end) == SLH_DSA_LENGTH);
+    WANT(slh_chain_walk_nullable(9, public_key, 0, NULL, 0, NULL, 1, &end) == SLH_DSA_LENGTH);
+    WANT(slh_manifest_open_nullable(SET, public_key, sizeof public_key, NULL, 0, &entries) ==
+         SLH_DSA_FORM);
+    WANT(slh_manifest_open_nullable(9, NULL, 1, NULL, 0, &entries) == SLH_DSA_LENGTH);
+    WANT(slh_manifest_entry_nullable(NULL, 0, 0, &file) == SLH_DSA_FORM);
+    WANT(slh_manifest_entry_nullable(NULL, 1, 0, &file) == SLH_DSA_LENGTH);
+    WANT(slh_manifest_find_nullable(NULL, 0, NULL, 0, &file) == SLH_DSA_FORM);
+    WANT(slh_manifest_find_nullable(NULL, 0, NULL, 1, &file) == SLH_DSA_LENGTH);
+    WANT(slh_batch_accept_nullable(SET, public_key, sizeof public_key, NULL, 0, NULL, 0) ==
+         SLH_DSA_FORM);
+    WANT(slh_batch_accept_nullable(9, NULL, 0, NULL, 0, NULL, 1) == SLH_DSA_LENGTH);
+    WANT(slh_log_open_nullable(9, NULL, 0, NULL, 0, NULL, 0, NULL, 0, &head) ==
+         SLH_DSA_UNKNOWN_SET);
+    WANT(slh_log_open_nullable(9, NULL, 0, NULL, 0, NULL, 0, NULL, 1, &head) == SLH_DSA_LENGTH);
+    WANT(slh_log_check_presence_nullable(&heads[0], 1, NULL, 0, NULL, 0) == SLH_DSA_NO_ENTRY);
+    WANT(slh_log_check_presence_nullable(&heads[0], 1, NULL, 1, NULL, 0) == SLH_DSA_LENGTH);
+    WANT(slh_log_check_growth_nullable(&heads[0], &heads[1], NULL, 0) == SLH_DSA_SMALLER);
+    WANT(slh_log_check_growth_nullable(&heads[0], &heads[1], NULL, 32) == SLH_DSA_LENGTH);
+}
+
 static void texts(void)
 {
     const char *none = slh_dsa_status_text(SLH_DSA_CHANGED + 1);
@@ -144,6 +179,7 @@ int main(int argc, char **argv)
     signatures();
     audits();
     verdicts();
+    updates();
     texts();
     puts(failures == 0 ? "as the header says" : "not as the header says");
     return failures != 0;

@@ -145,6 +145,142 @@ static void *check_evidence(void *unused)
     return unused;
 }
 
+/* What an updater reads, of one part each, under the key: its signature is made before the call is
+ * measured. */
+static uint8_t update[3 * SLH_DSA_MAX_SIGNATURE_BYTES];
+static size_t update_bytes;
+
+/* Signs what stands in `update`, and writes the signature behind it. */
+static void seal(const char *context)
+{
+    want(slh_dsa_sha2_sign_deterministic(set, SLH_DSA_PURE, key, 4 * n, update, update_bytes,
+                                         (const uint8_t *)context, strlen(context),
+                                         update + update_bytes, signature_bytes),
+         SLH_DSA_OK);
+    update_bytes += signature_bytes;
+}
+
+static void put(const void *bytes, size_t count)
+{
+    memcpy(update + update_bytes, bytes, count);
+    update_bytes += count;
+}
+
+static void make_link(void)
+{
+    update_bytes = 0;
+    put("\0\1x", 3);
+    put(public_key, 2 * n);
+    seal("slh-chain");
+}
+
+static void *walk(void *unused)
+{
+    uint8_t end_key[SLH_DSA_MAX_VERIFYING_KEY_BYTES];
+    slh_chain_end end;
+
+    want(slh_chain_walk(set, public_key, 2 * n, update, update_bytes, end_key, 2 * n, &end),
+         SLH_DSA_OK);
+    return unused;
+}
+
+static void make_manifest(void)
+{
+    update_bytes = 0;
+    put("\0\0\0\1\1x", 6);
+    memset(update + update_bytes, 0, 40);
+    update_bytes += 40;
+    seal("slh-manifest");
+}
+
+static void *open_manifest(void *unused)
+{
+    slh_manifest_file file;
+    uint32_t entries;
+
+    want(slh_manifest_open(set, public_key, 2 * n, update, update_bytes, &entries), SLH_DSA_OK);
+    want(slh_manifest_find(update, update_bytes, (const uint8_t *)"x", 1, &file), SLH_DSA_OK);
+    return unused;
+}
+
+/* A receipt of one message: the signature is one of another root, so it is verified and refused. */
+static void make_receipt(void)
+{
+    update_bytes = 0;
+    put("\0\0\0\0\0\0\0\1", 8);
+    seal("slh-batch");
+}
+
+static void *accept_receipt(void *unused)
+{
+    want(slh_batch_accept(set, public_key, 2 * n, message, sizeof message, update, update_bytes),
+         SLH_DSA_INVALID);
+    return unused;
+}
+
+/* The ids of the keys of zeros in a log "o": SHA-256 of "o", LF, ff, the set's name, LF and the
+ * verifying key, by another program. */
+static const uint8_t ids[SETS][4] = {
+    {0x16, 0x9e, 0xba, 0xcb}, {0x66, 0x42, 0x36, 0xbc}, {0x03, 0x40, 0x1d, 0xc7},
+    {0x1c, 0xb3, 0x7c, 0x2b}, {0x96, 0x4a, 0x0e, 0x1f}, {0xa3, 0x41, 0xab, 0x40}};
+
+static void put_base64(const uint8_t *from, size_t bytes)
+{
+    static const char symbols[] =
+        "ABCDEFGHIJKLMNOPQRSTUVWXYZabcdefghijklmnopqrstuvwxyz0123456789+/";
+
+    for (size_t at = 0; at < bytes; at += 3) {
+        size_t left = bytes - at;
+        uint32_t three = (uint32_t)from[at] << 16 | (left > 1 ? (uint32_t)from[at + 1] << 8 : 0) |
+                         (left > 2 ? from[at + 2] : 0);
+        char four[4];
+
+        for (int i = 0; i < 4; i++)
+            four[i] = symbols[three >> (18 - 6 * i) & 63];
+        memset(four + (left < 3 ? left + 1 : 4), '=', left < 3 ? 3 - left : 0);
+        put(four, 4);
+    }
+}
+
+static void make_checkpoint(void)
+{
+    static const uint8_t root[32];
+    static uint8_t signed_text[4 + SLH_DSA_MAX_SIGNATURE_BYTES];
+    size_t text_bytes;
+
+    update_bytes = 0;
+    put("o\n1\n", 4);
+    put_base64(root, sizeof root);
+    put("\n", 1);
+    text_bytes = update_bytes;
+    seal("slh-log");
+    memcpy(signed_text, ids[set - 1], 4);
+    memcpy(signed_text + 4, update + text_bytes, signature_bytes);
+    update_bytes = text_bytes;
+    put("\n\xe2\x80\x94 o ", 7);
+    put_base64(signed_text, 4 + signature_bytes);
+    put("\n", 1);
+}
+
+static void *open_log(void *unused)
+{
+    static uint8_t scratch[SLH_LOG_MAX_SCRATCH_BYTES];
+    slh_log_head head;
+
+    want(slh_log_open(set, public_key, 2 * n, (const uint8_t *)"o", 1, update, update_bytes,
+                      scratch, sizeof scratch, &head),
+         SLH_DSA_OK);
+    want(slh_log_check_presence(&head, 0, message, sizeof message, empty, 0), SLH_DSA_INVALID);
+    want(slh_log_check_growth(&head, &head, empty, 0), SLH_DSA_OK);
+    return unused;
+}
+
+static void make_nothing(void)
+{
+}
+
+static void (*make)(void) = make_nothing;
+
 /* How many bytes a thread wrote over, from the stack's far end; 0 where it can't be told. */
 static size_t written(void *(*call)(void *))
 {
@@ -173,6 +309,7 @@ static int is_within(const char *name, void *(*call)(void *), size_t allowed)
         signature_bytes = slh_dsa_sha2_signature_bytes(set);
         keygen(NULL);
         sign(NULL);
+        make();
         taken = written(call) - own;
         most = taken > most ? taken : most;
     }
@@ -194,5 +331,13 @@ int main(void)
     good &= is_within("check_key", check_key, SLH_DSA_KEYGEN_STACK_BYTES);
     good &= is_within("audit", audit, SLH_DSA_AUDIT_STACK_BYTES);
     good &= is_within("check_evidence", check_evidence, SLH_DSA_CHECK_EVIDENCE_STACK_BYTES);
+    make = make_link;
+    good &= is_within("chain_walk", walk, SLH_DSA_VERIFY_STACK_BYTES);
+    make = make_manifest;
+    good &= is_within("manifest_open", open_manifest, SLH_DSA_VERIFY_STACK_BYTES);
+    make = make_receipt;
+    good &= is_within("batch_accept", accept_receipt, SLH_DSA_VERIFY_STACK_BYTES);
+    make = make_checkpoint;
+    good &= is_within("log_open", open_log, SLH_DSA_VERIFY_STACK_BYTES);
     return !good || surprises > 0;
 }

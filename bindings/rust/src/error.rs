@@ -62,7 +62,7 @@ impl Error {
             Error::UnknownMode => Some(10),
             Error::UnknownEvidence => Some(11),
             Error::State => Some(13),
-            Error::Changed => Some(14),
+            Error::Changed => Some(21),
             Error::NoRandom => None,
             Error::Unknown(status) => Some(status),
         }
@@ -92,7 +92,7 @@ impl Error {
             10 => Error::UnknownMode,
             11 => Error::UnknownEvidence,
             13 => Error::State,
-            14 => Error::Changed,
+            21 => Error::Changed,
             _ => Error::Unknown(status),
         })
     }
@@ -132,7 +132,7 @@ mod tests {
         std::fs::read_to_string(format!("{include}{name}")).expect(name)
     }
 
-    /// The statuses of the header by their names.
+    /// The statuses of the header by their names, but those of calls that the crate doesn't have.
     fn statuses() -> Vec<(String, u32)> {
         let text = header("slh_dsa.h");
         let body = text.split("enum slh_dsa_statuses {").nth(1).expect("statuses");
@@ -142,7 +142,7 @@ mod tests {
             let digits = rest.split(|c: char| !c.is_ascii_digit()).next()?;
             Some((name.to_owned(), digits.parse().ok()?))
         };
-        body.lines().filter_map(row).collect()
+        body.lines().filter_map(row).filter(|(_, number)| !(14..21).contains(number)).collect()
     }
 
     /// The name of a variant as the header writes it.
@@ -162,7 +162,7 @@ mod tests {
     #[test]
     fn each_status_of_the_header_has_its_variant() {
         let statuses = statuses();
-        assert!(statuses.len() >= 14);
+        assert_eq!(statuses.len(), 14);
         assert_eq!(statuses[0], ("OK".to_owned(), 0));
         for (name, number) in &statuses[1..] {
             let error = Error::of_audit(*number, Some(Evidence::ForsRoots)).unwrap_err();

@@ -19,8 +19,8 @@
 #endif
 
 /* FORMS THAT TAKE NULL: the calls of slh_dsa.h but those of one set, where a buffer of the length 0
- * may also be NULL. NULL with another length is answered by LENGTH, before all other causes.
- * Evidence isn't NULL. */
+ * may also be NULL. NULL with another length is answered by LENGTH, before all other causes. What
+ * has no length isn't NULL: evidence, an end, a head, a file, a number. */
 
 /* Whether bytes are told of and none can be there. */
 SLH_DSA_INLINE int slh_dsa_is_missing(const uint8_t *at, size_t bytes)
@@ -272,6 +272,146 @@ SLH_DSA_MUST_CHECK SLH_DSA_INLINE slh_dsa_status slh_dsa_sha2_check_evidence_nul
         evidence);
 }
 
+SLH_DSA_MUST_CHECK SLH_DSA_INLINE slh_dsa_status slh_chain_walk_nullable(
+    slh_dsa_set set,
+    const uint8_t *root_key, size_t root_key_bytes,
+    const uint8_t *chain, size_t chain_bytes,
+    uint8_t *key, size_t key_bytes,
+    slh_chain_end *end)
+{
+    uint8_t nothing = 0;
+
+    if (slh_dsa_is_missing(root_key, root_key_bytes) ||
+        slh_dsa_is_missing(chain, chain_bytes) ||
+        slh_dsa_is_missing(key, key_bytes))
+        return SLH_DSA_LENGTH;
+    return slh_chain_walk(
+        set,
+        slh_dsa_read_at(root_key, &nothing), root_key_bytes,
+        slh_dsa_read_at(chain, &nothing), chain_bytes,
+        slh_dsa_write_at(key, &nothing), key_bytes,
+        end);
+}
+
+SLH_DSA_MUST_CHECK SLH_DSA_INLINE slh_dsa_status slh_manifest_open_nullable(
+    slh_dsa_set set,
+    const uint8_t *verifying_key, size_t verifying_key_bytes,
+    const uint8_t *manifest, size_t manifest_bytes,
+    uint32_t *entries)
+{
+    const uint8_t nothing = 0;
+
+    if (slh_dsa_is_missing(verifying_key, verifying_key_bytes) ||
+        slh_dsa_is_missing(manifest, manifest_bytes))
+        return SLH_DSA_LENGTH;
+    return slh_manifest_open(
+        set,
+        slh_dsa_read_at(verifying_key, &nothing), verifying_key_bytes,
+        slh_dsa_read_at(manifest, &nothing), manifest_bytes,
+        entries);
+}
+
+SLH_DSA_MUST_CHECK SLH_DSA_INLINE slh_dsa_status slh_manifest_entry_nullable(
+    const uint8_t *manifest, size_t manifest_bytes,
+    uint32_t number,
+    slh_manifest_file *file)
+{
+    const uint8_t nothing = 0;
+
+    if (slh_dsa_is_missing(manifest, manifest_bytes))
+        return SLH_DSA_LENGTH;
+    return slh_manifest_entry(
+        slh_dsa_read_at(manifest, &nothing), manifest_bytes, number, file);
+}
+
+SLH_DSA_MUST_CHECK SLH_DSA_INLINE slh_dsa_status slh_manifest_find_nullable(
+    const uint8_t *manifest, size_t manifest_bytes,
+    const uint8_t *name, size_t name_bytes,
+    slh_manifest_file *file)
+{
+    const uint8_t nothing = 0;
+
+    if (slh_dsa_is_missing(manifest, manifest_bytes) ||
+        slh_dsa_is_missing(name, name_bytes))
+        return SLH_DSA_LENGTH;
+    return slh_manifest_find(
+        slh_dsa_read_at(manifest, &nothing), manifest_bytes,
+        slh_dsa_read_at(name, &nothing), name_bytes,
+        file);
+}
+
+SLH_DSA_MUST_CHECK SLH_DSA_INLINE slh_dsa_status slh_batch_accept_nullable(
+    slh_dsa_set set,
+    const uint8_t *verifying_key, size_t verifying_key_bytes,
+    const uint8_t *message, size_t message_bytes,
+    const uint8_t *receipt, size_t receipt_bytes)
+{
+    const uint8_t nothing = 0;
+
+    if (slh_dsa_is_missing(verifying_key, verifying_key_bytes) ||
+        slh_dsa_is_missing(message, message_bytes) ||
+        slh_dsa_is_missing(receipt, receipt_bytes))
+        return SLH_DSA_LENGTH;
+    return slh_batch_accept(
+        set,
+        slh_dsa_read_at(verifying_key, &nothing), verifying_key_bytes,
+        slh_dsa_read_at(message, &nothing), message_bytes,
+        slh_dsa_read_at(receipt, &nothing), receipt_bytes);
+}
+
+SLH_DSA_MUST_CHECK SLH_DSA_INLINE slh_dsa_status slh_log_open_nullable(
+    slh_dsa_set set,
+    const uint8_t *verifying_key, size_t verifying_key_bytes,
+    const uint8_t *origin, size_t origin_bytes,
+    const uint8_t *checkpoint, size_t checkpoint_bytes,
+    uint8_t *scratch, size_t scratch_bytes,
+    slh_log_head *head)
+{
+    uint8_t nothing = 0;
+
+    if (slh_dsa_is_missing(verifying_key, verifying_key_bytes) ||
+        slh_dsa_is_missing(origin, origin_bytes) ||
+        slh_dsa_is_missing(checkpoint, checkpoint_bytes) ||
+        slh_dsa_is_missing(scratch, scratch_bytes))
+        return SLH_DSA_LENGTH;
+    return slh_log_open(
+        set,
+        slh_dsa_read_at(verifying_key, &nothing), verifying_key_bytes,
+        slh_dsa_read_at(origin, &nothing), origin_bytes,
+        slh_dsa_read_at(checkpoint, &nothing), checkpoint_bytes,
+        slh_dsa_write_at(scratch, &nothing), scratch_bytes,
+        head);
+}
+
+SLH_DSA_MUST_CHECK SLH_DSA_INLINE slh_dsa_status slh_log_check_presence_nullable(
+    const slh_log_head *head,
+    uint64_t index,
+    const uint8_t *entry, size_t entry_bytes,
+    const uint8_t *proof, size_t proof_bytes)
+{
+    const uint8_t nothing = 0;
+
+    if (slh_dsa_is_missing(entry, entry_bytes) || slh_dsa_is_missing(proof, proof_bytes))
+        return SLH_DSA_LENGTH;
+    return slh_log_check_presence(
+        head, index,
+        slh_dsa_read_at(entry, &nothing), entry_bytes,
+        slh_dsa_read_at(proof, &nothing), proof_bytes);
+}
+
+SLH_DSA_MUST_CHECK SLH_DSA_INLINE slh_dsa_status slh_log_check_growth_nullable(
+    const slh_log_head *old_head,
+    const slh_log_head *new_head,
+    const uint8_t *proof, size_t proof_bytes)
+{
+    const uint8_t nothing = 0;
+
+    if (slh_dsa_is_missing(proof, proof_bytes))
+        return SLH_DSA_LENGTH;
+    return slh_log_check_growth(
+        old_head, new_head, slh_dsa_read_at(proof, &nothing), proof_bytes);
+}
+
 /* A VERDICT FOR BOOT LOADERS. It verifies twice, so it takes twice the time, and answers one of two
  * numbers that differ in each bit; slh_dsa_is_accepted compares it twice. That is meant against a
  * skipped instruction or a flipped bit, and wasn't tried against such faults. */
@@ -330,6 +470,13 @@ SLH_DSA_MUST_CHECK SLH_DSA_INLINE const char *slh_dsa_status_text(slh_dsa_status
     case SLH_DSA_UNKNOWN_MODE: return "no such mode";
     case SLH_DSA_UNKNOWN_EVIDENCE: return "no such evidence";
     case SLH_DSA_STATE: return "the state is not one of this call, key or signature";
+    case SLH_DSA_FORM: return "the bytes do not have the form";
+    case SLH_DSA_BUDGET: return "a link delegates deeper than it may";
+    case SLH_DSA_NO_ENTRY: return "no such entry";
+    case SLH_DSA_ORIGIN: return "the checkpoint is of another log";
+    case SLH_DSA_UNSIGNED: return "the checkpoint has no signature of this key";
+    case SLH_DSA_EMPTY: return "the old log has no entries";
+    case SLH_DSA_SMALLER: return "the new log has fewer entries than the old";
     case SLH_DSA_CHANGED: return "the second pass was over other bytes than the first";
     default: return "no such status";
     }

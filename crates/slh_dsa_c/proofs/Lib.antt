@@ -1,3 +1,5 @@
 mod Sets
 mod Verified
 pub mod TrueKeys
+pub mod Entries
+pub mod Finding

@@ -69,7 +69,7 @@ randomizer_in set key opt_rand message =
 abbrev pub pass_number : Option PassError → ℕ
 pass_number None = 0
 pass_number (Some Length) = 5
-pass_number (Some Changed) = 14
+pass_number (Some Changed) = 21
 
 -- a number, unless there is a refusal
 abbrev pub number_unless : Option Error → ℕ → ℕ

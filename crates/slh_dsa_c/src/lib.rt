@@ -1,20 +1,25 @@
 //! SLH-DSA (FIPS 205) over SHA-2 for callers in C, and by it for any language that calls C.
 //!
 //! A static library: its header is `include/slh_dsa.h`, which has the sizes and the statuses. Each
-//! export calls the functions of `slh_dsa`, `slh_stream` and `slh_audit` on the caller's memory, and answers a
-//! status: 0, or the number of the first cause that stands. None takes memory, none keeps
-//! anything between calls, and none calls back.
+//! export calls the functions of `slh_dsa`, `slh_stream` and `slh_audit`, or of `slh_chain`,
+//! `slh_manifest`, `slh_batch` and `slh_log`, on the caller's memory, and answers a status: 0, or the
+//! number of the first cause that stands. None takes memory, none keeps anything between calls, and
+//! none calls back.
 //!
 //! The contracts hold where the caller's pointers and lengths describe its memory: no pointer is
 //! null, what a call writes is apart from all else that it is given, and the stack has room.
 #![tactic(auto)]
 
 mod audit;
+mod batches;
+mod chains;
 mod digests;
 mod evidence;
 mod keygen;
 mod keys;
 pub mod laws;
+mod logs;
+mod manifests;
 mod mode;
 mod one_by_one;
 mod set;
@@ -24,17 +29,23 @@ mod sizes;
 mod status;
 #[cfg(test)]
 mod tests;
+#[cfg(test)]
+mod update_tests;
 mod verify;
 mod verify_pieces;
 mod verify_set;
 
 pub use audit::{slh_dsa_sha2_audit, slh_dsa_sha2_check_evidence};
+pub use batches::slh_batch_accept;
+pub use chains::{CEnd, slh_chain_walk};
 pub use digests::{
     slh_dsa_sha2_sign_digest, slh_dsa_sha2_sign_digest_deterministic, slh_dsa_sha2_verify_digest,
 };
 pub use evidence::CEvidence;
 pub use keygen::slh_dsa_sha2_keygen;
 pub use keys::{slh_dsa_sha2_check_key, slh_dsa_sha2_public};
+pub use logs::{CHead, slh_log_check_growth, slh_log_check_presence, slh_log_open};
+pub use manifests::{CEntry, slh_manifest_entry, slh_manifest_find, slh_manifest_open};
 pub use sign::{slh_dsa_sha2_sign, slh_dsa_sha2_sign_deterministic};
 pub use sign_pieces::{
     CSigner, slh_dsa_sha2_sign_again, slh_dsa_sha2_sign_begin,

@@ -40,11 +40,15 @@ abbrev pub has_count : List ℕ → Bool
 has_count manifest =
     nat_le 4 (length manifest) && nat_le 1 (count_of manifest) && nat_le (count_of manifest) 4096
 
+-- whether so many entries follow it, whatever follows them
+abbrev pub has_entries : List ℕ → Bool
+has_entries manifest =
+    has_count manifest && are_entries (count_of manifest) [] (drop 4 manifest)
+
 -- whether bytes have the form of a manifest, of whatever signature
 abbrev pub is_manifest : Scheme → List ℕ → Bool
 is_manifest Z manifest =
-    has_count manifest && are_entries (count_of manifest) [] (drop 4 manifest)
-    && length (signature_part manifest) == signature_size Z
+    has_entries manifest && length (signature_part manifest) == signature_size Z
 
 -- why a manifest is refused, whatever the store has
 abbrev pub form_refusal : Scheme → List ℕ → Option CheckError

@@ -1,16 +1,16 @@
 //! Manifests that were read.
-ghost use Rattle.std.specs.Prelude.{◌≡◌, ◌≤◌, IfOk, find, length, slice_get};
+ghost use Rattle.std.specs.Prelude.{◌≡◌, ◌≤◌, IfOk, IfSome, find, is_some, length, slice_get};
 ghost use Rattle.std.specs.Option.{option_map};
 ghost use Rattle.std.specs.Str.{bytes_eq};
 ghost use Rattle.slh_trees.specs.Refusals.{RefusedExactly};
-ghost use Rattle.slh_manifest.specs.Checking.{entries_of, manifest_refusal};
+ghost use Rattle.slh_manifest.specs.Checking.{entries_of, has_entries, manifest_refusal};
 ghost use Rattle.slh_manifest.specs.Entries.{entry_copied};
 
 use crate::builder::CONTEXT;
 use crate::entry::front_entry;
 use crate::entry_ref::EntryRef;
 use crate::error::CheckError;
-use crate::parts::parts_of;
+use crate::parts::{entries_of, parts_of};
 use slh_dsa::{Mode, ParameterSet, VerifyingKey};
 use std::marker::Model;
 
@@ -51,6 +51,16 @@ impl<'a> Manifest<'a> {
             count: parts.count,
             entries: parts.entries,
         })
+    }
+
+    /// Reads a manifest again that was opened, without its signature: for who keeps the bytes and no
+    /// borrow of them. `None`: no entries stand there. Of bytes that nobody opened it tells nothing.
+    pub fn reopen(bytes: &'a [u8]) -> Option<Self>
+        ensures form { is_some result ≡ has_entries bytes.now }
+        ensures entries { IfSome result (λ manifest. manifest ≡ entries_of bytes.now) }
+    {
+        let (count, entries) = entries_of(bytes)?;
+        Some(Manifest { count, entries })
     }
 
     /// How many entries there are, 1 to 4096.

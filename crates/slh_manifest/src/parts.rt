@@ -3,7 +3,7 @@ ghost use Rattle.std.specs.Prelude.{◌≡◌, ◌≤◌, ◌^◌, None, Some, I
 ghost use Rattle.std.specs.Prelude.{drop, length, if◌then◌else◌};
 ghost use Rattle.slh_trees.specs.Checking.{signature_size};
 ghost use Rattle.slh_manifest.specs.Checking.{body_part, count_of as spec_count_of, has_count};
-ghost use Rattle.slh_manifest.specs.Checking.{is_manifest, signature_part};
+ghost use Rattle.slh_manifest.specs.Checking.{has_entries, is_manifest, signature_part};
 
 use crate::entry::{MAX_ENTRIES, skip_entries};
 use hybrid_array::ArraySize;
@@ -35,6 +35,18 @@ fn count_of(manifest: &[u8]) -> Option<u32>
         return None;
     }
     Some(count)
+}
+
+/// How many entries a manifest has, and what follows their number, where they stand there.
+pub(crate) fn entries_of(manifest: &[u8]) -> Option<(u32, &[u8])>
+    ensures form { is_some result ≡ has_entries manifest.now }
+    ensures count { IfSome result (λ found. found.0 ≡ spec_count_of manifest.now) }
+    ensures entries { IfSome result (λ found. found.1.now ≡ drop 4 manifest.now) }
+{
+    let count = count_of(manifest)?;
+    let entries = &manifest[4..];
+    skip_entries(count, entries)?;
+    Some((count, entries))
 }
 
 /// The parts of a manifest. `None`: the bytes don't have the form of one.

@@ -92,7 +92,7 @@ class StateError(Refused):
 class ChangedError(Refused):
     """The second pass of signing was over other bytes than the first."""
 
-    status = 14
+    status = 21
     text = "the second pass was over other bytes than the first"
 
 

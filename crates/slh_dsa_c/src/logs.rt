@@ -1,0 +1,219 @@
+//! Heads of logs, and proofs that are checked against them.
+ghost use Rattle.std.specs.Prelude.{◌≡◌, ◌≢◌, length, IfErr, IfOk, Some};
+ghost use Rattle.slh_dsa_c.specs.Logs.{growth_number, growth_status, log_open_number};
+ghost use Rattle.slh_dsa_c.specs.Logs.{log_open_status, open_number, presence_number};
+ghost use Rattle.slh_dsa_c.specs.Logs.{presence_status, text_of as spec_text_of};
+ghost use Rattle.slh_dsa_c.specs.Status.{status_of};
+ghost use Rattle.slh_log.specs.Reading.{read_root, read_size};
+ghost use Rattle.slh_sets.specs.Sets.{name_of, scheme_for};
+
+use crate::status::{
+    EMPTY, FORM, INVALID, LENGTH, MESSAGE_TOO_LONG, NO_ENTRY, OK, ORIGIN, SMALLER, UNKNOWN_SET,
+    UNSIGNED,
+};
+use hybrid_array::ArraySize;
+use slh_dsa::{
+    ParameterSet, Sha2_128f, Sha2_128s, Sha2_192f, Sha2_192s, Sha2_256f, Sha2_256s, VerifyingKey,
+};
+use slh_log::{
+    Checkpoint, GrowthError, OpenError, PresenceError, check_growth, check_presence, open_in,
+};
+use slh_sets::Set;
+
+/// What the head of a log says.
+#[repr(C)]
+#[derive(Drop)]
+pub struct CHead {
+    /// How many entries the log has.
+    pub size: u64,
+    /// The root of the tree over them.
+    pub root: [u8; 32],
+}
+
+impl CHead {
+    // The head as the library has it.
+    fn read(&self) -> Checkpoint
+        ensures size { result.size ≡ self.now.size }
+        ensures root { result.root ≡ self.now.root }
+    {
+        Checkpoint {
+            size: self.size,
+            root: self.root,
+        }
+    }
+}
+
+// The number of a refusal to open.
+fn number_of_open(error: OpenError) -> u32
+    ensures value { result ≡ open_number error }
+    ensures some { result ≢ 0 }
+{
+    match error {
+        OpenError::Form => FORM,
+        OpenError::Origin => ORIGIN,
+        OpenError::Unsigned => UNSIGNED,
+        OpenError::Invalid => INVALID,
+    }
+}
+
+// The number of a refusal of an entry.
+fn number_of_presence(error: PresenceError) -> u32
+    ensures { result ≡ presence_number error }
+{
+    match error {
+        PresenceError::Index => NO_ENTRY,
+        PresenceError::Entry => MESSAGE_TOO_LONG,
+        PresenceError::Length => LENGTH,
+        PresenceError::Invalid => INVALID,
+    }
+}
+
+// The number of a refusal of a growth.
+fn number_of_growth(error: GrowthError) -> u32
+    ensures { result ≡ growth_number error }
+{
+    match error {
+        GrowthError::Empty => EMPTY,
+        GrowthError::Smaller => SMALLER,
+        GrowthError::Length => LENGTH,
+        GrowthError::Invalid => INVALID,
+    }
+}
+
+// Bytes as the text that they are, or the empty one, which is no log's origin.
+fn text_of(bytes: &[u8]) -> &str
+    ensures { result.now ≡ spec_text_of bytes.now }
+{
+    match str::from_utf8(bytes) {
+        Ok(text) => text,
+        Err(_) => "",
+    }
+}
+
+// A checkpoint of a log with an origin.
+#[derive(Clone, Copy)]
+struct Open<'a> {
+    public: &'a [u8],
+    origin: &'a [u8],
+    checkpoint: &'a [u8],
+}
+
+// Opens a checkpoint by a key of bytes, in a buffer that is long enough.
+fn open_by<P: ParameterSet>(call: Open<'_>, scratch: &mut [u8]) -> Result<CHead, u32>
+    ensures status { let c = call.entry in status_of result ≡ log_open_number P.scheme P.set_name
+        c.public.now c.origin.now c.checkpoint.now (length scratch.old) }
+    ensures size { let c = call.entry in
+        IfOk result (λ head. read_size c.checkpoint.now ≡ Some head.size) }
+    ensures root { let c = call.entry in
+        IfOk result (λ head. read_root c.checkpoint.now ≡ Some head.root) }
+    ensures refused { IfErr result (λ number. number ≢ 0) }
+{
+    let Ok(key) = VerifyingKey::<P>::try_from(call.public) else {
+        return Err(LENGTH);
+    };
+    if scratch.len() < 4 || scratch.len() - 4 < P::SigLen::USIZE {
+        return Err(LENGTH);
+    }
+    let signed = &mut scratch[..4 + P::SigLen::USIZE];
+    match open_in(&key, text_of(call.origin), call.checkpoint, signed) {
+        Ok(head) => {
+            let root = head.root;
+            Ok(CHead {
+                size: head.size,
+                root,
+            })
+        }
+        Err(error) => Err(number_of_open(error)),
+    }
+}
+
+// Opens a checkpoint in a set.
+fn open_in_set(set: Set, call: Open<'_>, scratch: &mut [u8]) -> Result<CHead, u32>
+    ensures status { let c = call.entry in status_of result ≡ log_open_number (scheme_for set)
+        (name_of set) c.public.now c.origin.now c.checkpoint.now (length scratch.old) }
+    ensures size { let c = call.entry in
+        IfOk result (λ head. read_size c.checkpoint.now ≡ Some head.size) }
+    ensures root { let c = call.entry in
+        IfOk result (λ head. read_root c.checkpoint.now ≡ Some head.root) }
+    ensures refused { IfErr result (λ number. number ≢ 0) }
+{
+    match set {
+        Set::Sha2_128s => open_by::<Sha2_128s>(call, scratch),
+        Set::Sha2_128f => open_by::<Sha2_128f>(call, scratch),
+        Set::Sha2_192s => open_by::<Sha2_192s>(call, scratch),
+        Set::Sha2_192f => open_by::<Sha2_192f>(call, scratch),
+        Set::Sha2_256s => open_by::<Sha2_256s>(call, scratch),
+        Set::Sha2_256f => open_by::<Sha2_256f>(call, scratch),
+    }
+}
+
+/// Opens a checkpoint that a key signed for the log of an origin, in a buffer of the caller's of at
+/// least 4 bytes more than a signature of the set has. What the buffer holds afterwards isn't said.
+#[unsafe(no_mangle)]
+pub extern "C" fn slh_log_open(
+    set: u32,
+    public: &[u8],
+    origin: &[u8],
+    checkpoint: &[u8],
+    scratch: &mut [u8],
+    head: &mut CHead,
+) -> u32
+    ensures status { result ≡ log_open_status set public.now origin.now checkpoint.now
+        (length scratch.old) }
+    ensures size { result ≡ 0 → read_size checkpoint.now ≡ Some head.new.size }
+    ensures root { result ≡ 0 → read_root checkpoint.now ≡ Some head.new.root }
+    ensures same { result ≢ 0 → head.new ≡ head.old }
+{
+    let call = Open {
+        public,
+        origin,
+        checkpoint,
+    };
+    let Some(set) = Set::from_number(set) else {
+        return UNKNOWN_SET;
+    };
+    match open_in_set(set, call, scratch) {
+        Ok(opened) => {
+            *head = opened;
+            OK
+        }
+        Err(number) => number,
+    }
+}
+
+/// Checks by a path, of 32 bytes a digest, that entry `index` of a log is `entry` (RFC 9162,
+/// 2.1.3.2).
+#[unsafe(no_mangle)]
+pub extern "C" fn slh_log_check_presence(
+    head: &CHead,
+    index: u64,
+    entry: &[u8],
+    proof: &[u8],
+) -> u32
+    ensures { result ≡ presence_status head.now index entry.now proof.now }
+{
+    let (digests, rest) = proof.as_chunks();
+    if !rest.is_empty() {
+        return LENGTH;
+    }
+    match check_presence(&head.read(), index, entry, digests) {
+        Ok(()) => OK,
+        Err(error) => number_of_presence(error),
+    }
+}
+
+/// Checks by a proof, of 32 bytes a digest, that a log grew from an old head to a new one and kept
+/// all entries (RFC 9162, 2.1.4.2).
+#[unsafe(no_mangle)]
+pub extern "C" fn slh_log_check_growth(old: &CHead, new: &CHead, proof: &[u8]) -> u32
+    ensures { result ≡ growth_status old.now new.now proof.now }
+{
+    let (digests, rest) = proof.as_chunks();
+    if !rest.is_empty() {
+        return LENGTH;
+    }
+    match check_growth(&old.read(), &new.read(), digests) {
+        Ok(()) => OK,
+        Err(error) => number_of_growth(error),
+    }
+}
