@@ -49,12 +49,16 @@ mod checking;
 mod clashing;
 pub mod clones;
 mod error;
+mod hashing;
+mod head;
 pub mod laws;
 mod parts;
 mod sealed;
 
 pub use batch::{Batch, MAX_MESSAGES};
-pub use checking::accept;
+pub use checking::{Place, accept, accept_digest, accepted_place};
 pub use clashing::clash;
-pub use error::{BatchError, ReceiptError};
+pub use error::{BatchError, HeadError, ReceiptError};
+pub use hashing::MessageHasher;
+pub use head::{Head, accept_digest_under, accept_under};
 pub use sealed::Sealed;
