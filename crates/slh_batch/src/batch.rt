@@ -130,10 +130,7 @@ impl Batch {
             IfOk result (λ sealed. sealed.signature
             ≡ signature_of P.scheme key.now opt_rand message) }
     {
-        let leaves = self.leaves;
-        if leaves.is_empty() {
-            return Err(BatchError::Empty);
-        }
+        let leaves = self.some_leaves()?;
         check_opt_rand::<P, BatchError>(opt_rand, BatchError::Randomizer)?;
         let levels = Levels::<Sha256>::over(leaves)?;
         let message = root_message(levels.len() as u32, levels.root());
@@ -152,12 +149,24 @@ impl Batch {
         ensures leaves { IfOk result (λ sealed. sealed.leaves ≡ self) }
         ensures signature { IfOk result (λ sealed. sealed.signature ≡ signature) }
     {
+        let leaves = self.some_leaves()?;
+        Ok(Sealed {
+            levels: Levels::over(leaves)?,
+            signature,
+        })
+    }
+
+    // The digests, of which there are some. `Empty`.
+    fn some_leaves(self) -> Result<Vec<[u8; DIGEST_LEN]>, BatchError>
+        ensures refusal { RefusedExactly result (empty_refusal self) }
+        ensures value { IfOk result (λ leaves. leaves.items ≡ self) }
+        ensures few { IfOk result (λ leaves. length leaves.items ≤ MAX_MESSAGES) }
+    {
         let leaves = self.leaves;
         if leaves.is_empty() {
             return Err(BatchError::Empty);
         }
-        let levels = Levels::<Sha256>::over(leaves)?;
-        Ok(Sealed { levels, signature })
+        Ok(leaves)
     }
 }
 

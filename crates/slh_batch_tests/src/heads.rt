@@ -41,7 +41,7 @@ fn is_accepted(head: &Head<'_>, i: u16, path: &[[u8; 32]]) -> bool {
     accept_under(head, &[high, low], index, path) == Ok(())
         && accept_digest_under(head, &digest, index, path) == Ok(())
         && accept_under(head, &[low, high, 1], index, path) == Err(ReceiptError::Invalid)
-        && accept_digest_under(head, &[i as u8; 32], index, path) == Err(ReceiptError::Invalid)
+        && accept_digest_under(head, &[9; 32], index, path) == Err(ReceiptError::Invalid)
 }
 
 // The SHA-256 of what all receipts have before their signatures, where each message is accepted.

@@ -169,20 +169,17 @@ fn receipts_of_other_forms_or_numbers_have_no_clash(rt: HostRuntime) {
 // A head of three messages: number, root and signature.
 const HEAD_LEN: usize = 4 + 32 + 21;
 
-// The head of three messages, and the path of message 1.
-fn head_and_path(alloc: Global) -> Option<([u8; HEAD_LEN], [[u8; 32]; 2])> {
-    let (mut bytes, mut digests) = ([0u8; HEAD_LEN], [[0u8; 32]; 2]);
+// The head of three messages.
+fn head_of_three(alloc: Global) -> Option<[u8; HEAD_LEN]> {
+    let mut bytes = [0u8; HEAD_LEN];
     let Ok(batch) = sealed(alloc, 3, None) else {
         return None;
     };
-    match (head(alloc, &batch), path(alloc, &batch, 1)) {
-        (Ok(head), Ok(path)) if head.len() == HEAD_LEN && path.len() == 2 => {
-            bytes.copy_from_slice(&head);
-            digests.copy_from_slice(&path);
-        }
+    match head(alloc, &batch) {
+        Ok(head) if head.len() == HEAD_LEN => bytes.copy_from_slice(&head),
         _ => return None,
     }
-    Some((bytes, digests))
+    Some(bytes)
 }
 
 fn is_no_head(bytes: &[u8]) -> bool {
@@ -217,8 +214,8 @@ fn has_one_form(head: &[u8; HEAD_LEN]) -> bool {
 }
 
 fn is_no_other_head(alloc: Global) -> bool {
-    match head_and_path(alloc) {
-        Some((head, _)) => has_one_form(&head),
+    match head_of_three(alloc) {
+        Some(head) => has_one_form(&head),
         None => false,
     }
 }
@@ -232,8 +229,10 @@ fn is_under(head: &Head<'_>, index: u32, path: &[[u8; 32]]) -> Result<(), Receip
     accept_under(head, &[0, 1], index, path)
 }
 
-fn has_one_path(head: &Head<'_>, path: &[[u8; 32]; 2]) -> bool {
-    let [first, second] = *path;
+fn has_one_path(head: &Head<'_>, path: &[[u8; 32]]) -> bool {
+    let &[first, second] = path else {
+        return false;
+    };
     is_under(head, 1, path) == Ok(())
         && is_under(head, 0, path) == Err(ReceiptError::Invalid)
         && is_under(head, 1, &[second, first]) == Err(ReceiptError::Invalid)
@@ -244,17 +243,21 @@ fn has_one_path(head: &Head<'_>, path: &[[u8; 32]; 2]) -> bool {
         && is_under(head, 1, &[first, second, second]) == Err(ReceiptError::Form)
 }
 
-fn is_refused_by_other_paths(alloc: Global) -> bool {
-    match head_and_path(alloc) {
-        Some((bytes, path)) => match open(&bytes) {
-            Ok(head) => has_one_path(&head, &path),
-            Err(_) => false,
-        },
-        None => false,
+fn has_one_path_in(bytes: &[u8], path: &[[u8; 32]]) -> bool {
+    match open(bytes) {
+        Ok(head) => has_one_path(&head, path),
+        Err(_) => false,
     }
+}
+
+fn is_refused_by_other_paths(alloc: Global) -> Result<bool, BatchError> {
+    let batch = sealed(alloc, 3, None)?;
+    let path = path(alloc, &batch, 1)?;
+    let bytes = head(alloc, &batch)?;
+    Ok(has_one_path_in(&bytes, &path))
 }
 
 #[test]
 fn other_paths_and_places_are_refused_under_a_head(rt: HostRuntime) {
-    assert!(rt; is_refused_by_other_paths(rt.alloc()));
+    assert!(rt; is_refused_by_other_paths(rt.alloc()) == Ok(true));
 }

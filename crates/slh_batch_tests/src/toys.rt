@@ -1,8 +1,7 @@
 //! Batches of the toy suite. Each call is written once, and the tests share it.
 use crate::receipts::numbers;
 use slh_batch::{
-    Batch, BatchError, Head, HeadError, Place, ReceiptError, Sealed, accept, accept_digest,
-    clash,
+    Batch, BatchError, Head, HeadError, Place, ReceiptError, Sealed, accept, accept_digest, clash,
 };
 use slh_dsa::SigningKey;
 use slh_trees::toy::Toy;
