@@ -1,5 +1,5 @@
 -- Heads that open, and receipts under them.
-use Rattle.std.proofs.Common.{◌≡◌, ◌≢◌, ℕ, ◌+◌, ◌*◌, ◌^◌, ◌<◌, ◌≤◌, ◌==◌, List, [], ◌∷◌, ◌++◌, length, drop, get_or, map, Bool, true, false, Option, Some, None, refl, sym, ap, ◌∙◌, arith, inl, inr, length-append, length-drop, if◌then◌else◌}
+use Rattle.std.proofs.Common.{◌⊎◌, ◌≡◌, ◌≢◌, ℕ, ◌+◌, ◌*◌, ◌^◌, ◌<◌, ◌≤◌, ◌==◌, List, [], ◌∷◌, ◌++◌, length, drop, get_or, map, Bool, true, false, Option, Some, None, refl, sym, ap, ◌∙◌, arith, inl, inr, length-append, length-drop, if◌then◌else◌}
 use Rattle.std.specs.Bool.{Decides}
 use Rattle.std.specs.List.{concat}
 use Rattle.std.specs.Prelude.{nat_lt, ◌&&◌}
@@ -28,7 +28,7 @@ use Rattle.slh_batch.proofs.Cuts.{digests-concat, length-concat}
 use Rattle.slh_batch.proofs.Forms.{Decides-leb, RightForm, has_form, no_form}
 use Rattle.slh_batch.proofs.Reached.{alone}
 use Rattle.slh_batch.specs.Calls.{accept_error, head_form_refusal, head_refusal, led_refusal, open_error, place_refusal, under_error}
-use Rattle.slh_batch.specs.Heads.{BatchHead, IsOfOneRoot, has_head_form, head_count, head_in, head_of, head_root, head_sig, is_signed_root, receipt_under}
+use Rattle.slh_batch.specs.Heads.{BatchHead, IsOfAnotherRoot, has_head_form, head_count, head_in, head_of, head_root, head_sig, is_signed_root, receipt_under, root_under}
 use Rattle.slh_batch.specs.Receipts.{batch_context, batch_message, climbed_root, has_right_form, path_len, receipt_count, receipt_index, receipt_path, receipt_path_len, receipt_sig, root_message}
 use Rattle.slh_batch.specs.Tree.{batch_climb, batch_inputs, batch_leaf, batch_path, batch_sides, batch_tree}
 use Rattle.slh_batch.specs.declared.error.HeadError.TheVariants.{Invalid as Unsigned}
@@ -141,10 +141,11 @@ refuses true false false false e holds is = is
 refuses true false false true e holds is = absurd (cc)
 refuses true false true valid e holds is = absurd (cc (holds refl, is))
 
-equal : (a b : Bool) → (a ≡ true → b ≡ true) → (b ≡ true → a ≡ true) → a ≡ b
-equal true b to from = sym (to refl)
-equal false true to from = from refl
-equal false false to from = refl
+-- otherwise the other is good alone
+equal : (fits long same valid : Bool) → (same ≡ true → valid ≡ true) → (answer fits long valid ≡ answer fits long same) ⊎ ((same ≡ false) × (valid ≡ true))
+equal fits long true valid holds = inl (rw (holds refl) refl)
+equal fits long false true holds = inr (refl, refl)
+equal fits long false false holds = inl refl
 
 -- the head's own root is signed
 own : (Z : Scheme) (key root : List ℕ) (head : BatchHead) → Opened Z key head → bytes_eq root head.root ≡ true → is_signed_root Z key head root ≡ true
@@ -169,15 +170,16 @@ refused_whole Z key bytes m i path e none h wide whole =
     (sym (whole_is Z key m (receipt_under head i path) head i path head_is (says head i path h head_is.few) wide) ∙ whole)
 
 pub same_whole : (Z : Scheme) (key bytes m : List ℕ) (i : ℕ) (path : List (List ℕ)) → open_error Z key bytes ≡ None → i < 2 ^ 32 → Wide path
-    → IsOfOneRoot Z key (head_in bytes) → accept_error Z key m (receipt_under (head_in bytes) i path) ≡ under_error (head_in bytes) m i path
-same_whole Z key bytes m i path none h wide one =
+    → (accept_error Z key m (receipt_under (head_in bytes) i path) ≡ under_error (head_in bytes) m i path) ⊎ IsOfAnotherRoot Z key (head_in bytes) (root_under (head_in bytes) m i path)
+same_whole Z key bytes m i path none h wide =
     let head = head_in bytes in
     let head_is = opened Z key bytes none in
-    let root = batch_climb (batch_leaf m) i head.count path in
-    let same : bytes_eq root head.root ≡ is_signed_root Z key head root
-    = equal (bytes_eq root head.root) (is_signed_root Z key head root) (own Z key root head head_is) (λ signed. (bytes_eq-Decides root head.root).1 (one root signed)) in
-    whole_is Z key m (receipt_under head i path) head i path head_is (says head i path h head_is.few) wide
-    ∙ ap (answer (fits head i path) (nat_lt (2 ^ 60) (length m))) (sym same)
+    let root = root_under head m i path in
+    let whole = whole_is Z key m (receipt_under head i path) head i path head_is (says head i path h head_is.few) wide in
+    elim (equal (fits head i path) (nat_lt (2 ^ 60) (length m)) (bytes_eq root head.root) (is_signed_root Z key head root) (own Z key root head head_is)) [
+      | inl same ↦ inl (whole ∙ same)
+      | inr two ↦ inr (record { other = λ same. cc ((bytes_eq-Decides root head.root).1 same, two.0); signed = two.1 })
+    ]
 
 -- what the head of a sealed batch says
 pub head_says : (messages : List (List ℕ)) (sig : List ℕ) → 0 < length messages → length messages ≤ 2 ^ 20

@@ -1,6 +1,6 @@
--- The head of a batch: what is signed, and the signature. Who verified it once checks each message by
--- its path alone.
-use Rattle.std.specs.Prelude.{◌≡◌, ℕ, ◌+◌, ◌^◌, ◌==◌, ◌&&◌, List, ◌++◌, length, take, drop}
+-- The head of a batch: what is signed, and the signature. Who verified it once checks each message
+-- by its path alone.
+use Rattle.std.specs.Prelude.{◌≡◌, ◌≢◌, ℕ, ◌+◌, ◌^◌, ◌==◌, ◌&&◌, List, ◌++◌, length, take, drop}
 use Rattle.std.specs.Prelude.{Bool, true, nat_le}
 use Rattle.std.specs.List.{concat}
 use Rattle.slh_core.specs.Bytes.{big_endian, number_of, part}
@@ -9,6 +9,7 @@ use Rattle.slh_trees.specs.Checking.{signature_size}
 use Rattle.slh_dsa.specs.Calls.{is_valid}
 use Rattle.slh_frames.specs.declared.frame.Mode.TheVariants.{Pure}
 use Rattle.slh_batch.specs.Receipts.{batch_context, batch_message, root_message}
+use Rattle.slh_batch.specs.Tree.{batch_climb, batch_leaf}
 
 -- the head of a batch, for the digests q of all messages and the batch's signature
 abbrev pub head_of : List (List ℕ) → List ℕ → List ℕ
@@ -37,7 +38,8 @@ pub record BatchHead : Type 0 where
   pub signature : List ℕ
 
 abbrev pub head_in : List ℕ → BatchHead
-head_in bytes = record { count = head_count bytes; root = head_root bytes; signature = head_sig bytes }
+head_in bytes =
+    record { count = head_count bytes; root = head_root bytes; signature = head_sig bytes }
 
 -- the receipt of message i of a head's by a path
 abbrev pub receipt_under : BatchHead → ℕ → List (List ℕ) → List ℕ
@@ -49,7 +51,12 @@ abbrev pub is_signed_root : Scheme → List ℕ → BatchHead → List ℕ → B
 is_signed_root Z key head root =
     is_valid Z Pure key batch_context (root_message head.count root) head.signature
 
--- it is for no other root than the head's
-abbrev pub IsOfOneRoot : Scheme → List ℕ → BatchHead → Type 0
-IsOfOneRoot Z key head =
-    (root : List ℕ) → is_signed_root Z key head root ≡ true → root ≡ head.root
+-- the root that a path leads to from message i of a head's, which is m
+abbrev pub root_under : BatchHead → List ℕ → ℕ → List (List ℕ) → List ℕ
+root_under head m i path = batch_climb (batch_leaf m) i head.count path
+
+-- the signature of a head is the key's for this root, which isn't the head's, too
+pub record IsOfAnotherRoot (Z : Scheme) (key : List ℕ) (head : BatchHead) (root : List ℕ)
+    : Type 0 where
+  pub other : root ≢ head.root
+  pub signed : is_signed_root Z key head root ≡ true

@@ -138,9 +138,9 @@ impl Batch {
         Ok(Sealed { levels, signature })
     }
 
-    /// The batch sealed by a signature that was made before: that of a sealed batch whose digests
-    /// are these. Each node is hashed once; whether the signature is one of them is not looked at,
-    /// but by who opens [`Sealed::head`]. `Empty`; `Memory`.
+    /// Seals the batch again by the signature of an earlier seal of the same digests, without a
+    /// key. Each node is hashed once. Whether the signature is one of these digests isn't checked:
+    /// who opens [`Sealed::head`] checks it. `Empty`; `Memory`.
     pub fn with_signature<P: ParameterSet>(
         self,
         signature: Signature<P>,

@@ -6,7 +6,8 @@ ghost use Rattle.slh_trees.specs.Checking.{signature_size};
 ghost use Rattle.slh_trees.specs.Refusals.{RefusedExactly};
 ghost use Rattle.slh_batch.specs.Calls.{accept_digest_error, accept_error};
 ghost use Rattle.slh_batch.specs.Parts.{FitsItsPlace, place_of};
-ghost use Rattle.slh_batch.specs.Receipts.{batch_context, receipt_count, receipt_index, root_message};
+ghost use Rattle.slh_batch.specs.Receipts.{batch_context, receipt_count, receipt_index};
+ghost use Rattle.slh_batch.specs.Receipts.{root_message};
 ghost use Rattle.slh_batch.specs.Tree.{batch_climb};
 ghost use Rattle.slh_batch.specs.declared.error.ReceiptError.TheVariants.{Invalid};
 
@@ -83,9 +84,9 @@ fn check_parts<P: ParameterSet>(
     })
 }
 
-/// Checks the receipt of a message under the key of its batch, and answers which message of how many
-/// it is. `Form`; `Message`; `Invalid`: the signature isn't one of the number and the root that the
-/// receipt leads to. Takes no memory.
+/// Checks the receipt of a message under the key of its batch, and answers which message of how
+/// many it is. `Form`; `Message`; `Invalid`: the signature isn't one of the number and the root that
+/// the receipt leads to. Takes no memory.
 pub fn accepted_place<P: ParameterSet>(
     vk: &VerifyingKey<P>,
     msg: &[u8],

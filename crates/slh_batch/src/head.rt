@@ -17,8 +17,8 @@ use slh_dsa::{Mode, ParameterSet, VerifyingKey};
 use slh_frames::MAX_MESSAGE;
 use std::marker::Model;
 
-/// What is signed for a batch and the signature, which was verified. Clauses see it as its number of
-/// messages, its root and its signature.
+/// What is signed for a batch and the signature, which was verified. Clauses see it as its number
+/// of messages, its root and its signature.
 #[derive(Drop)]
 pub struct Head<'a> {
     count: u32,
@@ -126,13 +126,14 @@ impl<'a> Head<'a> {
     }
 }
 
-/// Checks by a path that message `index` of a batch is `msg`, under a head: the answer is that of
-/// [`accept`] to the receipt of these and the head's signature, which is not verified again. `Form`:
-/// the batch has no such message, or the path is too long or too short for it; `Message`; `Invalid`:
-/// the path leads to another root. Hashes the message, and once for each digest of the path. Takes
-/// no memory.
+/// Checks by a path that message `index` of a batch is `msg`, under a head, as [`accept`] checks
+/// the receipt of these and the head's signature, which isn't verified again: the law
+/// [`heads_stand_for_receipts`] says how the answers go together. `Form`: the batch has no such
+/// message, or the path is too long or too short for it; `Message`; `Invalid`: the path leads to
+/// another root. Hashes the message, and once for each digest of the path. Takes no memory.
 ///
 /// [`accept`]: crate::accept
+/// [`heads_stand_for_receipts`]: crate::laws::heads_stand_for_receipts
 pub fn accept_under(
     head: &Head<'_>,
     msg: &[u8],

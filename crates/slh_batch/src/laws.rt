@@ -1,6 +1,6 @@
 //! What receipts, and clashes of receipts, say, as the contracts of functions that do nothing. The
 //! laws of the tree are merkle_tree's.
-ghost use Rattle.std.specs.Prelude.{◌≡◌, ◌≢◌, ◌↔◌, ℕ, ◌+◌, ◌*◌, ◌^◌, ◌<◌, ◌≤◌, List, [], ◌∷◌};
+ghost use Rattle.std.specs.Prelude.{◌≡◌, ◌≢◌, ◌↔◌, ◌⊎◌, ℕ, ◌+◌, ◌*◌, ◌^◌, ◌<◌, ◌≤◌, List, [], ◌∷◌};
 ghost use Rattle.std.specs.Prelude.{length, drop, map, slice_index_or, All, true};
 ghost use Rattle.std.specs.Prelude.{Option, None, Some};
 ghost use Rattle.merkle_tree.specs.Clashes.{clash_place};
@@ -13,7 +13,8 @@ ghost use Rattle.slh_trees.specs.Signing.{signature_of};
 ghost use Rattle.slh_batch.specs.Calls.{accept_error, are_comparable, clash_height, open_error};
 ghost use Rattle.slh_batch.specs.Calls.{under_error};
 ghost use Rattle.slh_batch.specs.Climbs.{ClashesAt, IsFirstClash, input_at, is_left_at, sibling_at};
-ghost use Rattle.slh_batch.specs.Heads.{BatchHead, IsOfOneRoot, head_in, head_of, receipt_under};
+ghost use Rattle.slh_batch.specs.Heads.{BatchHead, IsOfAnotherRoot, head_in, head_of};
+ghost use Rattle.slh_batch.specs.Heads.{receipt_under, root_under};
 ghost use Rattle.slh_batch.specs.Receipts.{batch_context, batch_message, climbed_inputs};
 ghost use Rattle.slh_batch.specs.Receipts.{climbed_root, has_right_form, receipt_count};
 ghost use Rattle.slh_batch.specs.Receipts.{receipt_index, receipt_of, receipt_path_len};
@@ -86,8 +87,8 @@ pub fn sealed_head_is_opened<P: ParameterSet>()
 
 /// What is answered under a head that opens is what is answered to the whole receipt, which has the
 /// head's signature. What is accepted under the head has a receipt that is accepted, and a receipt
-/// that is refused is refused under the head for the same cause. Both answer the same, but where
-/// the head's signature is one of another root, too.
+/// that is refused is refused under the head for the same cause. Both answers are the same, or the
+/// head's signature is one of another root, too: the one that the path leads to.
 pub fn heads_stand_for_receipts<P: ParameterSet>()
     ensures accepted { (key bytes m : List ℕ) (i : ℕ) (path : List (List ℕ))
         → open_error P.scheme key bytes ≡ None
@@ -108,12 +109,12 @@ pub fn heads_stand_for_receipts<P: ParameterSet>()
         → i < 2 ^ 32
         → All (λ d. length d ≡ 32) path
         → let head = head_in bytes in
-        IsOfOneRoot P.scheme key head
-        → accept_error P.scheme key m (receipt_under head i path) ≡ under_error head m i path }
+        (accept_error P.scheme key m (receipt_under head i path) ≡ under_error head m i path)
+        ⊎ IsOfAnotherRoot P.scheme key head (root_under head m i path) }
 {}
 
-/// Under a head one place is one message's: where two are accepted there, each by a path of its own,
-/// the ways up from them clash.
+/// Under a head one place is one message's: where two are accepted there, each by a path of its
+/// own, the ways up from them clash.
 pub fn heads_bind()
     ensures { (head : BatchHead) (m o : List ℕ) (i : ℕ) (p r : List (List ℕ))
         → All (λ d. length d ≡ 32) p
@@ -125,18 +126,13 @@ pub fn heads_bind()
         (batch_inputs o i head.count r) ≡ Some h) }
 {}
 
-/// On the way up by a receipt of right form the leaf's input is hashed first. At each height above
-/// it the input has the digest of the one before, beside the sibling from the path; the root that
-/// the receipt leads to is the digest of the last.
+/// On the way up by a receipt the leaf's input is hashed first. At each height above it the input
+/// has the digest of the one before, beside the sibling from the path; the root that a receipt of
+/// right form leads to is the digest of the last.
 pub fn climbs_are_chains()
-    ensures len { (Z : Scheme) (m r : List ℕ)
-        → has_right_form Z r ≡ true
-        → length (climbed_inputs m r) ≡ receipt_path_len r + 1 }
-    ensures leaf { (Z : Scheme) (m r : List ℕ)
-        → has_right_form Z r ≡ true
-        → input_at m r 0 ≡ 0 ∷ m }
-    ensures above { (Z : Scheme) (m r : List ℕ) (h : ℕ)
-        → has_right_form Z r ≡ true
+    ensures len { (m r : List ℕ) → length (climbed_inputs m r) ≡ receipt_path_len r + 1 }
+    ensures leaf { (m r : List ℕ) → input_at m r 0 ≡ 0 ∷ m }
+    ensures above { (m r : List ℕ) (h : ℕ)
         → h < receipt_path_len r
         → input_at m r (h + 1)
         ≡ node_input (is_left_at r h) (sha256 (input_at m r h)) (sibling_at r h) }

@@ -67,9 +67,9 @@
 //! }
 //! ```
 //!
-//! What is answered there is what [`accept`] would answer to the whole receipt, which the law
-//! `heads_stand_for_receipts` says. A message that comes in pieces is hashed by [`MessageHasher`],
-//! and pushed and checked by its digest.
+//! What is accepted so, [`accept`] accepts with the whole receipt; [`laws`] says how both answers
+//! go together. A message that comes in pieces is hashed by [`MessageHasher`], and pushed and
+//! checked by its digest.
 //!
 //! A batch keeps at most 64 bytes a message and a part that doesn't grow. [`Head::open`], [`clash`]
 //! and the calls that accept take no memory. Each refusal comes for the cause that its variant
