@@ -1,6 +1,6 @@
 -- The tree over the digests of a batch: that of RFC 9162 (2.1) over SHA-256, whose definitions are
 -- merkle_tree's.
-use Rattle.std.specs.Prelude.{ℕ, List, [], ◌∷◌, Bool}
+use Rattle.std.specs.Prelude.{ℕ, List, Bool}
 use Rattle.merkle_tree.specs.Climb.{path_climb, path_inputs, path_sides}
 use Rattle.merkle_tree.specs.Tree.{inclusion_path, leaf_hash, node_hash, tree_root}
 use Rattle.sha256_lanes.specs.Sha256.{sha256}

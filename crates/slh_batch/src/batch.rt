@@ -1,11 +1,11 @@
 //! Batches of messages under one signature.
-ghost use Rattle.std.specs.Prelude.{◌≡◌, ◌++◌, ◌∷◌, [], length, IfErr, IfOk, OnErr, OnOk};
+ghost use Rattle.std.specs.Prelude.{◌≡◌, ◌≤◌, ◌↔◌, ◌^◌, ◌++◌, ◌∷◌, [], length};
+ghost use Rattle.std.specs.Prelude.{IfErr, IfOk, IsTrue, OnErr, OnOk};
 ghost use Rattle.std.specs.Option.{option_copied, ForSome};
 ghost use Rattle.slh_frames.specs.Frames.{frame};
 ghost use Rattle.slh_trees.specs.Signing.{signature_of};
 ghost use Rattle.slh_trees.specs.Refusals.{RefusedExactly, RefusedOrNoMemory};
-ghost use Rattle.slh_batch.specs.Calls.{push_refusal};
-ghost use Rattle.slh_batch.specs.Calls.{seal_refusal};
+ghost use Rattle.slh_batch.specs.Calls.{empty_refusal, full_refusal, push_refusal, seal_refusal};
 ghost use Rattle.slh_batch.specs.Receipts.{batch_context, batch_message};
 ghost use Rattle.slh_batch.specs.Tree.{batch_leaf};
 ghost use Rattle.slh_batch.specs.declared.error.BatchError.TheVariants.{Memory};
@@ -51,6 +51,35 @@ impl Batch {
         }
     }
 
+    /// How many messages it holds.
+    pub fn len(&self) -> usize
+        ensures value { result ≡ length self.now }
+        ensures few { result ≤ MAX_MESSAGES }
+    {
+        self.leaves.len()
+    }
+
+    /// Whether it holds none.
+    pub fn is_empty(&self) -> bool
+        ensures { IsTrue result ↔ (length self.now ≡ 0) }
+    {
+        self.leaves.is_empty()
+    }
+
+    /// Whether it holds as many as it may.
+    pub fn is_full(&self) -> bool
+        ensures { IsTrue result ↔ (length self.now ≡ MAX_MESSAGES) }
+    {
+        self.leaves.len() >= MAX_MESSAGES as usize
+    }
+
+    /// The digests of its messages, to be kept: pushed again in their order they are this batch.
+    pub fn digests(&self) -> &[[u8; DIGEST_LEN]]
+        ensures { result.now ≡ self.now }
+    {
+        &self.leaves
+    }
+
     /// Adds a message, which is hashed once and not kept. `Message`; `Full`; `Memory`. After a
     /// refusal the batch is as it was.
     pub fn push(&mut self, msg: &[u8]) -> Result<(), BatchError>
@@ -61,10 +90,25 @@ impl Batch {
         if msg.len() > MAX_MESSAGE {
             return Err(BatchError::Message);
         }
-        if self.leaves.len() >= MAX_MESSAGES as usize {
+        if self.is_full() {
             return Err(BatchError::Full);
         }
-        match self.leaves.push(Sha256::leaf(msg)) {
+        self.push_digest(&Sha256::leaf(msg))
+    }
+
+    /// Adds a message by its digest, that of the byte 0 and the message, as [`MessageHasher`] gives
+    /// it. `Full`; `Memory`. After a refusal the batch is as it was.
+    ///
+    /// [`MessageHasher`]: crate::MessageHasher
+    pub fn push_digest(&mut self, digest: &[u8; DIGEST_LEN]) -> Result<(), BatchError>
+        ensures refusal { RefusedOrNoMemory Memory result (full_refusal self.old) }
+        ensures value { OnOk result (self.new ≡ self.old ++ digest.now ∷ []) }
+        ensures same { OnErr result (self.new ≡ self.old) }
+    {
+        if self.is_full() {
+            return Err(BatchError::Full);
+        }
+        match self.leaves.push(*digest) {
             Ok(()) => Ok(()),
             Err(_) => Err(BatchError::Memory),
         }
@@ -86,15 +130,43 @@ impl Batch {
             IfOk result (λ sealed. sealed.signature
             ≡ signature_of P.scheme key.now opt_rand message) }
     {
-        let leaves = self.leaves;
-        if leaves.is_empty() {
-            return Err(BatchError::Empty);
-        }
+        let leaves = self.some_leaves()?;
         check_opt_rand::<P, BatchError>(opt_rand, BatchError::Randomizer)?;
         let levels = Levels::<Sha256>::over(leaves)?;
         let message = root_message(levels.len() as u32, levels.root());
         let signature = sign_root(alloc, key, &message, opt_rand)?;
         Ok(Sealed { levels, signature })
+    }
+
+    /// Seals the batch again by the signature of an earlier seal of the same digests, without a
+    /// key. Each node is hashed once. Whether the signature is one of these digests isn't checked:
+    /// who opens [`Sealed::head`] checks it. `Empty`; `Memory`.
+    pub fn with_signature<P: ParameterSet>(
+        self,
+        signature: Signature<P>,
+    ) -> Result<Sealed<P>, BatchError>
+        ensures refusal { RefusedOrNoMemory Memory result (empty_refusal self) }
+        ensures leaves { IfOk result (λ sealed. sealed.leaves ≡ self) }
+        ensures signature { IfOk result (λ sealed. sealed.signature ≡ signature) }
+    {
+        let leaves = self.some_leaves()?;
+        Ok(Sealed {
+            levels: Levels::over(leaves)?,
+            signature,
+        })
+    }
+
+    // The digests, of which there are some. `Empty`.
+    fn some_leaves(self) -> Result<Vec<[u8; DIGEST_LEN]>, BatchError>
+        ensures refusal { RefusedExactly result (empty_refusal self) }
+        ensures value { IfOk result (λ leaves. leaves.items ≡ self) }
+        ensures few { IfOk result (λ leaves. length leaves.items ≤ MAX_MESSAGES) }
+    {
+        let leaves = self.leaves;
+        if leaves.is_empty() {
+            return Err(BatchError::Empty);
+        }
+        Ok(leaves)
     }
 }
 

@@ -8,8 +8,8 @@
 //! message's index and the number of messages, 4 bytes each with the highest first, the siblings on
 //! the way from the leaf to the root, 32 bytes each, and the signature.
 //!
-//! The receipt of one of several messages, and what a verifying key says of it. The test
-//! `example_of_the_page_of_batches` of `slh_batch_tests` runs this:
+//! The receipt of one of several messages, and what a verifying key says of it. The tests of
+//! `page_of_batches` of `slh_batch_tests` run this and what follows:
 //!
 //! ```
 //! use slh_batch::{Batch, BatchError, ReceiptError, accept};
@@ -38,10 +38,43 @@
 //! }
 //! ```
 //!
-//! A batch keeps at most 64 bytes a message and a part that doesn't grow. [`accept`] and [`clash`]
-//! take no memory. Each refusal comes for the cause that its variant names, the first in the order
-//! of the variants. Who has receipts with one index, one number and one root for two messages has
-//! two inputs with one SHA-256 digest: [`clash`] says where.
+//! A batch's head is what is signed, the number and the root, and the signature. Who verified it
+//! once checks each message of the batch by its index and its path, without the signature:
+//!
+//! ```
+//! use slh_batch::{Head, HeadError, accept_under};
+//! use slh_dsa::{Sha2_128f, VerifyingKey};
+//!
+//! #[derive(Drop)]
+//! struct Entry<'a> {
+//!     index: u32,
+//!     message: &'a [u8],
+//!     path: &'a [[u8; 32]],
+//! }
+//!
+//! fn are_accepted(
+//!     key: &VerifyingKey<Sha2_128f>,
+//!     head: &[u8],
+//!     entries: &[Entry<'_>],
+//! ) -> Result<bool, HeadError> {
+//!     let head = Head::open(key, head)?;
+//!     for entry in entries {
+//!         if accept_under(&head, entry.message, entry.index, entry.path).is_err() {
+//!             return Ok(false);
+//!         }
+//!     }
+//!     Ok(true)
+//! }
+//! ```
+//!
+//! What is accepted so, [`accept`] accepts with the whole receipt; [`laws`] says how both answers
+//! go together. A message that comes in pieces is hashed by [`MessageHasher`], and pushed and
+//! checked by its digest.
+//!
+//! A batch keeps at most 64 bytes a message and a part that doesn't grow. [`Head::open`], [`clash`]
+//! and the calls that accept take no memory. Each refusal comes for the cause that its variant
+//! names, the first in the order of the variants. Who has receipts with one index, one number and
+//! one root for two messages has two inputs with one SHA-256 digest: [`clash`] says where.
 #![tactic(auto)]
 
 mod batch;
@@ -49,12 +82,16 @@ mod checking;
 mod clashing;
 pub mod clones;
 mod error;
+mod hashing;
+mod head;
 pub mod laws;
 mod parts;
 mod sealed;
 
 pub use batch::{Batch, MAX_MESSAGES};
-pub use checking::accept;
+pub use checking::{Place, accept, accept_digest, accepted_place};
 pub use clashing::clash;
-pub use error::{BatchError, ReceiptError};
+pub use error::{BatchError, HeadError, ReceiptError};
+pub use hashing::MessageHasher;
+pub use head::{Head, accept_digest_under, accept_under};
 pub use sealed::Sealed;

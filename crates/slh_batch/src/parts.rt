@@ -22,8 +22,8 @@ pub(crate) struct Parts<'a> {
     pub(crate) sig: &'a [u8],
 }
 
-// The number of the four bytes at a place.
-fn number_at(bytes: &[u8], at: usize) -> u32
+/// The number of the four bytes at a place.
+pub(crate) fn number_at(bytes: &[u8], at: usize) -> u32
     requires { at + 4 ≤ length bytes.now }
     ensures { result ≡ number_of (take 4 (drop at bytes.now)) }
 {

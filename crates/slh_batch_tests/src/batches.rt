@@ -10,7 +10,7 @@ use std::alloc::Global;
 // Of 1 to 9 messages, the numbers 0, 1 and so on in two bytes each: the root, and the SHA-256 of all
 // receipts without their signatures, one after another. Python's hashlib computed them by the
 // recursion that splits at the largest power of two: `examples/hostile_batches rows` prints them.
-const ROWS: [(&str, &str); 9] = [
+pub(crate) const ROWS: [(&str, &str); 9] = [
     (
         "709e80c88487a2411e1ee4dfb9f22a861492d20c4765150c0c794abd70f8147c",
         "cd2662154e6d76b2b2b92e70c0cac3ccf534f9b74eb5b89819ec509083d00a50",
@@ -74,7 +74,7 @@ fn digest_of_fronts(alloc: Global, batch: &Sealed<Toy>, n: u16) -> Option<[u8; 3
     Some(hash.finalize())
 }
 
-fn is_digest(digest: &[u8; 32], expected: &str) -> bool {
+pub(crate) fn is_digest(digest: &[u8; 32], expected: &str) -> bool {
     let mut bytes = [0u8; 32];
     hex::decode_to_slice(expected, &mut bytes).is_ok() && bytes == *digest
 }

@@ -4,7 +4,11 @@
 #[cfg(test)]
 mod batches;
 #[cfg(test)]
+mod heads;
+#[cfg(test)]
 mod page_of_batches;
+#[cfg(test)]
+mod pieces;
 #[cfg(test)]
 mod receipts;
 #[cfg(test)]

@@ -1,6 +1,6 @@
-//! The example of the page of `slh_batch`.
+//! The examples of the page of `slh_batch`.
 use crate::receipts::{key, public};
-use slh_batch::{Batch, BatchError, ReceiptError, accept};
+use slh_batch::{Batch, BatchError, Head, HeadError, ReceiptError, Sealed, accept, accept_under};
 use slh_dsa::{Sha2_128f, SigningKey, VerifyingKey};
 use std::alloc::Global;
 
@@ -41,4 +41,73 @@ fn runs(alloc: Global) -> bool {
 #[test]
 fn example_of_the_page_of_batches(rt: HostRuntime) {
     assert!(rt; runs(rt.alloc()));
+}
+
+#[derive(Drop)]
+struct Entry<'a> {
+    index: u32,
+    message: &'a [u8],
+    path: &'a [[u8; 32]],
+}
+
+fn are_accepted(
+    key: &VerifyingKey<Sha2_128f>,
+    head: &[u8],
+    entries: &[Entry<'_>],
+) -> Result<bool, HeadError> {
+    let head = Head::open(key, head)?;
+    for entry in entries {
+        if accept_under(&head, entry.message, entry.index, entry.path).is_err() {
+            return Ok(false);
+        }
+    }
+    Ok(true)
+}
+
+fn sealed(alloc: Global) -> Result<Sealed<Sha2_128f>, BatchError> {
+    let mut batch = Batch::new(alloc);
+    batch.push(b"an entry")?;
+    batch.push(b"another")?;
+    batch.seal(alloc, &key(), None)
+}
+
+fn entry_of<'a>(index: u32, message: &'a [u8], path: &'a [[u8; 32]]) -> Entry<'a> {
+    Entry {
+        index,
+        message,
+        path,
+    }
+}
+
+// Whether two entries are accepted under a head, and not the first one twice.
+fn accepts_both(head: &[u8], first: &[[u8; 32]], second: &[[u8; 32]]) -> bool {
+    are_accepted(
+        &public(),
+        head,
+        &[
+            entry_of(0, b"an entry", first),
+            entry_of(1, b"another", second),
+        ],
+    ) == Ok(true)
+        && are_accepted(
+            &public(),
+            head,
+            &[
+                entry_of(0, b"an entry", first),
+                entry_of(1, b"an entry", second),
+            ],
+        ) == Ok(false)
+}
+
+fn runs_under_a_head(alloc: Global) -> Result<bool, BatchError> {
+    let sealed = sealed(alloc)?;
+    let head = sealed.head(alloc)?;
+    let first = sealed.path(alloc, 0)?;
+    let second = sealed.path(alloc, 1)?;
+    Ok(accepts_both(&head, &first, &second))
+}
+
+#[test]
+fn example_of_heads_of_the_page_of_batches(rt: HostRuntime) {
+    assert!(rt; runs_under_a_head(rt.alloc()) == Ok(true));
 }

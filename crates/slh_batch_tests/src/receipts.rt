@@ -1,6 +1,6 @@
 //! Receipts of SLH-DSA-SHA2-128f.
 use crate::page_of_batches::accepted;
-use slh_batch::{Batch, BatchError, ReceiptError};
+use slh_batch::{Batch, BatchError, Head, HeadError, Place, ReceiptError, accepted_place};
 use slh_dsa::{Sha2_128f, SigningKey, VerifyingKey};
 use std::alloc::Global;
 
@@ -92,4 +92,67 @@ fn is_invalid_where_changed(alloc: Global) -> bool {
 #[test]
 fn a_changed_bit_is_invalid(rt: HostRuntime) {
     assert!(rt; is_invalid_where_changed(rt.alloc()));
+}
+
+// Whether a head is invalid while one bit of it is changed.
+fn is_invalid_head_at(head: &mut [u8], place: usize) -> bool {
+    if place >= head.len() {
+        return false;
+    }
+    head[place] ^= 1;
+    let refused = match Head::open(&public(), head) {
+        Ok(_) => false,
+        Err(refusal) => refusal == HeadError::Invalid,
+    };
+    head[place] ^= 1;
+    refused
+}
+
+// The number, the root, and the signature's first and last byte.
+fn is_invalid_head_at_each_place(head: &mut [u8]) -> bool {
+    for place in [3, 4, 35, 36, 17123] {
+        if !is_invalid_head_at(head, place) {
+            return false;
+        }
+    }
+    Head::open(&public(), head).is_ok()
+}
+
+fn head(alloc: Global) -> Result<Vec<u8>, BatchError> {
+    Ok(numbers(alloc, 3)?.seal(alloc, &key(), None)?.head(alloc)?)
+}
+
+fn is_no_head_where_changed(alloc: Global) -> bool {
+    match head(alloc) {
+        Ok(mut head) => is_invalid_head_at_each_place(&mut head),
+        Err(_) => false,
+    }
+}
+
+#[test]
+fn a_head_with_a_changed_bit_is_invalid(rt: HostRuntime) {
+    assert!(rt; is_no_head_where_changed(rt.alloc()));
+}
+
+fn place(message: &[u8], receipt: &[u8]) -> Result<Place, ReceiptError> {
+    accepted_place(&public(), message, receipt)
+}
+
+// Whether a receipt of the second of three messages tells its place, for it alone.
+fn has_its_place(receipt: &[u8]) -> bool {
+    place(&[0, 1], receipt) == Ok(Place { index: 1, count: 3 })
+        && place(&[0, 2], receipt) == Err(ReceiptError::Invalid)
+        && place(&[0, 1], &[]) == Err(ReceiptError::Form)
+}
+
+fn tells_its_place(alloc: Global) -> bool {
+    match receipt(alloc, 3, 1) {
+        Ok(receipt) => has_its_place(&receipt),
+        Err(_) => false,
+    }
+}
+
+#[test]
+fn an_accepted_receipt_tells_its_place(rt: HostRuntime) {
+    assert!(rt; tells_its_place(rt.alloc()));
 }

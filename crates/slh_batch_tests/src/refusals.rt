@@ -1,6 +1,6 @@
 //! Each refusal that a run can reach, over the toy suite, and which of two at once comes first.
-use crate::toys::{answer, have_clash, receipt, sealed};
-use slh_batch::{Batch, BatchError, MAX_MESSAGES, ReceiptError};
+use crate::toys::{answer, have_clash, head, open, path, receipt, sealed};
+use slh_batch::{Batch, BatchError, Head, HeadError, MAX_MESSAGES, ReceiptError, accept_under};
 use std::alloc::Global;
 
 // A receipt of three messages that has two digests: numbers, path and signature.
@@ -164,4 +164,100 @@ fn have_no_clash(alloc: Global) -> bool {
 #[test]
 fn receipts_of_other_forms_or_numbers_have_no_clash(rt: HostRuntime) {
     assert!(rt; have_no_clash(rt.alloc()));
+}
+
+// A head of three messages: number, root and signature.
+const HEAD_LEN: usize = 4 + 32 + 21;
+
+// The head of three messages.
+fn head_of_three(alloc: Global) -> Option<[u8; HEAD_LEN]> {
+    let mut bytes = [0u8; HEAD_LEN];
+    let Ok(batch) = sealed(alloc, 3, None) else {
+        return None;
+    };
+    match head(alloc, &batch) {
+        Ok(head) if head.len() == HEAD_LEN => bytes.copy_from_slice(&head),
+        _ => return None,
+    }
+    Some(bytes)
+}
+
+fn is_no_head(bytes: &[u8]) -> bool {
+    match open(bytes) {
+        Ok(_) => false,
+        Err(refusal) => refusal == HeadError::Form,
+    }
+}
+
+// Whether a head has no form with another number of messages.
+fn is_no_head_with(head: &[u8; HEAD_LEN], count: u32) -> bool {
+    let mut bent = *head;
+    bent[..4].copy_from_slice(&count.to_be_bytes());
+    is_no_head(&bent)
+}
+
+// Whether a head is refused at other lengths and with numbers that no batch has.
+fn has_one_form(head: &[u8; HEAD_LEN]) -> bool {
+    let mut long = [0u8; HEAD_LEN + 1];
+    long[..HEAD_LEN].copy_from_slice(head);
+    for len in [0, 3, 36, 56, 58] {
+        if !is_no_head(&long[..len]) {
+            return false;
+        }
+    }
+    for count in [0, (1 << 20) + 1, u32::MAX] {
+        if !is_no_head_with(head, count) {
+            return false;
+        }
+    }
+    open(head).is_ok()
+}
+
+fn is_no_other_head(alloc: Global) -> bool {
+    match head_of_three(alloc) {
+        Some(head) => has_one_form(&head),
+        None => false,
+    }
+}
+
+#[test]
+fn heads_of_other_lengths_and_numbers_are_refused(rt: HostRuntime) {
+    assert!(rt; is_no_other_head(rt.alloc()));
+}
+
+fn is_under(head: &Head<'_>, index: u32, path: &[[u8; 32]]) -> Result<(), ReceiptError> {
+    accept_under(head, &[0, 1], index, path)
+}
+
+fn has_one_path(head: &Head<'_>, path: &[[u8; 32]]) -> bool {
+    let &[first, second] = path else {
+        return false;
+    };
+    is_under(head, 1, path) == Ok(())
+        && is_under(head, 0, path) == Err(ReceiptError::Invalid)
+        && is_under(head, 1, &[second, first]) == Err(ReceiptError::Invalid)
+        && is_under(head, 2, path) == Err(ReceiptError::Form)
+        && is_under(head, 3, path) == Err(ReceiptError::Form)
+        && is_under(head, u32::MAX, path) == Err(ReceiptError::Form)
+        && is_under(head, 1, &[first]) == Err(ReceiptError::Form)
+        && is_under(head, 1, &[first, second, second]) == Err(ReceiptError::Form)
+}
+
+fn has_one_path_in(bytes: &[u8], path: &[[u8; 32]]) -> bool {
+    match open(bytes) {
+        Ok(head) => has_one_path(&head, path),
+        Err(_) => false,
+    }
+}
+
+fn is_refused_by_other_paths(alloc: Global) -> Result<bool, BatchError> {
+    let batch = sealed(alloc, 3, None)?;
+    let path = path(alloc, &batch, 1)?;
+    let bytes = head(alloc, &batch)?;
+    Ok(has_one_path_in(&bytes, &path))
+}
+
+#[test]
+fn other_paths_and_places_are_refused_under_a_head(rt: HostRuntime) {
+    assert!(rt; is_refused_by_other_paths(rt.alloc()) == Ok(true));
 }
