@@ -359,6 +359,41 @@ SLH_DSA_MUST_CHECK SLH_DSA_INLINE slh_dsa_status slh_batch_accept_nullable(
         slh_dsa_read_at(receipt, &nothing), receipt_bytes);
 }
 
+SLH_DSA_MUST_CHECK SLH_DSA_INLINE slh_dsa_status slh_batch_open_nullable(
+    slh_dsa_set set,
+    const uint8_t *verifying_key, size_t verifying_key_bytes,
+    const uint8_t *signed_head, size_t signed_head_bytes,
+    slh_batch_head *head)
+{
+    const uint8_t nothing = 0;
+
+    if (slh_dsa_is_missing(verifying_key, verifying_key_bytes) ||
+        slh_dsa_is_missing(signed_head, signed_head_bytes))
+        return SLH_DSA_LENGTH;
+    return slh_batch_open(
+        set,
+        slh_dsa_read_at(verifying_key, &nothing), verifying_key_bytes,
+        slh_dsa_read_at(signed_head, &nothing), signed_head_bytes,
+        head);
+}
+
+SLH_DSA_MUST_CHECK SLH_DSA_INLINE slh_dsa_status slh_batch_accept_under_nullable(
+    const slh_batch_head *head,
+    const uint8_t *message, size_t message_bytes,
+    uint32_t index,
+    const uint8_t *path, size_t path_bytes)
+{
+    const uint8_t nothing = 0;
+
+    if (slh_dsa_is_missing(message, message_bytes) || slh_dsa_is_missing(path, path_bytes))
+        return SLH_DSA_LENGTH;
+    return slh_batch_accept_under(
+        head,
+        slh_dsa_read_at(message, &nothing), message_bytes,
+        index,
+        slh_dsa_read_at(path, &nothing), path_bytes);
+}
+
 SLH_DSA_MUST_CHECK SLH_DSA_INLINE slh_dsa_status slh_log_open_nullable(
     slh_dsa_set set,
     const uint8_t *verifying_key, size_t verifying_key_bytes,
