@@ -90,7 +90,7 @@ class StateError(Refused):
 
 
 class ChangedError(Refused):
-    """The second pass of signing was over other bytes than the first."""
+    """The second pass of signing was over other bytes than the first: no call raises it yet."""
 
     status = 21
     text = "the second pass was over other bytes than the first"
