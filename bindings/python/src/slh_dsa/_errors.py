@@ -86,7 +86,7 @@ class StateError(Refused):
     """A state in pieces was never begun, or was finished, or is of another key or signature."""
 
     status = 13
-    text = "the state is not one of this call, key or signature"
+    text = "the state isn't one of this call, key or signature"
 
 
 class ChangedError(Refused):
