@@ -17,8 +17,8 @@ use slh_dsa::{Mode, ParameterSet, VerifyingKey};
 use slh_frames::MAX_MESSAGE;
 use std::marker::Model;
 
-/// What is signed for a batch and the signature, which was verified. Clauses see it as its number
-/// of messages, its root and its signature.
+/// What is signed for a batch, and the signature: read by `open`, which verifies it, or had again by
+/// `reopen`, which doesn't. Clauses see it as its number of messages, its root and its signature.
 #[derive(Drop)]
 pub struct Head<'a> {
     count: u32,
@@ -76,9 +76,9 @@ impl<'a> Head<'a> {
         Ok(head)
     }
 
-    /// A head again that was opened, by what it says and without its signature: for who keeps these
-    /// and no borrow of the bytes. `None`: no batch has so many messages. Of a root that nobody opened
-    /// it tells nothing.
+    /// A head again that `open` accepted, by what it says and without its signature, for a caller
+    /// that keeps these and no borrow of the bytes. It verifies nothing. `None`: no batch has so
+    /// many messages.
     pub fn reopen(count: u32, root: &[u8; DIGEST_LEN]) -> Option<Self>
         ensures some { is_some result ≡ (nat_le 1 count && nat_le count (2 ^ 20)) }
         ensures head { IfSome result (λ head. head ≡ unsigned_head count root.now) }
