@@ -8,9 +8,11 @@ import unittest
 
 from slh_dsa import (
     PARAMETER_SETS,
+    ChangedError,
     ContextTooLongError,
     InvalidSignature,
     LengthError,
+    RandomizerLengthError,
     SigningKey,
     StateError,
     UnknownPrehashError,
@@ -100,6 +102,40 @@ class Pieces(unittest.TestCase):
                     self.verified(key, signature, pieces, **options)
                 with self.assertRaises(InvalidSignature):
                     self.verified(key, signature, (self.MESSAGE[1:],), **options)
+
+    def signed(self, key, first, second, **options):
+        one = key.signer(**options)
+        for piece in first:
+            one.update(piece)
+        other = one.again()
+        for piece in second:
+            other.update(piece)
+        return one, other, other.sign()
+
+    def test_pieces_are_signed_as_the_whole(self):
+        for name in (FAST, "SLH-DSA-SHA2-192f"):
+            key = known_key(name)
+            first, second = (self.MESSAGE[:100], self.MESSAGE[100:]), (self.MESSAGE,)
+            for options in (
+                {"deterministic": True},
+                {"context": b"context", "randomizer": bytes(n_of(name))},
+            ):
+                one, other, signature = self.signed(key, first, second, **options)
+                self.assertEqual(signature, key.sign(self.MESSAGE, **options))
+            for used in (one.again, other.sign):
+                with self.assertRaises(StateError):
+                    used()
+            key.verifying_key.verify(self.signed(key, first, second)[2], self.MESSAGE)
+
+    def test_a_second_pass_over_other_bytes_is_refused(self):
+        key = known_key(FAST)
+        for second in (self.MESSAGE[1:], bent(self.MESSAGE, 300), b""):
+            with self.assertRaises(ChangedError):
+                self.signed(key, (self.MESSAGE,), (second,))
+        with self.assertRaises(TypeError):
+            key.signer(deterministic=True, randomizer=bytes(16))
+        with self.assertRaises(RandomizerLengthError):
+            key.signer(randomizer=bytes(15))
 
     def test_a_verifier_is_used_once(self):
         key = known_key(FAST)

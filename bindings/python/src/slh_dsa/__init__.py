@@ -9,46 +9,68 @@ A call runs beside other threads, each of which needs 112 kB of stack.
 """
 
 from ._errors import (
+    BudgetError,
     ChangedError,
     ContextTooLongError,
+    EmptyLogError,
+    FormError,
     InvalidSignature,
     KeyMismatchError,
     LengthError,
     MessageTooLongError,
+    NoEntryError,
+    OriginError,
     PemError,
     RandomizerLengthError,
     Refused,
     SlhDsaError,
+    SmallerLogError,
     StateError,
     UnknownEvidenceError,
     UnknownPrehashError,
     UnknownSetError,
+    UnsignedError,
 )
-from ._keys import EVIDENCE_KINDS, Evidence, SigningKey, VerifyingKey
-from ._pieces import MessageVerifier
+from ._keys import EVIDENCE_KINDS, ChainEnd, Evidence, SigningKey, VerifyingKey
+from ._pieces import FirstPass, MessageVerifier, SecondPass
 from ._sets import PARAMETER_SETS
+from ._signed import BatchHead, LogHead, Manifest, ManifestFile
 from ._version import __version__
 
 __all__ = [
     "EVIDENCE_KINDS",
     "PARAMETER_SETS",
+    "BatchHead",
+    "BudgetError",
+    "ChainEnd",
     "ChangedError",
     "ContextTooLongError",
+    "EmptyLogError",
     "Evidence",
+    "FirstPass",
+    "FormError",
     "InvalidSignature",
     "KeyMismatchError",
     "LengthError",
+    "LogHead",
+    "Manifest",
+    "ManifestFile",
     "MessageTooLongError",
     "MessageVerifier",
+    "NoEntryError",
+    "OriginError",
     "PemError",
     "RandomizerLengthError",
     "Refused",
+    "SecondPass",
     "SigningKey",
     "SlhDsaError",
+    "SmallerLogError",
     "StateError",
     "UnknownEvidenceError",
     "UnknownPrehashError",
     "UnknownSetError",
+    "UnsignedError",
     "VerifyingKey",
     "__version__",
 ]

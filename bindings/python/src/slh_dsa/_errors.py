@@ -89,6 +89,55 @@ class StateError(Refused):
     text = "the state isn't one of this call, key or signature"
 
 
+class FormError(Refused):
+    """Bytes aren't a chain, a manifest, a receipt, a head or a checkpoint, or don't fit its place."""
+
+    status = 14
+    text = "the bytes don't have the form"
+
+
+class BudgetError(Refused):
+    """A link of a chain delegates deeper than it may."""
+
+    status = 15
+    text = "a link delegates deeper than it may"
+
+
+class NoEntryError(Refused):
+    """A manifest, a batch or a log has no such entry."""
+
+    status = 16
+    text = "there is no such entry"
+
+
+class OriginError(Refused):
+    """A checkpoint is of another log."""
+
+    status = 17
+    text = "the checkpoint is of another log"
+
+
+class UnsignedError(Refused):
+    """A checkpoint has no signature of this key."""
+
+    status = 18
+    text = "the checkpoint has no signature of this key"
+
+
+class EmptyLogError(Refused):
+    """The old head of a log has no entries, so nothing shows that it grew."""
+
+    status = 19
+    text = "the old log has no entries"
+
+
+class SmallerLogError(Refused):
+    """The new head of a log has fewer entries than the old."""
+
+    status = 20
+    text = "the new log has fewer entries than the old"
+
+
 class ChangedError(Refused):
     """The second pass of signing was over other bytes than the first: no call raises it yet."""
 

@@ -15,14 +15,17 @@ from ._library import (
     NOT_SHOWN,
     OK,
     BytesLike,
+    EndStructure,
     EvidenceStructure,
     Secret,
+    Written,
     clear,
     done,
     status_of,
 )
-from ._pieces import MessageVerifier
+from ._pieces import FirstPass, MessageVerifier
 from ._sets import Parameters, Prehash, mode_of, parameters_of
+from ._signed import BatchHead, LogHead, Manifest
 
 EVIDENCE_KINDS = ("fors-node", "fors-roots", "chain-step", "leaf", "tree-node", "early")
 
@@ -48,6 +51,14 @@ def _structure(evidence: Evidence) -> EvidenceStructure:
 
 def _wrong_length(what: str, parameters: Parameters, wanted: int, given: int) -> LengthError:
     return LengthError(f"{what} of {parameters.name} has {wanted} bytes, not {given}")
+
+
+class ChainEnd(NamedTuple):
+    """Where a chain of delegations ends."""
+
+    key: VerifyingKey
+    budget: int  # the key may delegate with depths below it
+    links: int
 
 
 class VerifyingKey:
@@ -134,6 +145,35 @@ class VerifyingKey:
         """A verifier of a message that comes in pieces, from a socket say."""
         return MessageVerifier(self._parameters, self._key, signature, context, prehash)
 
+    def walk(self, chain: BytesLike) -> ChainEnd:
+        """Walks a chain of delegations from this root key, and verifies each link."""
+        public, found = bytearray(len(self._key)), EndStructure()
+        done(
+            "slh_chain_walk",
+            self._parameters.number,
+            self._key,
+            chain,
+            Written(public),
+            ctypes.byref(found),
+        )
+        return ChainEnd(VerifyingKey(self._parameters, bytes(public)), found.budget, found.links)
+
+    def open_manifest(self, manifest: BytesLike) -> Manifest:
+        """Reads a manifest and verifies its signature."""
+        return Manifest(self._parameters, self._key, manifest)
+
+    def accept(self, receipt: BytesLike, message: BytesLike) -> None:
+        """Returns where the receipt of a batch is one of the message, else raises InvalidSignature."""
+        done("slh_batch_accept", self._parameters.number, self._key, message, receipt)
+
+    def open_batch(self, signed_head: BytesLike) -> BatchHead:
+        """Reads the head of a batch and verifies its signature, once for all its messages."""
+        return BatchHead.opened(self._parameters, self._key, signed_head)
+
+    def open_checkpoint(self, origin: str, checkpoint: BytesLike) -> LogHead:
+        """Opens a checkpoint that this key signed for the log of an origin."""
+        return LogHead.opened(self._parameters, self._key, origin, checkpoint)
+
     def _verify(
         self,
         call: str,
@@ -143,7 +183,7 @@ class VerifyingKey:
         prehash: Prehash | None,
     ) -> None:
         numbers = self._parameters.number, mode_of(prehash)
-        done(call, numbers, (self._key, message, context, signature))
+        done(call, *numbers, self._key, message, context, signature)
 
     def __eq__(self, other: object) -> bool:
         if not isinstance(other, VerifyingKey):
@@ -180,7 +220,7 @@ class SigningKey:
         """The key of 3n random and secret bytes: secret seed, PRF key and public seed."""
         parameters = parameters_of(parameter_set)
         key, public = Secret(4 * parameters.n), bytearray(2 * parameters.n)
-        done("keygen", (parameters.number,), (seeds,), (key, public))
+        done("keygen", parameters.number, seeds, Written(key), Written(public))
         return cls(parameters, key)
 
     @classmethod
@@ -203,7 +243,7 @@ class SigningKey:
         if len(key) != 4 * parameters.n:
             raise _wrong_length("a signing key", parameters, 4 * parameters.n, len(key))
         if check:
-            done("check_key", (parameters.number,), (key,))
+            done("check_key", parameters.number, key)
         return cls(parameters, key)
 
     @property
@@ -215,7 +255,7 @@ class SigningKey:
     def verifying_key(self) -> VerifyingKey:
         """The public half."""
         public = bytearray(2 * self._parameters.n)
-        done("public", (self._parameters.number,), (self._key,), (public,))
+        done("public", self._parameters.number, self._key, Written(public))
         return VerifyingKey(self._parameters, bytes(public))
 
     def to_bytes(self) -> bytes:
@@ -268,6 +308,24 @@ class SigningKey:
         with message_of(source) as message:
             return self._sign("sign", (message, context), prehash, deterministic, None)
 
+    def signer(
+        self,
+        *,
+        context: BytesLike = b"",
+        deterministic: bool = False,
+        randomizer: BytesLike | None = None,
+    ) -> FirstPass:
+        """The first pass over a message that comes in pieces, twice, and is signed as it is."""
+        if deterministic and randomizer is not None:
+            raise TypeError("a deterministic signature has no randomizer")
+        if deterministic or randomizer is not None:
+            return FirstPass(self._parameters, self._key, context, randomizer)
+        fresh = os.urandom(self._parameters.n)
+        try:
+            return FirstPass(self._parameters, self._key, context, fresh)
+        finally:
+            clear(fresh)
+
     def _sign(
         self,
         call: str,
@@ -278,16 +336,16 @@ class SigningKey:
     ) -> bytes:
         if deterministic and randomizer is not None:
             raise TypeError("a deterministic signature has no randomizer")
-        numbers = self._parameters.number, mode_of(prehash)
+        begun = self._parameters.number, mode_of(prehash), self._key, *signed
         signature = bytearray(self._parameters.signature_bytes)
         if deterministic:
-            done(f"{call}_deterministic", numbers, (self._key, *signed), (signature,))
+            done(f"{call}_deterministic", *begun, Written(signature))
         elif randomizer is not None:
-            done(call, numbers, (self._key, *signed, randomizer), (signature,))
+            done(call, *begun, randomizer, Written(signature))
         else:
             fresh = os.urandom(self._parameters.n)
             try:
-                done(call, numbers, (self._key, *signed, fresh), (signature,))
+                done(call, *begun, fresh, Written(signature))
             finally:
                 clear(fresh)
         return bytes(signature)
@@ -304,7 +362,7 @@ class SigningKey:
         found = EvidenceStructure()
         inputs = self._key, message, context, signature
         numbers = self._parameters.number, mode_of(prehash)
-        status = status_of("audit", numbers, inputs, (), ctypes.byref(found))
+        status = status_of("audit", *numbers, *inputs, ctypes.byref(found))
         if status == FOREIGN:
             kind = EVIDENCE_KINDS[found.kind - 1]
             return Evidence(kind, found.layer, found.index, found.level)
@@ -325,7 +383,7 @@ class SigningKey:
         inputs = self._key, message, context, signature
         numbers = self._parameters.number, mode_of(prehash)
         place = ctypes.byref(_structure(evidence))
-        status = status_of("check_evidence", numbers, inputs, (), place)
+        status = status_of("check_evidence", *numbers, *inputs, place)
         if status not in (OK, NOT_SHOWN):
             raise error_of(status)
         return status == OK

@@ -5,7 +5,7 @@ from __future__ import annotations
 import ctypes
 import mmap
 from pathlib import Path
-from typing import Any, Iterable, Sequence, Union
+from typing import Any, NamedTuple, Union
 
 from ._errors import error_of
 from ._sets import SETS
@@ -55,11 +55,50 @@ class VerifierStructure(ctypes.Structure):
     _fields_ = [("words", ctypes.c_uint64 * 92)]
 
 
+class SignerStructure(ctypes.Structure):
+    """`slh_dsa_signer` of slh_dsa.h. It is cleared once nobody has it any more."""
+
+    _fields_ = [("words", ctypes.c_uint64 * 100)]
+
+    def __del__(self) -> None:
+        ctypes.memset(ctypes.addressof(self), 0, ctypes.sizeof(self))
+
+
+class EndStructure(ctypes.Structure):
+    """`slh_chain_end` of slh_dsa.h."""
+
+    _fields_ = [("budget", ctypes.c_uint32), ("links", ctypes.c_uint32)]
+
+
+class FileStructure(ctypes.Structure):
+    """`slh_manifest_file` of slh_dsa.h."""
+
+    _fields_ = [
+        ("name_at", ctypes.c_uint64),
+        ("name_bytes", ctypes.c_uint64),
+        ("file_bytes", ctypes.c_uint64),
+        ("digest", ctypes.c_uint8 * 32),
+    ]
+
+
+class BatchHeadStructure(ctypes.Structure):
+    """`slh_batch_head` of slh_dsa.h."""
+
+    _fields_ = [("count", ctypes.c_uint32), ("root", ctypes.c_uint8 * 32)]
+
+
+class LogHeadStructure(ctypes.Structure):
+    """`slh_log_head` of slh_dsa.h."""
+
+    _fields_ = [("size", ctypes.c_uint64), ("root", ctypes.c_uint8 * 32)]
+
+
 _view = ctypes.POINTER(_View)
 _borrow = ctypes.PYFUNCTYPE(ctypes.c_int, ctypes.py_object, _view, ctypes.c_int)(
     ("PyObject_GetBuffer", ctypes.pythonapi)
 )
 _give_back = ctypes.PYFUNCTYPE(None, _view)(("PyBuffer_Release", ctypes.pythonapi))
+_Reference = type(ctypes.byref(ctypes.c_int()))
 _nothing = ctypes.create_string_buffer(1)  # where an empty buffer has no address
 
 
@@ -70,42 +109,57 @@ def interface_of(version: str) -> str:
 
 
 def _declared(library: ctypes.CDLL) -> dict[str, Any]:
-    """The calls, by their names without the prefix: each takes numbers, then buffers.
-
-    Those in pieces take a state before the numbers.
-    """
+    """The calls, by their names without `slh_dsa_sha2_`, and what else they take than numbers."""
     number, size = ctypes.c_uint32, ctypes.c_size_t
-    evidence = [ctypes.POINTER(EvidenceStructure)]
-    verifier = [ctypes.POINTER(VerifierStructure)]
-    calls: dict[str, tuple[Any, int, int, list[Any]]] = {
-        "n": (size, 1, 0, []),
-        "signature_bytes": (size, 1, 0, []),
-        "keygen": (number, 1, 3, []),
-        "public": (number, 1, 2, []),
-        "check_key": (number, 1, 1, []),
-        "sign": (number, 2, 5, []),
-        "sign_deterministic": (number, 2, 4, []),
-        "sign_digest": (number, 2, 5, []),
-        "sign_digest_deterministic": (number, 2, 4, []),
-        "verify": (number, 2, 4, []),
-        "verify_digest": (number, 2, 4, []),
-        "audit": (number, 2, 4, evidence),
-        "check_evidence": (number, 2, 4, evidence),
+    buffer = [ctypes.c_void_p, size]
+    verifier, signer = ctypes.POINTER(VerifierStructure), ctypes.POINTER(SignerStructure)
+    evidence = ctypes.POINTER(EvidenceStructure)
+    log_head = ctypes.POINTER(LogHeadStructure)
+    batch_head = ctypes.POINTER(BatchHeadStructure)
+    file = ctypes.POINTER(FileStructure)
+    calls: dict[str, list[Any]] = {
+        "keygen": [number, *buffer * 3],
+        "public": [number, *buffer * 2],
+        "check_key": [number, *buffer],
+        "sign": [number, number, *buffer * 5],
+        "sign_deterministic": [number, number, *buffer * 4],
+        "sign_digest": [number, number, *buffer * 5],
+        "sign_digest_deterministic": [number, number, *buffer * 4],
+        "verify": [number, number, *buffer * 4],
+        "verify_digest": [number, number, *buffer * 4],
+        "audit": [number, number, *buffer * 4, evidence],
+        "check_evidence": [number, number, *buffer * 4, evidence],
+        "verify_begin": [verifier, number, number, *buffer * 3],
+        "verify_update": [verifier, *buffer],
+        "verify_finish": [verifier, *buffer],
+        "sign_begin": [signer, number, *buffer * 3],
+        "sign_begin_deterministic": [signer, number, *buffer * 2],
+        "sign_update": [signer, *buffer],
+        "sign_again": [signer, *buffer],
+        "sign_finish": [signer, *buffer * 2],
     }
-    in_pieces = {"verify_begin": (2, 3), "verify_update": (0, 1), "verify_finish": (0, 1)}
+    named = {_PREFIX + name: (name, number, arguments) for name, arguments in calls.items()}
+    for name in ("n", "signature_bytes"):
+        named[_PREFIX + name] = (name, size, [number])
+    others: dict[str, list[Any]] = {
+        "slh_chain_walk": [number, *buffer * 3, ctypes.POINTER(EndStructure)],
+        "slh_manifest_open": [number, *buffer * 2, ctypes.POINTER(number)],
+        "slh_manifest_entry": [*buffer, number, file],
+        "slh_manifest_find": [*buffer * 2, file],
+        "slh_batch_accept": [number, *buffer * 3],
+        "slh_batch_open": [number, *buffer * 2, batch_head],
+        "slh_batch_accept_under": [batch_head, *buffer, number, *buffer],
+        "slh_log_open": [number, *buffer * 4, log_head],
+        "slh_log_check_presence": [log_head, ctypes.c_uint64, *buffer * 2],
+        "slh_log_check_growth": [log_head, log_head, *buffer],
+    }
+    for name, arguments in others.items():
+        named[name] = (name, number, arguments)
     declared = {}
-
-    def declare(name: str, result: Any, arguments: list[Any]) -> None:
-        call = getattr(library, _PREFIX + name)
-        call.restype = result
-        call.argtypes = arguments
+    for symbol, (name, result, arguments) in named.items():
+        call = getattr(library, symbol)
+        call.restype, call.argtypes = result, arguments
         declared[name] = call
-
-    for name, (result, numbers, buffers, more) in calls.items():
-        declare(name, result, [number] * numbers + [ctypes.c_void_p, size] * buffers + more)
-    for name, (numbers, buffers) in in_pieces.items():
-        arguments = verifier + [number] * numbers + [ctypes.c_void_p, size] * buffers
-        declare(name, number, arguments)
     return declared
 
 
@@ -131,38 +185,39 @@ def _loaded() -> dict[str, Any]:
 _calls = _loaded()
 
 
-def status_of(
-    name: str,
-    numbers: Iterable[Any],
-    inputs: Sequence[BytesLike],
-    outputs: Sequence[bytearray] = (),
-    *more: Any,
-) -> int:
-    """Makes a call. While it runs no buffer can be closed or get another size."""
+class Written(NamedTuple):
+    """A buffer that a call writes."""
+
+    buffer: bytearray
+
+
+def status_of(name: str, *arguments: Any) -> int:
+    """Makes a call: a buffer becomes its address and its length, all else is handed over as it is.
+
+    While the call runs no buffer can be closed or get another size.
+    """
     views: list[_View] = []
+    places: list[Any] = []
     try:
-        for flag, buffers in ((_READ, inputs), (_WRITE, outputs)):
-            for buffer in buffers:
-                view = _View()
-                _borrow(buffer, ctypes.byref(view), flag)
-                views.append(view)
-        places: list[int] = []
-        for view in views:
+        for argument in arguments:
+            if isinstance(argument, (int, _Reference)):
+                places.append(argument)
+                continue
+            view, flag = _View(), _READ
+            if isinstance(argument, Written):
+                argument, flag = argument.buffer, _WRITE
+            _borrow(argument, ctypes.byref(view), flag)
+            views.append(view)
             places += [view.address or ctypes.addressof(_nothing), view.length]
-        return int(_calls[name](*numbers, *places, *more))
+        return int(_calls[name](*places))
     finally:
         for view in views:
             _give_back(ctypes.byref(view))
 
 
-def done(
-    name: str,
-    numbers: Iterable[Any],
-    inputs: Sequence[BytesLike],
-    outputs: Sequence[bytearray] = (),
-) -> None:
+def done(name: str, *arguments: Any) -> None:
     """Makes a call, and raises what its status says."""
-    status = status_of(name, numbers, inputs, outputs)
+    status = status_of(name, *arguments)
     if status != OK:
         raise error_of(status)
 
