@@ -24,9 +24,9 @@ def image(seed, count):
 def release(key, version):
     """An image of a version, its manifest, its signature."""
     name = MODEL % version
-    bytes_of_it = image(name, BYTES[version])
-    listed = {name: bytes_of_it, b"doorbell/%d" % version: b"another image"}
-    return bytes_of_it, manifest(key, listed), sign_digest(key, sha256(bytes_of_it), name)
+    made = image(name, BYTES[version])
+    listed = {name: made, b"doorbell/%d" % version: b"another image"}
+    return made, manifest(key, listed), sign_digest(key, sha256(made), name)
 
 
 def main(folder):
@@ -34,7 +34,7 @@ def main(folder):
     first = link(root, 3, b"releases", verifying(middle))
     second = link(middle, 2, b"firmware", verifying(end))
     again = image(b"again", BYTES[3])
-    files = {
+    parts = {
         "root_key": verifying(root),
         "chain": first + second,
         "chain_of_another": link(other, 0, b"firmware", verifying(end)),
@@ -45,9 +45,9 @@ def main(folder):
         "signature_again": sign_digest(end, sha256(again), MODEL % 3),
     }
     for version in BYTES:
-        parts = zip(("image", "manifest", "signature"), release(end, version))
-        files |= {f"{name}_{version}": value for name, value in parts}
-    for name, value in files.items():
+        for name, value in zip(("image", "manifest", "signature"), release(end, version)):
+            parts[f"{name}_{version}"] = value
+    for name, value in parts.items():
         (Path(folder) / name).write_bytes(value)
 
 
