@@ -23,7 +23,7 @@ static unsigned long halves_left = ULONG_MAX;
 static inline void want(int holds, const char *what)
 {
     if (!holds) {
-        perror(what);
+        fprintf(stderr, "can't be used: %s\n", what);
         exit(2);
     }
 }
@@ -41,7 +41,7 @@ static inline int open_file(const char *path, int flags, uint64_t *bytes)
 
 static inline void read_file(int file, uint64_t at, uint8_t *to, size_t count)
 {
-    want(pread(file, to, count, (off_t)at) == (ssize_t)count, "reading");
+    want(pread(file, to, count, (off_t)at) == (ssize_t)count, "a file that ends too soon");
 }
 
 static inline void flash_open(const char *path)
@@ -52,7 +52,7 @@ static inline void flash_open(const char *path)
     if (cut != NULL)
         halves_left = strtoul(cut, NULL, 10);
     flash = open_file(path, O_RDWR, &bytes);
-    want(bytes == COUNTER_AT + PAGE_BYTES, "the flash's size");
+    want(bytes == COUNTER_AT + PAGE_BYTES, "a flash of another size");
 }
 
 /* All that changes the flash. */
@@ -60,7 +60,7 @@ static inline void flash_change(uint64_t at, const uint8_t *bytes, size_t count)
 {
     size_t powered = halves_left > 1 ? count : halves_left == 1 ? count / 2 : 0;
 
-    want(pwrite(flash, bytes, powered, (off_t)at) == (ssize_t)powered, "writing");
+    want(pwrite(flash, bytes, powered, (off_t)at) == (ssize_t)powered, "a flash that isn't written");
     if (halves_left < 2)
         exit(3);
     halves_left -= 2;
