@@ -1,8 +1,8 @@
 //! Finds the library for C, and refuses one of another interface.
 //!
 //! `SLH_DSA_DIR` is the whole path of a folder that has `libslh_dsa.a` or `libslh_dsa.so`, as
-//! `examples/c/build` makes it. Where it isn't set, `pkg-config` (`PKG_CONFIG` names another) finds what is installed.
-//! The archive is linked where both are there.
+//! `examples/c/build` makes it. Where it isn't set, `pkg-config` (`PKG_CONFIG` names another) finds
+//! what is installed. The archive is linked where both are there.
 
 use std::path::{Path, PathBuf};
 use std::process::{exit, Command};

@@ -67,6 +67,83 @@ static void signatures(void)
     WANT(verify(NULL, 1, NULL) == SLH_DSA_LENGTH);
 }
 
+/* An empty piece and an empty context may be NULL, and the calls that end use up the state whatever
+ * they are given. */
+static slh_dsa_status begin_verifying(slh_dsa_verifier *v)
+{
+    return slh_dsa_sha2_verify_begin_nullable(v, SET, PURE, public_key, sizeof public_key, NULL, 0,
+                                              sig, sizeof sig);
+}
+
+static void verified_in_pieces(void)
+{
+    slh_dsa_verifier v;
+
+    WANT(slh_dsa_sha2_verify_begin_nullable(&v, 9, 9, NULL, 0, NULL, 0, NULL, 0) ==
+         SLH_DSA_UNKNOWN_SET);
+    WANT(slh_dsa_sha2_verify_begin_nullable(&v, 9, 9, NULL, 1, NULL, 0, NULL, 0) == SLH_DSA_LENGTH);
+    WANT(slh_dsa_sha2_verify_begin_nullable(&v, 9, 9, NULL, 0, NULL, 1, NULL, 0) == SLH_DSA_LENGTH);
+    WANT(slh_dsa_sha2_verify_begin_nullable(&v, 9, 9, NULL, 0, NULL, 0, NULL, 1) == SLH_DSA_LENGTH);
+    WANT(begin_verifying(&v) == SLH_DSA_OK);
+    WANT(slh_dsa_sha2_verify_update_nullable(&v, NULL, 0) == SLH_DSA_OK);
+    WANT(slh_dsa_sha2_verify_update_nullable(&v, NULL, 1) == SLH_DSA_LENGTH);
+    WANT(slh_dsa_sha2_verify_finish_nullable(&v, sig, sizeof sig) == SLH_DSA_OK);
+    WANT(slh_dsa_sha2_verify_update_nullable(&v, NULL, 0) == SLH_DSA_STATE);
+    WANT(begin_verifying(&v) == SLH_DSA_OK);
+    WANT(slh_dsa_sha2_verify_update_nullable(&v, empty, 1) == SLH_DSA_OK);
+    WANT(slh_dsa_sha2_verify_finish_nullable(&v, sig, sizeof sig) == SLH_DSA_INVALID);
+    WANT(begin_verifying(&v) == SLH_DSA_OK);
+    WANT(slh_dsa_sha2_verify_finish_nullable(&v, NULL, 0) == SLH_DSA_LENGTH);
+    WANT(begin_verifying(&v) == SLH_DSA_OK);
+    WANT(slh_dsa_sha2_verify_finish_nullable(&v, NULL, sizeof sig) == SLH_DSA_LENGTH);
+    WANT(slh_dsa_sha2_verify_finish(&v, sig, sizeof sig) == SLH_DSA_STATE);
+}
+
+static slh_dsa_status begin_signing(slh_dsa_signer *s)
+{
+    return slh_dsa_sha2_sign_begin_nullable(s, SET, key, sizeof key, NULL, 0, randomizer,
+                                            sizeof randomizer);
+}
+
+/* Signs the empty message, from the second pass on. */
+static slh_dsa_status finish_signing(slh_dsa_signer *s, const uint8_t *by, uint8_t *into)
+{
+    memset(by_null, 0, sizeof by_null);
+    WANT(slh_dsa_sha2_sign_update_nullable(s, NULL, 0) == SLH_DSA_OK);
+    WANT(slh_dsa_sha2_sign_update_nullable(s, NULL, 1) == SLH_DSA_LENGTH);
+    WANT(slh_dsa_sha2_sign_again_nullable(s, NULL, 1) == SLH_DSA_LENGTH);
+    WANT(slh_dsa_sha2_sign_again_nullable(s, NULL, 0) == SLH_DSA_OK);
+    return slh_dsa_sha2_sign_finish_nullable(s, by, sizeof key, into, sizeof by_null);
+}
+
+static void signed_in_pieces(void)
+{
+    slh_dsa_signer s;
+
+    WANT(slh_dsa_sha2_sign_begin_nullable(&s, 9, NULL, 0, NULL, 0, NULL, 0) == SLH_DSA_UNKNOWN_SET);
+    WANT(slh_dsa_sha2_sign_begin_nullable(&s, 9, NULL, 1, NULL, 0, NULL, 0) == SLH_DSA_LENGTH);
+    WANT(slh_dsa_sha2_sign_begin_nullable(&s, 9, NULL, 0, NULL, 1, NULL, 0) == SLH_DSA_LENGTH);
+    WANT(slh_dsa_sha2_sign_begin_nullable(&s, 9, NULL, 0, NULL, 0, NULL, 1) == SLH_DSA_LENGTH);
+    WANT(begin_signing(&s) == SLH_DSA_OK);
+    WANT(finish_signing(&s, key, by_null) == SLH_DSA_OK);
+    WANT(memcmp(sig, by_null, sizeof sig) == 0);
+    WANT(begin_signing(&s) == SLH_DSA_OK);
+    WANT(finish_signing(&s, NULL, by_null) == SLH_DSA_LENGTH);
+    WANT(slh_dsa_sha2_sign_finish(&s, key, sizeof key, by_null, sizeof by_null) == SLH_DSA_STATE);
+    WANT(begin_signing(&s) == SLH_DSA_OK);
+    WANT(finish_signing(&s, key, NULL) == SLH_DSA_LENGTH);
+    WANT(slh_dsa_sha2_sign_finish(&s, key, sizeof key, by_null, sizeof by_null) == SLH_DSA_STATE);
+    WANT(by_null[0] == 0 && memcmp(by_null, by_null + 1, sizeof by_null - 1) == 0);
+    WANT(slh_dsa_sha2_sign_begin_deterministic_nullable(&s, SET, key, sizeof key, NULL, 1) ==
+         SLH_DSA_LENGTH);
+    WANT(slh_dsa_sha2_sign_begin_deterministic_nullable(&s, SET, NULL, sizeof key, NULL, 0) ==
+         SLH_DSA_LENGTH);
+    WANT(slh_dsa_sha2_sign_begin_deterministic_nullable(&s, SET, key, sizeof key, NULL, 0) ==
+         SLH_DSA_OK);
+    WANT(finish_signing(&s, key, by_null) == SLH_DSA_OK);
+    WANT(memcmp(sig, by_null, sizeof sig) != 0);
+}
+
 static slh_dsa_status audit(slh_dsa_evidence *evidence, size_t context_bytes)
 {
     return slh_dsa_sha2_audit_nullable(SET, PURE, key, sizeof key, NULL, 0, NULL, context_bytes,
@@ -177,6 +254,8 @@ int main(int argc, char **argv)
     }
     keys();
     signatures();
+    verified_in_pieces();
+    signed_in_pieces();
     audits();
     verdicts();
     updates();

@@ -1,8 +1,8 @@
 /*
- * Holds the calls in pieces to those in one: each set and mode, every way to cut a message into two,
- * what was signed twice, each refusal, and states of any bytes. It writes "as the header says", and
- * answers 0. Build it with -fsanitize=address,undefined to see each access of the C side, and that
- * the library writes no byte beyond a state's end.
+ * Holds the calls in pieces to those in one: each set and mode, the ways to cut a message into two
+ * (all of them in one set), what was signed twice, each refusal, and states of any bytes. It writes
+ * "as the header says", and answers 0. Build it with -fsanitize=address,undefined to see each
+ * access of the C side.
  */
 #include <stdio.h>
 #include <stdlib.h>
@@ -72,16 +72,18 @@ static void verified_in(slh_dsa_mode mode)
 static void verify_refused(void)
 {
     slh_dsa_verifier v, kept;
-    uint8_t other;
 
     memset(&v, 0x5a, sizeof v);
     kept = v;
-    WANT(slh_dsa_sha2_verify_begin(&v, 7, 3, ctx, 0, ctx, sizeof ctx, whole, 0), SLH_DSA_UNKNOWN_SET);
+    WANT(slh_dsa_sha2_verify_begin(&v, 7, 3, ctx, 0, ctx, sizeof ctx, whole, 0),
+         SLH_DSA_UNKNOWN_SET);
     WANT(slh_dsa_sha2_verify_begin(&v, set, 3, ctx, 0, ctx, sizeof ctx, whole, 0),
          SLH_DSA_UNKNOWN_MODE);
-    WANT(slh_dsa_sha2_verify_begin(&v, set, 0, public_key, 2 * n - 1, ctx, sizeof ctx, whole, bytes),
+    WANT(slh_dsa_sha2_verify_begin(&v, set, 0, public_key, 2 * n - 1, ctx, sizeof ctx, whole,
+                                   bytes),
          SLH_DSA_LENGTH);
-    WANT(slh_dsa_sha2_verify_begin(&v, set, 0, public_key, 2 * n, ctx, sizeof ctx, whole, bytes - 1),
+    WANT(slh_dsa_sha2_verify_begin(&v, set, 0, public_key, 2 * n, ctx, sizeof ctx, whole,
+                                   bytes - 1),
          SLH_DSA_LENGTH);
     WANT(slh_dsa_sha2_verify_begin(&v, set, 0, public_key, 2 * n, ctx, sizeof ctx, whole, bytes),
          SLH_DSA_CONTEXT_TOO_LONG);
@@ -94,9 +96,14 @@ static void verify_refused(void)
     v = kept;
     WANT(slh_dsa_sha2_verify_finish(&v, whole, bytes - 1), SLH_DSA_LENGTH);
     v = kept;
-    other = whole[0] ^= 1;
+    whole[0] ^= 1;
     WANT(slh_dsa_sha2_verify_finish(&v, whole, bytes), SLH_DSA_STATE);
-    whole[0] = other ^ 1;
+    /* The length comes before the randomizer. */
+    v = kept;
+    WANT(slh_dsa_sha2_verify_finish(&v, whole, bytes - 1), SLH_DSA_LENGTH);
+    v = kept;
+    WANT(slh_dsa_sha2_verify_finish(&v, whole, 0), SLH_DSA_LENGTH);
+    whole[0] ^= 1;
 }
 
 /* Signs the message in two pieces, and then in others. */
@@ -127,7 +134,8 @@ static void signed_twice(void)
 {
     uint8_t changed[MSG];
 
-    WANT(slh_dsa_sha2_sign(set, SLH_DSA_PURE, key, 4 * n, msg, MSG, ctx, CTX, seeds, n, whole, bytes),
+    WANT(slh_dsa_sha2_sign(set, SLH_DSA_PURE, key, 4 * n, msg, MSG, ctx, CTX, seeds, n, whole,
+                           bytes),
          SLH_DSA_OK);
     WANT(sign_cut(100, msg, 250), SLH_DSA_OK);
     WANT(memcmp(signature, whole, bytes), 0);
@@ -157,7 +165,8 @@ static void sign_refused(void)
     memset(&s, 0x5a, sizeof s);
     kept = s;
     WANT(slh_dsa_sha2_sign_begin(&s, 0, key, 0, ctx, sizeof ctx, seeds, 0), SLH_DSA_UNKNOWN_SET);
-    WANT(slh_dsa_sha2_sign_begin(&s, set, key, 4 * n - 1, ctx, sizeof ctx, seeds, 0), SLH_DSA_LENGTH);
+    WANT(slh_dsa_sha2_sign_begin(&s, set, key, 4 * n - 1, ctx, sizeof ctx, seeds, 0),
+         SLH_DSA_LENGTH);
     WANT(slh_dsa_sha2_sign_begin(&s, set, key, 4 * n, ctx, sizeof ctx, seeds, 0),
          SLH_DSA_CONTEXT_TOO_LONG);
     WANT(slh_dsa_sha2_sign_begin(&s, set, key, 4 * n, ctx, CTX, seeds, n - 1),

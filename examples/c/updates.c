@@ -147,6 +147,38 @@ static void batches(void)
     free(root.at), free(message.at), free(receipt.at);
 }
 
+/* The tree of the batch is that of the log, so a path in it is, too. */
+static void heads(void)
+{
+    struct file root = file_of("root_key"), message = file_of("message");
+    struct file signed_head = file_of("signed_head"), path = file_of("presence");
+    slh_batch_head head = {77, {1}};
+
+#define OPEN(set, key_bytes, bytes) \
+    slh_batch_open(set, root.at, key_bytes, signed_head.at, bytes, &head)
+#define UNDER(message_bytes, index, path_bytes) \
+    slh_batch_accept_under(&head, message.at, message_bytes, index, path.at, path_bytes)
+
+    WANT(OPEN(7, 0, 0) == SLH_DSA_UNKNOWN_SET);
+    WANT(OPEN(SET, KEY - 1, 0) == SLH_DSA_LENGTH);
+    WANT(OPEN(SET, KEY, signed_head.bytes - 1) == SLH_DSA_FORM);
+    signed_head.at[35] ^= 1;
+    WANT(OPEN(SET, KEY, signed_head.bytes) == SLH_DSA_INVALID && head.count == 77);
+    signed_head.at[35] ^= 1;
+    WANT(OPEN(SET, KEY, signed_head.bytes) == SLH_DSA_OK && head.count == 7);
+    WANT(memcmp(head.root, signed_head.at + 4, sizeof head.root) == 0);
+    WANT(UNDER(message.bytes, 2, path.bytes) == SLH_DSA_OK);
+    WANT(UNDER(message.bytes - 1, 2, path.bytes) == SLH_DSA_INVALID);
+    WANT(UNDER(message.bytes, 3, path.bytes) == SLH_DSA_INVALID);
+    WANT(UNDER(((size_t)1 << 60) + 1, 2, path.bytes) == SLH_DSA_MESSAGE_TOO_LONG);
+    WANT(UNDER(message.bytes, 7, path.bytes) == SLH_DSA_FORM);
+    WANT(UNDER(message.bytes, 2, path.bytes - 32) == SLH_DSA_FORM);
+    WANT(UNDER(message.bytes, 2, path.bytes - 1) == SLH_DSA_LENGTH);
+    head.count = (1 << 20) + 1;
+    WANT(UNDER(message.bytes, 2, path.bytes) == SLH_DSA_FORM);
+    free(root.at), free(message.at), free(signed_head.at), free(path.at);
+}
+
 static const char origin[] = "example.org/log";
 static uint8_t scratch[SLH_LOG_SCRATCH_BYTES(SLH_DSA_SHA2_128F_SIGNATURE_BYTES)];
 
@@ -237,6 +269,7 @@ int main(int argc, char **argv)
     chains();
     manifests();
     batches();
+    heads();
     open_logs(&old, &new);
     check_logs(&old, &new);
     puts(failures == 0 ? "as the header says" : "not as the header says");

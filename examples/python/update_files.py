@@ -1,7 +1,8 @@
 """What an updater reads, by a second reading of FIPS 205, docs/FORMATS.md and RFC 9162.
 
-    update_files.py FOLDER    writes a root key, a chain of two links, a manifest, a receipt, and two
-                              checkpoints of a log with proofs there, which examples/c/updates.c reads
+    update_files.py FOLDER    writes a root key, a chain of two links, a manifest, a receipt, the head
+                              of its batch, and two checkpoints of a log with proofs there, which
+                              examples/c/updates.c reads
 
 The set is SLH-DSA-SHA2-128f.
 """
@@ -52,6 +53,7 @@ def main(folder):
     root, middle, end = (derived(bytes(32), number) for number in (1, 2, 3))
     first = link(root, 3, b"releases", verifying(middle))
     leaves = [sha256(b"\0", entry) for entry in ENTRIES]
+    receipt, path = receipts(root, ENTRIES)[2], tree_path(2, leaves)
     files = {
         "root_key": verifying(root),
         "first_link": first,
@@ -61,12 +63,13 @@ def main(folder):
         "manifest": manifest(root, FILES),
         "image_digest": sha256(FILES[b"image"]),
         "message": ENTRIES[2],
-        "receipt": receipts(root, ENTRIES)[2],
+        "receipt": receipt,
+        "signed_head": pack(">I", 7) + tree_root(leaves) + receipt[8 + len(path) :],
         "head_of_3": pack("<Q", 3) + tree_root(leaves[:3]),
         "head_of_7": pack("<Q", 7) + tree_root(leaves),
         "checkpoint_3": checkpoint(root, leaves[:3]),
         "checkpoint_7": checkpoint(root, leaves),
-        "presence": tree_path(2, leaves),
+        "presence": path,
         "growth": growth(3, leaves),
     }
     for name, value in files.items():

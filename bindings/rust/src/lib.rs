@@ -19,8 +19,8 @@
 //! the library proves is proved of the calls in C: this crate hands its arguments over, and is
 //! tested and not proved.
 //!
-//! **In pieces.** [`VerifyingKey::verify_pieces`] and [`SigningKey::sign_pieces`] take a message of any
-//! size piece by piece, as writers do.
+//! **In pieces.** [`VerifyingKey::verify_pieces`] and [`SigningKey::sign_pieces`] take a message of
+//! any size piece by piece, as writers do.
 //!
 //! **Secrets.** The library is not constant-time. A [`SigningKey`] lies on the heap, and its bytes
 //! are cleared when it is dropped, as are the random bytes that were made for it. What a caller

@@ -98,7 +98,7 @@ impl<'k, P: ParameterSet> FirstPass<'k, P> {
     /// Begins the second pass, which takes the same message once more.
     ///
     /// # Errors
-    /// None of this crate's version.
+    /// None that can come: the context was looked at when the first pass began.
     pub fn again(mut self) -> Result<SecondPass<'k, P>, Error> {
         Error::of(ffi::sign_again(&mut self.state, &self.context))?;
         Ok(SecondPass { state: self.state, key: self.key })

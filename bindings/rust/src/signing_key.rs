@@ -158,8 +158,8 @@ impl<P: ParameterSet> SigningKey<P> {
     }
 
     /// Begins to sign a message that comes in pieces, twice, as it is ([`Mode::Pure`]): with n
-    /// fresh random bytes, or without any by the deterministic variant. Sign the digest of what comes
-    /// once alone: [`sign_digest`](SigningKey::sign_digest).
+    /// fresh random bytes, or without any by the deterministic variant. A message that can be read
+    /// only once is signed by its digest: [`sign_digest`](SigningKey::sign_digest).
     ///
     /// # Errors
     /// [`Error::ContextTooLong`], [`Error::RandomizerLength`]

@@ -81,7 +81,10 @@ fn names_for<'a>(
     let names = match names_below(rt, path) {
         Ok(names) => names,
         Err(walk) if walk.below.is_empty() => return Err(Failure::File(path, walk.error)),
-        Err(walk) => return Err(Failure::EntryFile(path, walk.below, walk.error)),
+        Err(walk) => {
+            let below = shown(rt.alloc(), walk.below.as_bytes())?;
+            return Err(Failure::EntryFile(path, below, walk.error));
+        }
     };
     if names.len() > MAX_ENTRIES {
         return Err(Failure::Told(path, build_text(BuildError::Full)));

@@ -1,6 +1,6 @@
 -- The head of a batch: what is signed, and the signature. Who verified it once checks each message
 -- by its path alone.
-use Rattle.std.specs.Prelude.{◌≡◌, ◌≢◌, ℕ, ◌+◌, ◌^◌, ◌==◌, ◌&&◌, List, ◌++◌, length, take, drop}
+use Rattle.std.specs.Prelude.{◌≡◌, ◌≢◌, ℕ, ◌+◌, ◌^◌, ◌==◌, ◌&&◌, List, [], ◌++◌, length, take, drop}
 use Rattle.std.specs.Prelude.{Bool, true, nat_le}
 use Rattle.std.specs.List.{concat}
 use Rattle.slh_core.specs.Bytes.{big_endian, number_of, part}
@@ -40,6 +40,10 @@ pub record BatchHead : Type 0 where
 abbrev pub head_in : List ℕ → BatchHead
 head_in bytes =
     record { count = head_count bytes; root = head_root bytes; signature = head_sig bytes }
+
+-- the same without a signature
+abbrev pub unsigned_head : ℕ → List ℕ → BatchHead
+unsigned_head count root = record { count = count; root = root; signature = [] }
 
 -- the receipt of message i of a head's by a path
 abbrev pub receipt_under : BatchHead → ℕ → List (List ℕ) → List ℕ

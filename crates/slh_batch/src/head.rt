@@ -1,10 +1,10 @@
 //! Heads of batches, which are verified once, and messages that are checked under them.
-ghost use Rattle.std.specs.Prelude.{◌≡◌, ◌≤◌, ◌&&◌, ◌==◌, length, nat_lt, true};
+ghost use Rattle.std.specs.Prelude.{◌≡◌, ◌≤◌, ◌&&◌, ◌==◌, ◌^◌, length, nat_le, nat_lt, true};
 ghost use Rattle.std.specs.Prelude.{IfOk, IfSome, is_some};
 ghost use Rattle.slh_trees.specs.Checking.{signature_size};
 ghost use Rattle.slh_trees.specs.Refusals.{RefusedExactly};
 ghost use Rattle.slh_batch.specs.Calls.{digest_under_error, led_refusal, open_error, under_error};
-ghost use Rattle.slh_batch.specs.Heads.{has_head_form, head_in};
+ghost use Rattle.slh_batch.specs.Heads.{has_head_form, head_in, unsigned_head};
 ghost use Rattle.slh_batch.specs.Receipts.{path_len as spec_path_len};
 
 use crate::batch::MAX_MESSAGES;
@@ -17,8 +17,8 @@ use slh_dsa::{Mode, ParameterSet, VerifyingKey};
 use slh_frames::MAX_MESSAGE;
 use std::marker::Model;
 
-/// What is signed for a batch and the signature, which was verified. Clauses see it as its number
-/// of messages, its root and its signature.
+/// What is signed for a batch, and the signature: read by `open`, which verifies it, or had again by
+/// `reopen`, which doesn't. Clauses see it as its number of messages, its root and its signature.
 #[derive(Drop)]
 pub struct Head<'a> {
     count: u32,
@@ -74,6 +74,23 @@ impl<'a> Head<'a> {
             return Err(HeadError::Invalid);
         }
         Ok(head)
+    }
+
+    /// A head again that `open` accepted, by what it says and without its signature, for a caller
+    /// that keeps these and no borrow of the bytes. It verifies nothing. `None`: no batch has so
+    /// many messages.
+    pub fn reopen(count: u32, root: &[u8; DIGEST_LEN]) -> Option<Self>
+        ensures some { is_some result ≡ (nat_le 1 count && nat_le count (2 ^ 20)) }
+        ensures head { IfSome result (λ head. head ≡ unsigned_head count root.now) }
+    {
+        if count == 0 || count > MAX_MESSAGES {
+            return None;
+        }
+        Some(Head {
+            count,
+            root: *root,
+            signature: &[],
+        })
     }
 
     /// How many messages the batch has.

@@ -20,7 +20,7 @@
 
 /* FORMS THAT TAKE NULL: the calls of slh_dsa.h but those of one set, where a buffer of the length 0
  * may also be NULL. NULL with another length is answered by LENGTH, before all other causes. What
- * has no length isn't NULL: evidence, an end, a head, a file, a number. */
+ * has no length isn't NULL: a state, evidence, an end, a head, a file, a number. */
 
 /* Whether bytes are told of and none can be there. */
 SLH_DSA_INLINE int slh_dsa_is_missing(const uint8_t *at, size_t bytes)
@@ -153,6 +153,130 @@ SLH_DSA_MUST_CHECK SLH_DSA_INLINE slh_dsa_status slh_dsa_sha2_verify_nullable(
         slh_dsa_read_at(message, &nothing), message_bytes,
         slh_dsa_read_at(context, &nothing), context_bytes,
         slh_dsa_read_at(signature, &nothing), signature_bytes);
+}
+
+SLH_DSA_MUST_CHECK SLH_DSA_INLINE slh_dsa_status slh_dsa_sha2_verify_begin_nullable(
+    slh_dsa_verifier *verifier,
+    slh_dsa_set set, slh_dsa_mode mode,
+    const uint8_t *verifying_key, size_t verifying_key_bytes,
+    const uint8_t *context, size_t context_bytes,
+    const uint8_t *signature, size_t signature_bytes)
+{
+    const uint8_t nothing = 0;
+
+    if (slh_dsa_is_missing(verifying_key, verifying_key_bytes) ||
+        slh_dsa_is_missing(context, context_bytes) ||
+        slh_dsa_is_missing(signature, signature_bytes))
+        return SLH_DSA_LENGTH;
+    return slh_dsa_sha2_verify_begin(
+        verifier, set, mode,
+        slh_dsa_read_at(verifying_key, &nothing), verifying_key_bytes,
+        slh_dsa_read_at(context, &nothing), context_bytes,
+        slh_dsa_read_at(signature, &nothing), signature_bytes);
+}
+
+SLH_DSA_MUST_CHECK SLH_DSA_INLINE slh_dsa_status slh_dsa_sha2_verify_update_nullable(
+    slh_dsa_verifier *verifier,
+    const uint8_t *piece, size_t piece_bytes)
+{
+    const uint8_t nothing = 0;
+
+    if (slh_dsa_is_missing(piece, piece_bytes))
+        return SLH_DSA_LENGTH;
+    return slh_dsa_sha2_verify_update(verifier, slh_dsa_read_at(piece, &nothing), piece_bytes);
+}
+
+/* The state is used up here, too, whatever the answer, and so in sign_finish. */
+SLH_DSA_MUST_CHECK SLH_DSA_INLINE slh_dsa_status slh_dsa_sha2_verify_finish_nullable(
+    slh_dsa_verifier *verifier,
+    const uint8_t *signature, size_t signature_bytes)
+{
+    const uint8_t nothing = 0;
+    const int is_missing = slh_dsa_is_missing(signature, signature_bytes);
+    const slh_dsa_status status = slh_dsa_sha2_verify_finish(
+        verifier,
+        slh_dsa_read_at(signature, &nothing), is_missing ? 0 : signature_bytes);
+
+    if (is_missing)
+        return SLH_DSA_LENGTH;
+    return status;
+}
+
+SLH_DSA_MUST_CHECK SLH_DSA_INLINE slh_dsa_status slh_dsa_sha2_sign_begin_nullable(
+    slh_dsa_signer *signer,
+    slh_dsa_set set,
+    const uint8_t *signing_key, size_t signing_key_bytes,
+    const uint8_t *context, size_t context_bytes,
+    const uint8_t *randomizer, size_t randomizer_bytes)
+{
+    const uint8_t nothing = 0;
+
+    if (slh_dsa_is_missing(signing_key, signing_key_bytes) ||
+        slh_dsa_is_missing(context, context_bytes) ||
+        slh_dsa_is_missing(randomizer, randomizer_bytes))
+        return SLH_DSA_LENGTH;
+    return slh_dsa_sha2_sign_begin(
+        signer, set,
+        slh_dsa_read_at(signing_key, &nothing), signing_key_bytes,
+        slh_dsa_read_at(context, &nothing), context_bytes,
+        slh_dsa_read_at(randomizer, &nothing), randomizer_bytes);
+}
+
+SLH_DSA_MUST_CHECK SLH_DSA_INLINE slh_dsa_status slh_dsa_sha2_sign_begin_deterministic_nullable(
+    slh_dsa_signer *signer,
+    slh_dsa_set set,
+    const uint8_t *signing_key, size_t signing_key_bytes,
+    const uint8_t *context, size_t context_bytes)
+{
+    const uint8_t nothing = 0;
+
+    if (slh_dsa_is_missing(signing_key, signing_key_bytes) ||
+        slh_dsa_is_missing(context, context_bytes))
+        return SLH_DSA_LENGTH;
+    return slh_dsa_sha2_sign_begin_deterministic(
+        signer, set,
+        slh_dsa_read_at(signing_key, &nothing), signing_key_bytes,
+        slh_dsa_read_at(context, &nothing), context_bytes);
+}
+
+SLH_DSA_MUST_CHECK SLH_DSA_INLINE slh_dsa_status slh_dsa_sha2_sign_update_nullable(
+    slh_dsa_signer *signer,
+    const uint8_t *piece, size_t piece_bytes)
+{
+    const uint8_t nothing = 0;
+
+    if (slh_dsa_is_missing(piece, piece_bytes))
+        return SLH_DSA_LENGTH;
+    return slh_dsa_sha2_sign_update(signer, slh_dsa_read_at(piece, &nothing), piece_bytes);
+}
+
+SLH_DSA_MUST_CHECK SLH_DSA_INLINE slh_dsa_status slh_dsa_sha2_sign_again_nullable(
+    slh_dsa_signer *signer,
+    const uint8_t *context, size_t context_bytes)
+{
+    const uint8_t nothing = 0;
+
+    if (slh_dsa_is_missing(context, context_bytes))
+        return SLH_DSA_LENGTH;
+    return slh_dsa_sha2_sign_again(signer, slh_dsa_read_at(context, &nothing), context_bytes);
+}
+
+SLH_DSA_MUST_CHECK SLH_DSA_INLINE slh_dsa_status slh_dsa_sha2_sign_finish_nullable(
+    slh_dsa_signer *signer,
+    const uint8_t *signing_key, size_t signing_key_bytes,
+    uint8_t *signature, size_t signature_bytes)
+{
+    uint8_t nothing = 0;
+    const int is_missing = slh_dsa_is_missing(signing_key, signing_key_bytes) ||
+                           slh_dsa_is_missing(signature, signature_bytes);
+    const slh_dsa_status status = slh_dsa_sha2_sign_finish(
+        signer,
+        slh_dsa_read_at(signing_key, &nothing), is_missing ? 0 : signing_key_bytes,
+        slh_dsa_write_at(signature, &nothing), is_missing ? 0 : signature_bytes);
+
+    if (is_missing)
+        return SLH_DSA_LENGTH;
+    return status;
 }
 
 SLH_DSA_MUST_CHECK SLH_DSA_INLINE slh_dsa_status slh_dsa_sha2_sign_digest_nullable(
@@ -357,6 +481,41 @@ SLH_DSA_MUST_CHECK SLH_DSA_INLINE slh_dsa_status slh_batch_accept_nullable(
         slh_dsa_read_at(verifying_key, &nothing), verifying_key_bytes,
         slh_dsa_read_at(message, &nothing), message_bytes,
         slh_dsa_read_at(receipt, &nothing), receipt_bytes);
+}
+
+SLH_DSA_MUST_CHECK SLH_DSA_INLINE slh_dsa_status slh_batch_open_nullable(
+    slh_dsa_set set,
+    const uint8_t *verifying_key, size_t verifying_key_bytes,
+    const uint8_t *signed_head, size_t signed_head_bytes,
+    slh_batch_head *head)
+{
+    const uint8_t nothing = 0;
+
+    if (slh_dsa_is_missing(verifying_key, verifying_key_bytes) ||
+        slh_dsa_is_missing(signed_head, signed_head_bytes))
+        return SLH_DSA_LENGTH;
+    return slh_batch_open(
+        set,
+        slh_dsa_read_at(verifying_key, &nothing), verifying_key_bytes,
+        slh_dsa_read_at(signed_head, &nothing), signed_head_bytes,
+        head);
+}
+
+SLH_DSA_MUST_CHECK SLH_DSA_INLINE slh_dsa_status slh_batch_accept_under_nullable(
+    const slh_batch_head *head,
+    const uint8_t *message, size_t message_bytes,
+    uint32_t index,
+    const uint8_t *path, size_t path_bytes)
+{
+    const uint8_t nothing = 0;
+
+    if (slh_dsa_is_missing(message, message_bytes) || slh_dsa_is_missing(path, path_bytes))
+        return SLH_DSA_LENGTH;
+    return slh_batch_accept_under(
+        head,
+        slh_dsa_read_at(message, &nothing), message_bytes,
+        index,
+        slh_dsa_read_at(path, &nothing), path_bytes);
 }
 
 SLH_DSA_MUST_CHECK SLH_DSA_INLINE slh_dsa_status slh_log_open_nullable(

@@ -52,3 +52,8 @@ IsNone verifier = MatchOption (scheme_numbered verifier.set) (Unit {0}) (λ _.
 abbrev pub HasOtherRandomizer : ℕ → List ℕ → List ℕ → Type 0
 HasOtherRandomizer set sig begun = MatchOption (scheme_numbered set) ⊥ (λ Z.
     (length sig ≡ signature_size Z) × (take Z.n sig ≢ take Z.n begun))
+
+-- in the set of a number, the bytes are more or less than those of a signature
+abbrev pub HasOtherLength : ℕ → List ℕ → Type 0
+HasOtherLength set sig = MatchOption (scheme_numbered set) ⊥ (λ Z.
+    length sig ≢ signature_size Z)

@@ -36,7 +36,7 @@ mod verify_pieces;
 mod verify_set;
 
 pub use audit::{slh_dsa_sha2_audit, slh_dsa_sha2_check_evidence};
-pub use batches::slh_batch_accept;
+pub use batches::{CBatchHead, slh_batch_accept, slh_batch_accept_under, slh_batch_open};
 pub use chains::{CEnd, slh_chain_walk};
 pub use digests::{
     slh_dsa_sha2_sign_digest, slh_dsa_sha2_sign_digest_deterministic, slh_dsa_sha2_verify_digest,

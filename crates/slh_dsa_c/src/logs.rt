@@ -181,7 +181,7 @@ pub extern "C" fn slh_log_open(
     }
 }
 
-/// Checks by a path, of 32 bytes a digest, that entry `index` of a log is `entry` (RFC 9162,
+/// Checks by an inclusion proof, of 32 bytes a digest, that entry `index` of a log is `entry` (RFC 9162,
 /// 2.1.3.2).
 #[unsafe(no_mangle)]
 pub extern "C" fn slh_log_check_presence(
@@ -202,7 +202,7 @@ pub extern "C" fn slh_log_check_presence(
     }
 }
 
-/// Checks by a proof, of 32 bytes a digest, that a log grew from an old head to a new one and kept
+/// Checks by a consistency proof, of 32 bytes a digest, that a log grew from an old head to a new one and kept
 /// all entries (RFC 9162, 2.1.4.2).
 #[unsafe(no_mangle)]
 pub extern "C" fn slh_log_check_growth(old: &CHead, new: &CHead, proof: &[u8]) -> u32

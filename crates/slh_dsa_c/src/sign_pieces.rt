@@ -13,7 +13,7 @@ ghost use Rattle.slh_dsa.specs.declared.error.Error.TheVariants.{ContextTooLong,
 ghost use Rattle.slh_frames.specs.Frames.{frame};
 ghost use Rattle.slh_sets.specs.Sets.{scheme_numbered};
 ghost use Rattle.slh_stream.specs.Passes.{randomizer_for};
-ghost use Rattle.slh_stream.specs.SuspendedPass.{IsFirstAside, IsSecondAside};
+ghost use Rattle.slh_stream.specs.SuspendedPass.{IsBlank, IsFirstAside, IsSecondAside};
 ghost use Rattle.slh_trees.specs.Refusals.{RefusedExactly, context_refusal, message_refusal};
 ghost use Rattle.slh_trees.specs.Signing.{signature_of};
 
@@ -54,7 +54,8 @@ pub struct CSigner {
 impl CSigner {
     /// No signing, to be written over by `slh_dsa_sha2_sign_begin`.
     pub fn new() -> Self
-        ensures { IsNone result }
+        ensures none { IsNone result }
+        ensures blank { IsBlank result.state }
     {
         CSigner {
             set: 0,
@@ -392,6 +393,7 @@ pub extern "C" fn slh_dsa_sha2_sign_finish(signer: &mut CSigner, key: &[u8], sig
     ensures unknown { IsNone signer.old → result ≡ 13 }
     ensures early { signer.old.pass ≢ 2 → result ≡ 13 }
     ensures spent { IsNone signer.new }
+    ensures wiped { IsBlank signer.new.state }
     ensures same { result ≢ 0 → sig.new ≡ sig.old }
 {
     let call = Finish {

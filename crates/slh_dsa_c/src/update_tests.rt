@@ -1,6 +1,6 @@
 //! Chains, manifests, receipts and logs, each call once with SLH-DSA-SHA2-128f: bytes that are laid out
 //! by hand, and the reference tree of the Certificate Transparency project.
-use crate::batches::slh_batch_accept;
+use crate::batches::{CBatchHead, slh_batch_accept, slh_batch_accept_under, slh_batch_open};
 use crate::chains::{CEnd, slh_chain_walk};
 use crate::keygen::slh_dsa_sha2_keygen;
 use crate::logs::{CHead, slh_log_check_growth, slh_log_check_presence, slh_log_open};
@@ -159,15 +159,22 @@ const ROOT_OF_ABC: [u8; 32] = [
 
 const RECEIPT: usize = 8 + SIG;
 
-// The receipt of the one message of a batch, "abc": SHA-256 of a zero byte and it is the root.
-fn receipt() -> [u8; RECEIPT] {
-    let mut signed = [0u8; 36 + SIG];
+const HEAD: usize = 36 + SIG;
+
+// The head of a batch of one message, "abc": SHA-256 of a zero byte and it is the root.
+fn head() -> [u8; HEAD] {
+    let mut signed = [0u8; HEAD];
     signed[..4].copy_from_slice(b"\0\0\0\x01");
     signed[4..36].copy_from_slice(&ROOT_OF_ABC);
     sign_end(&mut signed, b"slh-batch");
+    signed
+}
+
+// The receipt of the message.
+fn receipt() -> [u8; RECEIPT] {
     let mut receipt = [0u8; RECEIPT];
     receipt[..8].copy_from_slice(b"\0\0\0\0\0\0\0\x01");
-    receipt[8..].copy_from_slice(&signed[36..]);
+    receipt[8..].copy_from_slice(&head()[36..]);
     receipt
 }
 
@@ -182,6 +189,33 @@ fn a_receipt_is_accepted_for_its_message_alone(rt: HostRuntime) {
     assert!(rt; accept(b"abc", &receipt[1..]) == 14);
     assert!(rt; slh_batch_accept(SET, &[], b"", &receipt) == 5);
     assert!(rt; slh_batch_accept(0, &[], b"", &[]) == 9);
+}
+
+fn open_head(bytes: &[u8], head: &mut CBatchHead) -> u32 {
+    slh_batch_open(SET, &keys(1).1, bytes, head)
+}
+
+#[test]
+fn a_head_is_opened_once_for_its_messages(rt: HostRuntime) {
+    let mut bytes = head();
+    let mut head = CBatchHead {
+        count: 7,
+        root: [7; 32],
+    };
+    assert!(rt; slh_batch_open(0, &[], &bytes, &mut head) == 9);
+    assert!(rt; slh_batch_open(SET, &[], &bytes, &mut head) == 5);
+    assert!(rt; open_head(&bytes[1..], &mut head) == 14);
+    bytes[35] ^= 1;
+    assert!(rt; open_head(&bytes, &mut head) == 1 && head.count == 7 && head.root == [7; 32]);
+    bytes[35] ^= 1;
+    assert!(rt; open_head(&bytes, &mut head) == 0 && head.count == 1 && head.root == ROOT_OF_ABC);
+    assert!(rt; slh_batch_accept_under(&head, b"abc", 0, &[]) == 0);
+    assert!(rt; slh_batch_accept_under(&head, b"abd", 0, &[]) == 1);
+    assert!(rt; slh_batch_accept_under(&head, b"abc", 1, &[]) == 14);
+    assert!(rt; slh_batch_accept_under(&head, b"abc", 0, &[0; 32]) == 14);
+    assert!(rt; slh_batch_accept_under(&head, b"abc", 0, &[0; 31]) == 5);
+    head.count = 0;
+    assert!(rt; slh_batch_accept_under(&head, b"abc", 0, &[]) == 14);
 }
 
 // Heads of the reference tree of the Certificate Transparency project, and in one piece the path of
@@ -210,12 +244,12 @@ const FIRST_OF_GROWTH: [u8; 32] = [
     0x30, 0x81, 0x81, 0x03, 0x1d, 0x0a, 0x94, 0x9f, 0x8d, 0xed, 0xed, 0xeb, 0xc5, 0x58, 0xef, 0x6a,
 ];
 
-fn head(size: u64, root: [u8; 32]) -> CHead {
+fn log_head(size: u64, root: [u8; 32]) -> CHead {
     CHead { size, root }
 }
 
 fn presence(index: u64, entry: &[u8], proof: &[u8]) -> u32 {
-    slh_log_check_presence(&head(8, ROOT_OF_8), index, entry, proof)
+    slh_log_check_presence(&log_head(8, ROOT_OF_8), index, entry, proof)
 }
 
 #[test]
@@ -233,12 +267,12 @@ fn growth(old: CHead, new: CHead, proof: &[u8]) -> u32 {
 #[test]
 fn six_entries_grew_into_eight_and_no_others(rt: HostRuntime) {
     let mut proof = PATH;
-    assert!(rt; growth(head(6, ROOT_OF_6), head(8, ROOT_OF_8), &proof) == 1);
+    assert!(rt; growth(log_head(6, ROOT_OF_6), log_head(8, ROOT_OF_8), &proof) == 1);
     proof[..32].copy_from_slice(&FIRST_OF_GROWTH);
-    assert!(rt; growth(head(6, ROOT_OF_6), head(8, ROOT_OF_8), &proof) == 0);
-    assert!(rt; growth(head(6, ROOT_OF_6), head(8, ROOT_OF_8), &proof[1..]) == 5);
-    assert!(rt; growth(head(0, ROOT_OF_6), head(8, ROOT_OF_8), &proof) == 19);
-    assert!(rt; growth(head(8, ROOT_OF_8), head(6, ROOT_OF_6), &proof) == 20);
+    assert!(rt; growth(log_head(6, ROOT_OF_6), log_head(8, ROOT_OF_8), &proof) == 0);
+    assert!(rt; growth(log_head(6, ROOT_OF_6), log_head(8, ROOT_OF_8), &proof[1..]) == 5);
+    assert!(rt; growth(log_head(0, ROOT_OF_6), log_head(8, ROOT_OF_8), &proof) == 19);
+    assert!(rt; growth(log_head(8, ROOT_OF_8), log_head(6, ROOT_OF_6), &proof) == 20);
 }
 
 // A note whose one line of a signature is another key's.
@@ -252,7 +286,7 @@ fn open_log(origin: &[u8], note: &[u8]) -> u32 {
         origin,
         note,
         &mut [0; SIG + 4],
-        &mut head(77, [7; 32]),
+        &mut log_head(77, [7; 32]),
     )
 }
 
@@ -261,7 +295,7 @@ fn a_checkpoint_without_a_signature_of_the_key_is_refused(rt: HostRuntime) {
     assert!(rt; open_log(b"example.com/log", NOTE) == 18);
     assert!(rt; open_log(b"example.com/lo", NOTE) == 17 && open_log(b"\xff", NOTE) == 17);
     assert!(rt; open_log(b"\xff", b"") == 14);
-    let mut head = head(77, [7; 32]);
+    let mut head = log_head(77, [7; 32]);
     assert!(rt; slh_log_open(SET, &[0; 32], b"", b"", &mut [0; SIG + 3], &mut head) == 5);
     assert!(rt; slh_log_open(SET, &[0; 31], b"", b"", &mut [0; SIG + 4], &mut head) == 5);
     assert!(rt; slh_log_open(0, &[], b"", b"", &mut [], &mut head) == 9 && head.size == 77);

@@ -2,7 +2,7 @@
 ghost use Rattle.std.specs.Prelude.{◌≡◌, ◌≢◌, ◌*◌, ℕ, List, [], ◌++◌, length, take};
 ghost use Rattle.std.specs.Prelude.{IfOk, MatchResult, None, Err};
 ghost use Rattle.slh_dsa_c.specs.Numbers.{mode_numbered};
-ghost use Rattle.slh_dsa_c.specs.VerifyPieces.{HasOtherRandomizer, IsNone, StandsIn, Verifies};
+ghost use Rattle.slh_dsa_c.specs.VerifyPieces.{HasOtherLength, HasOtherRandomizer, IsNone, StandsIn, Verifies};
 ghost use Rattle.slh_dsa_c.specs.VerifyPieces.{begin_number, begin_refusal, begin_status, update_number};
 ghost use Rattle.slh_dsa_c.specs.Status.{verify_number, verify_status};
 ghost use Rattle.slh_stream.specs.Suspended.{IsSuspended};
@@ -186,6 +186,7 @@ impl<'a> OnSet for Finish<'a> {
         → result ≡ verify_number Z c.mode key context m c.sig.now)
         × ((key context sig m : List ℕ) → StandsIn Z c.mode c.state key context sig m
         → length c.sig.now ≡ signature_size Z → take Z.n c.sig.now ≢ take Z.n sig → result ≡ 13)
+        × (mode_numbered c.mode ≢ None → length c.sig.now ≢ signature_size Z → result ≡ 5)
         × (mode_numbered c.mode ≡ None → result ≡ 13) };
 
     fn on<P: SetSuite>(self) -> u32 {
@@ -208,6 +209,8 @@ pub extern "C" fn slh_dsa_sha2_verify_finish(verifier: &mut CVerifier, sig: &[u8
         → result ≡ verify_status verifier.old.set verifier.old.mode key context m sig.now }
     ensures other { (key context begun m : List ℕ) → Verifies verifier.old key context begun m
         → HasOtherRandomizer verifier.old.set sig.now begun → result ≡ 13 }
+    ensures length { mode_numbered verifier.old.mode ≢ None
+        → HasOtherLength verifier.old.set sig.now → result ≡ 5 }
     ensures unknown { IsNone verifier.old → result ≡ 13 }
     ensures spent { IsNone verifier.new }
 {

@@ -14,7 +14,8 @@ use crate::parts::{entries_of, parts_of};
 use slh_dsa::{Mode, ParameterSet, VerifyingKey};
 use std::marker::Model;
 
-/// A manifest whose signature is one of its body. Clauses see it as the list of its entries.
+/// A manifest that was read: by `open`, which verifies its signature, or again by `reopen`, which
+/// doesn't. Clauses see it as the list of its entries.
 #[derive(Drop)]
 pub struct Manifest<'a> {
     count: u32,
@@ -53,8 +54,9 @@ impl<'a> Manifest<'a> {
         })
     }
 
-    /// Reads a manifest again that was opened, without its signature: for who keeps the bytes and no
-    /// borrow of them. `None`: no entries stand there. Of bytes that nobody opened it tells nothing.
+    /// Reads a manifest again that `open` accepted, for a caller that keeps the bytes and no borrow
+    /// of them. It verifies nothing: of other bytes it tells what stands there, by whomever.
+    /// `None`: no entries stand there.
     pub fn reopen(bytes: &'a [u8]) -> Option<Self>
         ensures form { is_some result ≡ has_entries bytes.now }
         ensures entries { IfSome result (λ manifest. manifest ≡ entries_of bytes.now) }

@@ -1,5 +1,6 @@
 -- What the numbers of a pass stand for that is put aside between two pieces.
-use Rattle.std.specs.Prelude.{◌≡◌, ℕ, ◌≤◌, ◌^◌, List, ◌++◌, Option, length, take, unwrap_or}
+use Rattle.std.specs.Prelude.{◌≡◌, ℕ, ◌≤◌, ◌^◌, List, ◌++◌, Option, length, replicate, take}
+use Rattle.std.specs.Prelude.{unwrap_or}
 use Rattle.slh_core.specs.Bytes.{part}
 use Rattle.slh_frames.specs.Frames.{frame}
 use Rattle.slh_hash.specs.Suspended.{HasHashed, is_category_1, mac_block}
@@ -26,3 +27,12 @@ pub record IsSecondAside (n : ℕ) (state : SuspendedPass) (key : List ℕ)
   pub rand_is : take n state.rand ≡ rand
   pub hashed : HasHashed (is_category_1 n) state.digest
       (rand ++ part n key 2 ++ part n key 3 ++ frame context message)
+
+-- nothing of a key and of a message stands there, but for the states of the hashes
+pub record IsBlank (state : SuspendedPass) : Type 0 where
+  pub prf_is : state.prf ≡ replicate 32 0
+  pub seed_is : state.seed ≡ replicate 32 0
+  pub root_is : state.root ≡ replicate 32 0
+  pub opt_rand_is : state.opt_rand ≡ replicate 32 0
+  pub rand_is : state.rand ≡ replicate 32 0
+  pub taken_is : state.taken ≡ 0

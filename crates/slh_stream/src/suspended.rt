@@ -1,8 +1,9 @@
 //! A verifier that is put aside between two pieces.
 ghost use Rattle.std.specs.Prelude.{◌≡◌, ◌≢◌, ◌↔◌, ℕ, ◌+◌, ◌≤◌, ◌^◌, List, ◌++◌};
-ghost use Rattle.std.specs.Prelude.{IfSome, IsTrue, MatchOption, OnOk, OnErr, None, length, take};
+ghost use Rattle.std.specs.Prelude.{IfSome, IsTrue, MatchOption, OnOk, OnErr, None, Some, Err};
+ghost use Rattle.std.specs.Prelude.{length, take};
 ghost use Rattle.slh_dsa.specs.Calls.{hash_verify_error};
-ghost use Rattle.slh_dsa.specs.declared.error.Error.TheVariants.{MessageTooLong};
+ghost use Rattle.slh_dsa.specs.declared.error.Error.TheVariants.{Length, MessageTooLong};
 ghost use Rattle.slh_frames.specs.declared.frame.Mode.{Mode as SigningMode};
 ghost use Rattle.slh_stream.specs.Suspended.{HasTail, IsResumed, IsSuspended};
 ghost use Rattle.slh_stream.specs.Tails.{IsTailOf, hashed_count, mode_of};
@@ -259,6 +260,7 @@ impl SuspendedVerifier {
             → IsSuspended P.N.USIZE self.now mode key context rand m
             → length sig.now ≡ signature_size P.scheme → take P.N.USIZE sig.now ≢ rand
             → result ≡ None }
+        ensures length { length sig.now ≢ signature_size P.scheme → result ≡ Some (Err Length) }
     {
         forest_sizes::<P>();
         if sig.len() != P::SigLen::USIZE {

@@ -6,7 +6,7 @@ ghost use Rattle.slh_dsa.specs.declared.error.Error.TheVariants.{MessageTooLong,
 ghost use Rattle.slh_frames.specs.Frames.{frame};
 ghost use Rattle.slh_hash.specs.Suspended.{HasHashed, is_category_1, mac_block};
 ghost use Rattle.slh_stream.specs.Passes.{pass_refusal, randomizer_for};
-ghost use Rattle.slh_stream.specs.SuspendedPass.{IsFirstAside, IsSecondAside};
+ghost use Rattle.slh_stream.specs.SuspendedPass.{IsBlank, IsFirstAside, IsSecondAside};
 ghost use Rattle.slh_trees.specs.Refusals.{RefusedExactly, context_refusal, message_refusal};
 ghost use Rattle.slh_trees.specs.Signing.{signature_of};
 
@@ -96,7 +96,7 @@ fn absorb_front<P: ResumableSuite>(digest: P::Digest, piece: &[u8], hashes: &mut
 impl SuspendedPass {
     /// The numbers of nothing, to be written over.
     pub fn blank() -> Self
-        ensures { result.taken ≡ 0 }
+        ensures { IsBlank result }
     {
         SuspendedPass {
             prf: [0; 32],

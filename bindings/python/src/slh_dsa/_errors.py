@@ -86,11 +86,11 @@ class StateError(Refused):
     """A state in pieces was never begun, or was finished, or is of another key or signature."""
 
     status = 13
-    text = "the state is not one of this call, key or signature"
+    text = "the state isn't one of this call, key or signature"
 
 
 class ChangedError(Refused):
-    """The second pass of signing was over other bytes than the first."""
+    """The second pass of signing was over other bytes than the first: no call raises it yet."""
 
     status = 21
     text = "the second pass was over other bytes than the first"

@@ -11,7 +11,8 @@ from ._sets import Parameters, Prehash, mode_of
 class MessageVerifier:
     """A verification of a message that comes in pieces: `VerifyingKey.verifier` makes one.
 
-    `update` takes a piece; nothing is verified before `verify` has returned. It is used once.
+    `update` takes a piece; nothing is verified before `verify` has returned. It is used once, and
+    by one thread at a time.
     """
 
     __slots__ = ("_state", "_signature")
