@@ -1,7 +1,7 @@
-"""What a device with the updater of examples/c gets, by a second reading of FIPS 205 and docs/FORMATS.md.
+"""What a device with examples/c/updater.c gets, by a second reading of FIPS 205 and docs/FORMATS.md.
 
-    firmware_files.py FOLDER    writes a root key there, chains of it, and images of the versions 1 to 4
-                                with manifests and signatures, the last one too large for a slot
+    firmware_files.py FOLDER    writes a root key there, chains of it, and images of versions 1 to 4 with
+                                manifests and signatures; the last image is too large for a slot
 
 The set is SLH-DSA-SHA2-128f.
 """
