@@ -122,9 +122,19 @@ def message_digest(randomizer, seed, root, message):
 
 
 def sign(key, message, context=b""):
-    """Algorithms 22 and 19, deterministic: a signature in mode pure."""
+    """Algorithm 22, deterministic: a signature in mode pure."""
+    return sign_framed(key, bytes([0, len(context)]) + context + message)
+
+
+def sign_digest(key, digest, context=b""):
+    """Algorithm 23, deterministic, of a digest by SHA-256."""
+    oid = bytes.fromhex("0609608648016503040201")
+    return sign_framed(key, bytes([1, len(context)]) + context + oid + digest)
+
+
+def sign_framed(key, framed):
+    """Algorithm 19, deterministic."""
     _, sk_prf, seed, root = key
-    framed = bytes([0, len(context)]) + context + message
     randomizer = hmac.new(sk_prf, seed + framed, hashlib.sha256).digest()[:N]
     digest = message_digest(randomizer, seed, root, framed)
     bits = int.from_bytes(digest[:25], "big") >> 2
