@@ -88,7 +88,7 @@ async function verdict(now) {
         tell('yes', '✓ Accepted: the file was signed by this key.', rows);
     } catch (error) {
         if (!(error instanceof InvalidSignature)) throw error;
-        tell('no', '✗ Invalid: this file was not signed by this key.', rows);
+        tell('no', "✗ Invalid: the signature isn't one of this file by this key.", rows);
     }
 }
 

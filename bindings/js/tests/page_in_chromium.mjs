@@ -2,11 +2,13 @@
 // dropped that `slh` has signed; FOLDER gets these, and pictures. CHROMIUM names another browser.
 import assert from 'node:assert/strict';
 import { execFileSync } from 'node:child_process';
+import { once } from 'node:events';
 import { readFileSync, writeFileSync } from 'node:fs';
+import { createServer } from 'node:http';
 import { join, resolve } from 'node:path';
-import { pathToFileURL } from 'node:url';
+import { fileURLToPath, pathToFileURL } from 'node:url';
 import { Chromium } from './chromium.mjs';
-import { bent, fileOfRepository, widthOf } from './support.mjs';
+import { bent, fileOfPackage, fileOfRepository, widthOf } from './support.mjs';
 
 const [html, folder] = process.argv.slice(2, 4).map((it) => resolve(it));
 const url = pathToFileURL(html).href;
@@ -217,9 +219,54 @@ async function connections() {
     count++;
 }
 
+// A page that has a key already, and the module for 64-bit memories, where the browser takes it.
+async function withKey() {
+    const module = fileOfPackage('slh_dsa_verify.wasm');
+    const isTaken = await page.value(`WebAssembly.validate(
+        Uint8Array.from(atob('${module.toString('base64')}'), (it) => it.charCodeAt(0)))`);
+    if (!isTaken) return console.log('no 64-bit memories');
+    const maker = fileURLToPath(new URL('../page/make_page.mjs', import.meta.url));
+    const wasm = join(process.env.SLH_PACKAGE, 'slh_dsa_verify.wasm');
+    execFileSync(process.execPath, [maker, wasm, at('own.html'), at(`${FAST}.pub`)]);
+    await page.open(pathToFileURL(at('own.html')).href);
+    await expect('a page with a key', 'Still wanted: the file, its signature.');
+    await page.drop('h1', [`${FAST}.txt`, `${FAST}.txt.sig`].map(at));
+    await expect('its file', '✓ Accepted');
+    await page.drop('h1', [at('bent.sig')]);
+    await expect('its file with a bent signature', '✗ Invalid');
+}
+
+// The package on a site, whose policy allows its own scripts alone.
+const TYPES = { js: 'text/javascript', wasm: 'application/wasm', html: 'text/html' };
+const SITE = "<!DOCTYPE html><title>A site</title><body data-ready='yes'>";
+
+async function onSite() {
+    const server = createServer(({ url: path }, answer) => {
+        answer.setHeader('Content-Security-Policy', "default-src 'self'; script-src 'self' 'wasm-unsafe-eval'");
+        answer.setHeader('Content-Type', TYPES[path.split('.').pop()] ?? TYPES.html);
+        answer.end(path === '/' ? SITE : fileOfPackage(path.slice(1)));
+    });
+    server.listen(0, '127.0.0.1');
+    await once(server, 'listening');
+    await page.open(`http://127.0.0.1:${server.address().port}/`);
+    const [text, signature, pem] = ['txt', 'txt.sig', 'pub'].map((it) => readFileSync(at(`${FAST}.${it}`)));
+    const answers = await page.value(`import('/index.js').then(async (slh) => {
+        const { set, publicKey } = slh.readPublicKey(${JSON.stringify(pem.toString())});
+        const [text, signature] = [Uint8Array.of(${text.join()}), Uint8Array.of(${signature.join()})];
+        const answer = (message, context) => slh.verify(set, publicKey, message, signature, { context })
+            .then(() => 'accepted', (error) => error.name);
+        return [await answer(text), await answer(new Blob([text])), await answer(new Blob([text]).stream()),
+            await answer(text.subarray(1)), await answer(text, new Uint8Array(256))];
+    })`);
+    assert.deepEqual(answers, ['accepted', 'accepted', 'accepted', 'InvalidSignature', 'ContextTooLongError']);
+    count += answers.length;
+    server.close();
+}
+
 try {
     makeFiles();
-    for (const part of [eachSet, dropped, contexts, sizes, access, contrasts, connections]) await part();
+    const parts = [eachSet, dropped, contexts, sizes, access, contrasts, connections, withKey, onSite];
+    for (const part of parts) await part();
     console.log(`${count} verdicts, in ${browser.version}`);
 } finally {
     await browser.close();
