@@ -27,7 +27,7 @@ const verdict = () => page.value(`document.getElementById('verdict').textContent
 const isSettled = `!document.getElementById('verdict').textContent.startsWith('Verifying')`;
 
 // The verdict that is wanted, which has to come and to stay.
-async function expect(what, wanted, seconds = 20) {
+async function expect(what, wanted, seconds = 60) {
     const text = JSON.stringify(wanted);
     await page.until(`document.getElementById('verdict').textContent.includes(${text})`, seconds)
         .catch(async () => assert.fail(`${what}: ${await verdict()}, and not ${wanted}`));
