@@ -241,14 +241,23 @@ const TYPES = { js: 'text/javascript', wasm: 'application/wasm', html: 'text/htm
 const SITE = "<!DOCTYPE html><title>A site</title><body data-ready='yes'>";
 
 async function onSite() {
+    const asked = [];
     const server = createServer(({ url: path }, answer) => {
+        asked.push(path);
+        if (path === '/favicon.ico') return answer.writeHead(404).end();
+        if (path === '/verify.html') return answer.end(readFileSync(html));
         answer.setHeader('Content-Security-Policy', "default-src 'self'; script-src 'self' 'wasm-unsafe-eval'");
         answer.setHeader('Content-Type', TYPES[path.split('.').pop()] ?? TYPES.html);
         answer.end(path === '/' ? SITE : fileOfPackage(path.slice(1)));
     });
     server.listen(0, '127.0.0.1');
     await once(server, 'listening');
-    await page.open(`http://127.0.0.1:${server.address().port}/`);
+    const site = `http://127.0.0.1:${server.address().port}`;
+    await page.open(`${site}/verify.html`);
+    await page.drop('h1', [`${FAST}.txt`, `${FAST}.txt.sig`, `${FAST}.pub`].map(at));
+    await expect('the page on a site', '✓ Accepted');
+    assert.deepEqual(asked, ['/verify.html']);
+    await page.open(`${site}/`);
     const [text, signature, pem] = ['txt', 'txt.sig', 'pub'].map((it) => readFileSync(at(`${FAST}.${it}`)));
     const answers = await page.value(`import('/index.js').then(async (slh) => {
         const { set, publicKey } = slh.readPublicKey(${JSON.stringify(pem.toString())});
@@ -260,6 +269,7 @@ async function onSite() {
     })`);
     assert.deepEqual(answers, ['accepted', 'accepted', 'accepted', 'InvalidSignature', 'ContextTooLongError']);
     count += answers.length;
+    server.closeAllConnections();
     server.close();
 }
 
