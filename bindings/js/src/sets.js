@@ -12,11 +12,8 @@ const MODES = ['pure', 'sha256', 'sha512'];
 // The number of a set, from 1 on; 0, which no set has, for another name.
 export const numberOfSet = (set) => PARAMETER_SETS.indexOf(set) + 1;
 
-// The number of a mode; one that no mode has for another name.
-export const numberOfMode = (mode) => {
-    const number = MODES.indexOf(mode);
-    return number < 0 ? MODES.length : number;
-};
+// The number of a mode; for another name -1, which the module takes for 2^32 - 1.
+export const numberOfMode = (mode) => MODES.indexOf(mode);
 
 /** How many bytes a public key of a set has; undefined for another name. */
 export const publicKeyBytes = (set) => PUBLIC_KEY_BYTES[PARAMETER_SETS.indexOf(set)];

@@ -156,6 +156,20 @@ test('a verifier is used once, and a stream that fails fails the call', async ()
         throw new Error('the disk is gone');
     })();
     await assert.rejects(call(fast, { message: failing }), /the disk is gone/);
+    // what isn't read to its end is closed
+    const closed = [];
+    const iterator = (async function* () {
+        try {
+            yield 'no bytes';
+        } finally {
+            closed.push('iterator');
+        }
+    })();
+    const reader = { read: async () => ({ value: 'no bytes' }), cancel: async () => closed.push('reader') };
+    for (const message of [iterator, { getReader: () => reader }]) {
+        await assert.rejects(call(fast, { message }), TypeError);
+    }
+    assert.deepEqual(closed, ['iterator', 'reader']);
 });
 
 test('the arguments may change once a verifier has them', async () => {
