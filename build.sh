@@ -117,6 +117,8 @@ build() {
         }
         # without NAME.of it isn't built: so an interrupt leaves no program beside another one's
         rm -f "$4.of"
+        # the object of a program, for who links it in another way
+        if [ -f "out/$3.o" ]; then cp "out/$3.o" "$4.o"; fi
         cp "out/$3" "$4.new" && mv "$4.new" "$4" && echo "$of $(toolchain)" >"$4.of"
     ) 9>"$top/out/lock"
 }
