@@ -6,6 +6,7 @@ use Rattle.std.proofs.lemmas.Slice.Eq.{bytes_eq-Decides}
 use Rattle.std.specs.Str.{bytes_eq}
 use Rattle.std.specs.Bool.{Decides}
 use Rattle.whole_files.specs.declared.file.Failed.{Failed}
+use Rattle.whole_files.specs.declared.file.Mode.{Mode}
 use Rattle.whole_files.specs.declared.error.Written.{Written}
 use Rattle.whole_files.specs.declared.error.WriteError.{WriteError}
 use Rattle.whole_files.specs.declared.error.WriteError.TheVariants.{NotRegular, Taken, Failed as NothingLeft, Left}
@@ -32,7 +33,7 @@ changes_twice m a n path f g keeps one two =
     }
 
 -- a file that was just made, and then changed
-pub made_then_changed : (m a n : Files) (path : List ℕ) (mode : ℕ) (f : Node → Node)
+pub made_then_changed : (m a n : Files) (path : List ℕ) (mode : Mode) (f : Node → Node)
     → (makes : Makes m path mode a) → Changes a path f n → Puts m path (Some (f (new_node mode makes.id))) n
 made_then_changed m a n path mode f makes changes =
     let was : Some changes.node ≡ Some (new_node mode makes.id) = sym changes.was ∙ makes.puts.at in
@@ -77,7 +78,7 @@ sync_fills m a n path bytes (Err e) one syncs =
     inr (all_taken m n path bytes (changes_same m a n path (longer bytes) one syncs))
 
 -- a file that was just made is begun
-pub begun : (m a n : Files) (path : List ℕ) (mode : ℕ) (bytes : List ℕ) (count : ℕ)
+pub begun : (m a n : Files) (path : List ℕ) (mode : Mode) (bytes : List ℕ) (count : ℕ)
     → Makes m path mode a → Changes a path (longer (take count bytes)) n → HasBegun mode bytes (n path)
 begun m a n path mode bytes count makes changes =
     let puts = made_then_changed m a n path mode (longer (take count bytes)) makes changes in
@@ -90,7 +91,7 @@ begun m a n path mode bytes count makes changes =
       begun = refl;
     }
 
-pub whole : (m a n : Files) (path : List ℕ) (mode : ℕ) (bytes : List ℕ)
+pub whole : (m a n : Files) (path : List ℕ) (mode : Mode) (bytes : List ℕ)
     → Makes m path mode a → Changes a path (λ node. settled (longer bytes node)) n → IsPlaced m path mode bytes n
 whole m a n path mode bytes makes changes =
     let puts = made_then_changed m a n path mode (λ node. settled (longer bytes node)) makes changes in
@@ -108,7 +109,7 @@ whole m a n path mode bytes makes changes =
     }
 
 -- what is whole is begun
-pub whole_is_begun : (mode : ℕ) (bytes : List ℕ) (here : Option Node) → HasWhole mode bytes here → HasBegun mode bytes here
+pub whole_is_begun : (mode : Mode) (bytes : List ℕ) (here : Option Node) → HasWhole mode bytes here → HasBegun mode bytes here
 whole_is_begun mode bytes here is = record {
   node = is.node;
   is = is.is;
@@ -126,7 +127,7 @@ at_each m n path q here others =
       | false ↦ λ d. others (λ is. let no : false ≡ true = d.1 is in cc)
     ] (bytes_eq-Decides q path)
 
-placing_same : (m a n : Files) (path : List ℕ) (mode : ℕ) (bytes : List ℕ) → IsPlacing m path mode bytes a → Same a n
+placing_same : (m a n : Files) (path : List ℕ) (mode : Mode) (bytes : List ℕ) → IsPlacing m path mode bytes a → Same a n
     → IsPlacing m path mode bytes n
 placing_same m a n path mode bytes placing same = record {
   beside = elim placing.beside [
@@ -136,7 +137,7 @@ placing_same m a n path mode bytes placing same = record {
   others = λ q ne. same q ∙ placing.others q ne;
 }
 
-torn_is_placing : (m a n : Files) (path : List ℕ) (mode : ℕ) (bytes : List ℕ)
+torn_is_placing : (m a n : Files) (path : List ℕ) (mode : Mode) (bytes : List ℕ)
     → Makes m path mode a → Same a n ⊎ ((count : ℕ) × Changes a path (longer (take count bytes)) n)
     → IsPlacing m path mode bytes n
 torn_is_placing m a n path mode bytes makes torn =
@@ -158,7 +159,7 @@ torn_is_placing m a n path mode bytes makes torn =
       }
     ]
 
-pub filling_is_placing : (m a n : Files) (path : List ℕ) (mode : ℕ) (bytes : List ℕ)
+pub filling_is_placing : (m a n : Files) (path : List ℕ) (mode : Mode) (bytes : List ℕ)
     → Makes m path mode a → IsFilling a path bytes n → IsPlacing m path mode bytes n
 filling_is_placing m a n path mode bytes makes filling =
     elim filling [
@@ -168,35 +169,35 @@ filling_is_placing m a n path mode bytes makes filling =
       | inr some ↦ torn_is_placing m a n path mode bytes makes some
     ]
 
-pub placing_is_writing : (m a n : Files) (path part bytes : List ℕ) (mode : ℕ) → (part ≡ path → ⊥) → Same m a
+pub placing_is_writing : (m a n : Files) (path part bytes : List ℕ) (mode : Mode) → (part ≡ path → ⊥) → Same m a
     → mode ≡ mode_of (m path) → IsPlacing a part mode bytes n → IsWriting m path part bytes n
 placing_is_writing m a n path part bytes mode apart same is placing = record {
   at = inl (placing.others path (λ e. apart (sym e)) ∙ same path);
   beside = elim placing.beside [
     | inl old ↦ inl (old ∙ same part)
-    | inr new ↦ inr (subst (λ (k : ℕ). HasBegun k bytes (n part)) is new)
+    | inr new ↦ inr (subst (λ (k : Mode). HasBegun k bytes (n part)) is new)
   ];
   others = λ q _ ne. placing.others q ne ∙ same q;
 }
 
 -- what stands at a path has the mode and the bytes of what stood at another
-moved_whole : (b n : Files) (path part bytes : List ℕ) (mode : ℕ) → HasWhole mode bytes (b part) → Moves b part path n
+moved_whole : (b n : Files) (path part bytes : List ℕ) (mode : Mode) → HasWhole mode bytes (b part) → Moves b part path n
     → HasWhole mode bytes (n path)
 moved_whole b n path part bytes mode whole moves =
     subst (λ (o : Option Node). HasWhole mode bytes o) (moves.was ∙ sym moves.at) whole
 
-placed_is_placing : (a b n : Files) (part : List ℕ) (mode : ℕ) (bytes : List ℕ) → IsPlaced a part mode bytes b → Same b n
+placed_is_placing : (a b n : Files) (part : List ℕ) (mode : Mode) (bytes : List ℕ) → IsPlaced a part mode bytes b → Same b n
     → IsPlacing a part mode bytes n
 placed_is_placing a b n part mode bytes placed same = record {
   beside = inr (subst (λ (o : Option Node). HasBegun mode bytes o) (sym (same part)) (whole_is_begun mode bytes (b part) placed.whole));
   others = λ q ne. same q ∙ placed.others q ne;
 }
 
-pub rename_is_writing : (m a b n : Files) (path part bytes : List ℕ) (mode : ℕ) (r : Result (Unit {0}) Failed)
+pub rename_is_writing : (m a b n : Files) (path part bytes : List ℕ) (mode : Mode) (r : Result (Unit {0}) Failed)
     → (part ≡ path → ⊥) → Same m a
     → mode ≡ mode_of (m path) → IsPlaced a part mode bytes b → Renames b part path r n → IsWriting m path part bytes n
 rename_is_writing m a b n path part bytes mode (Ok u) apart same is placed moves = record {
-  at = inr (subst (λ (k : ℕ). HasWhole k bytes (n path)) is (moved_whole b n path part bytes mode placed.whole moves));
+  at = inr (subst (λ (k : Mode). HasWhole k bytes (n path)) is (moved_whole b n path part bytes mode placed.whole moves));
   beside = inl (moves.gone ∙ sym placed.free ∙ same part);
   others = λ q ne other. moves.others q other ne ∙ placed.others q other ∙ same q;
 }
@@ -204,11 +205,11 @@ rename_is_writing m a b n path part bytes mode (Err e) apart same is placed stay
     placing_is_writing m a n path part bytes mode apart same is (placed_is_placing a b n part mode bytes placed stays)
 
 -- a placed file that is taken away again
-taken_away : (a b n : Files) (part : List ℕ) (mode : ℕ) (bytes : List ℕ) → IsPlaced a part mode bytes b → Puts b part None n → Same a n
+taken_away : (a b n : Files) (part : List ℕ) (mode : Mode) (bytes : List ℕ) → IsPlaced a part mode bytes b → Puts b part None n → Same a n
 taken_away a b n part mode bytes placed puts q =
     at_each a n part q (puts.at ∙ sym placed.free) (λ ne. puts.others q ne ∙ placed.others q ne)
 
-pub removal_is_writing : (m a b d n : Files) (path part bytes : List ℕ) (mode : ℕ) (r : Result (Unit {0}) Failed)
+pub removal_is_writing : (m a b d n : Files) (path part bytes : List ℕ) (mode : Mode) (r : Result (Unit {0}) Failed)
     → (part ≡ path → ⊥) → Same m a
     → mode ≡ mode_of (m path) → IsPlaced a part mode bytes b → Same b d → Removes d part r n → IsWriting m path part bytes n
 removal_is_writing m a b d n path part bytes mode (Ok u) apart same is placed stays puts =
@@ -220,7 +221,7 @@ removal_is_writing m a b d n path part bytes mode (Err e) apart same is placed s
     placing_is_writing m a n path part bytes mode apart same is
     (placed_is_placing a b n part mode bytes placed (λ q. again q ∙ stays q))
 
-pub removal_writes : (m a b d n : Files) (path part bytes : List ℕ) (mode : ℕ) (w : WriteError)
+pub removal_writes : (m a b d n : Files) (path part bytes : List ℕ) (mode : Mode) (w : WriteError)
     → Same m a → mode ≡ mode_of (m path)
     → IsPlaced a part mode bytes b → Same b d → TakesAway d part w n → Writes {A = Written} m path part bytes (Err w) n
 removal_writes m a b d n path part bytes mode NothingLeft same is placed stays puts = λ q.
@@ -228,7 +229,7 @@ removal_writes m a b d n path part bytes mode NothingLeft same is placed stays p
     (record { at = puts.at; others = λ p ne. puts.others p ne ∙ stays p }) q ∙ same q
 removal_writes m a b d n path part bytes mode Left same is placed stays again =
     let placing = placed_is_placing a b n part mode bytes placed (λ q. again q ∙ stays q) in
-    let here = subst (λ (k : ℕ). IsPlacing a part k bytes n) is placing in
+    let here = subst (λ (k : Mode). IsPlacing a part k bytes n) is placing in
     record {
       beside = elim here.beside [ inl old ↦ inl (old ∙ same part) | inr new ↦ inr new ];
       others = λ q ne. here.others q ne ∙ same q;
@@ -236,7 +237,7 @@ removal_writes m a b d n path part bytes mode Left same is placed stays again =
 removal_writes m a b d n path part bytes mode NotRegular same is placed stays never = absurd never
 removal_writes m a b d n path part bytes mode Taken same is placed stays never = absurd never
 
-placing_is_making : (m n : Files) (path part : List ℕ) (mode : ℕ) (bytes : List ℕ) → (part ≡ path → ⊥)
+placing_is_making : (m n : Files) (path part : List ℕ) (mode : Mode) (bytes : List ℕ) → (part ≡ path → ⊥)
     → IsPlacing m part mode bytes n → IsMaking m path part mode bytes n
 placing_is_making m n path part mode bytes apart placing = record {
   at = inl (placing.others path (λ e. apart (sym e)));
@@ -244,22 +245,22 @@ placing_is_making m n path part mode bytes apart placing = record {
   others = λ q _ ne. placing.others q ne;
 }
 
-pub same_is_making : (m b n : Files) (path part : List ℕ) (mode : ℕ) (bytes : List ℕ) → (part ≡ path → ⊥)
+pub same_is_making : (m b n : Files) (path part : List ℕ) (mode : Mode) (bytes : List ℕ) → (part ≡ path → ⊥)
     → IsPlaced m part mode bytes b → Same b n → IsMaking m path part mode bytes n
 same_is_making m b n path part mode bytes apart placed same =
     placing_is_making m n path part mode bytes apart (placed_is_placing m b n part mode bytes placed same)
 
 -- what a link of a placed file makes
-linked_whole : (m b n : Files) (path part : List ℕ) (mode : ℕ) (bytes : List ℕ)
+linked_whole : (m b n : Files) (path part : List ℕ) (mode : Mode) (bytes : List ℕ)
     → IsPlaced m part mode bytes b → Names b part path n → HasWhole mode bytes (n path)
 linked_whole m b n path part mode bytes placed names =
     subst (λ (o : Option Node). HasWhole mode bytes o) (names.was ∙ sym names.puts.at) placed.whole
 
-linked_free : (m b n : Files) (path part : List ℕ) (mode : ℕ) (bytes : List ℕ) → (part ≡ path → ⊥)
+linked_free : (m b n : Files) (path part : List ℕ) (mode : Mode) (bytes : List ℕ) → (part ≡ path → ⊥)
     → IsPlaced m part mode bytes b → Names b part path n → m path ≡ None
 linked_free m b n path part mode bytes apart placed names = sym (placed.others path (λ e. apart (sym e))) ∙ names.free
 
-pub link_is_making : (m b n : Files) (path part : List ℕ) (mode : ℕ) (bytes : List ℕ) (r : Result Bool Failed) → (part ≡ path → ⊥)
+pub link_is_making : (m b n : Files) (path part : List ℕ) (mode : Mode) (bytes : List ℕ) (r : Result Bool Failed) → (part ≡ path → ⊥)
     → IsPlaced m part mode bytes b → Links b part path r n → IsMaking m path part mode bytes n
 link_is_making m b n path part mode bytes (Ok true) apart placed names = record {
   at = inr (linked_free m b n path part mode bytes apart placed names, linked_whole m b n path part mode bytes placed names);
@@ -271,7 +272,7 @@ link_is_making m b n path part mode bytes (Ok false) apart placed stays = same_i
 link_is_making m b n path part mode bytes (Err e) apart placed stays = same_is_making m b n path part mode bytes apart placed stays
 
 -- the other name of a linked file is taken away
-pub unlinked_is_made : (m b c n : Files) (path part : List ℕ) (mode : ℕ) (bytes : List ℕ) → (part ≡ path → ⊥)
+pub unlinked_is_made : (m b c n : Files) (path part : List ℕ) (mode : Mode) (bytes : List ℕ) → (part ≡ path → ⊥)
     → IsPlaced m part mode bytes b → Names b part path c → Puts c part None n → IsMade m path part mode bytes n
 unlinked_is_made m b c n path part mode bytes apart placed names puts = record {
   free = linked_free m b c path part mode bytes apart placed names;
@@ -282,7 +283,7 @@ unlinked_is_made m b c n path part mode bytes apart placed names puts = record {
       (λ other. puts.others q other ∙ names.puts.others q ne ∙ placed.others q other);
 }
 
-pub made_is_making : (m n : Files) (path part : List ℕ) (mode : ℕ) (bytes : List ℕ) → (part ≡ path → ⊥)
+pub made_is_making : (m n : Files) (path part : List ℕ) (mode : Mode) (bytes : List ℕ) → (part ≡ path → ⊥)
     → IsMade m path part mode bytes n → IsMaking m path part mode bytes n
 made_is_making m n path part mode bytes apart made = record {
   at = inr (made.free, made.whole);
@@ -290,7 +291,7 @@ made_is_making m n path part mode bytes apart made = record {
   others = λ q ne _. made.others q ne;
 }
 
-pub making_same : (m a n : Files) (path part : List ℕ) (mode : ℕ) (bytes : List ℕ)
+pub making_same : (m a n : Files) (path part : List ℕ) (mode : Mode) (bytes : List ℕ)
     → IsMaking m path part mode bytes a → Same a n → IsMaking m path part mode bytes n
 making_same m a n path part mode bytes making same = record {
   at = elim making.at [
@@ -304,7 +305,7 @@ making_same m a n path part mode bytes making same = record {
   others = λ q ne other. same q ∙ making.others q ne other;
 }
 
-pub unlink_is_making : (m b c n : Files) (path part : List ℕ) (mode : ℕ) (bytes : List ℕ) (r : Result (Unit {0}) Failed)
+pub unlink_is_making : (m b c n : Files) (path part : List ℕ) (mode : Mode) (bytes : List ℕ) (r : Result (Unit {0}) Failed)
     → (part ≡ path → ⊥) → IsPlaced m part mode bytes b → Names b part path c → Removes c part r n
     → IsMaking m path part mode bytes n
 unlink_is_making m b c n path part mode bytes (Ok u) apart placed names puts =
@@ -312,13 +313,13 @@ unlink_is_making m b c n path part mode bytes (Ok u) apart placed names puts =
 unlink_is_making m b c n path part mode bytes (Err e) apart placed names stays =
     making_same m c n path part mode bytes (link_is_making m b c path part mode bytes (Ok true) apart placed names) stays
 
-pub removed : (m b c n : Files) (part : List ℕ) (mode : ℕ) (bytes : List ℕ)
+pub removed : (m b c n : Files) (part : List ℕ) (mode : Mode) (bytes : List ℕ)
     → IsPlaced m part mode bytes b → Same b c → Puts c part None n → Same m n
 removed m b c n part mode bytes placed same puts =
     taken_away m b n part mode bytes placed (record { at = puts.at; others = λ q ne. puts.others q ne ∙ same q })
 
 -- a placed file that is taken away, which was not linked
-pub removal_is_making : (m b c n : Files) (path part : List ℕ) (mode : ℕ) (bytes : List ℕ) (r : Result (Unit {0}) Failed)
+pub removal_is_making : (m b c n : Files) (path part : List ℕ) (mode : Mode) (bytes : List ℕ) (r : Result (Unit {0}) Failed)
     → (part ≡ path → ⊥) → IsPlaced m part mode bytes b → Same b c → Removes c part r n
     → IsMaking m path part mode bytes n
 removal_is_making m b c n path part mode bytes (Ok u) apart placed same puts =
@@ -327,7 +328,7 @@ removal_is_making m b c n path part mode bytes (Ok u) apart placed same puts =
 removal_is_making m b c n path part mode bytes (Err e) apart placed same stays =
     same_is_making m b n path part mode bytes apart placed (λ q. stays q ∙ same q)
 
-pub removal_makes : (m b c n : Files) (path part : List ℕ) (mode : ℕ) (bytes : List ℕ) (w : WriteError)
+pub removal_makes : (m b c n : Files) (path part : List ℕ) (mode : Mode) (bytes : List ℕ) (w : WriteError)
     → (part ≡ path → ⊥) → IsPlaced m part mode bytes b → Same b c → TakesAway c part w n
     → MakesNew {A = Unit {0}} m path part mode bytes (Err w) n
 removal_makes m b c n path part mode bytes NothingLeft apart placed same puts = removed m b c n part mode bytes placed same puts
@@ -336,19 +337,19 @@ removal_makes m b c n path part mode bytes Left apart placed same stays =
 removal_makes m b c n path part mode bytes NotRegular apart placed same never = absurd never
 removal_makes m b c n path part mode bytes Taken apart placed same never = absurd never
 
-pub not_linked_is_making : (m b c n : Files) (path part : List ℕ) (mode : ℕ) (bytes : List ℕ)
+pub not_linked_is_making : (m b c n : Files) (path part : List ℕ) (mode : Mode) (bytes : List ℕ)
     → (part ≡ path → ⊥) → IsPlaced m part mode bytes b → Same b c → Same c n
     → IsMaking m path part mode bytes n
 not_linked_is_making m b c n path part mode bytes apart placed same stays =
     same_is_making m b n path part mode bytes apart placed (λ q. stays q ∙ same q)
 
 -- a placed file that took the path, where nothing else is changed afterwards
-pub renamed_is_written : (m a b c n : Files) (path part bytes : List ℕ) (mode : ℕ) → (part ≡ path → ⊥) → Same m a
+pub renamed_is_written : (m a b c n : Files) (path part bytes : List ℕ) (mode : Mode) → (part ≡ path → ⊥) → Same m a
     → mode ≡ mode_of (m path) → IsWritable (m path) → IsPlaced a part mode bytes b → Moves b part path c → Same c n
     → IsWritten m path part bytes n
 renamed_is_written m a b c n path part bytes mode apart same is writable placed moves stays = record {
   writable = writable;
-  whole = subst (λ (k : ℕ). HasWhole k bytes (n path)) is
+  whole = subst (λ (k : Mode). HasWhole k bytes (n path)) is
       (subst (λ (o : Option Node). HasWhole mode bytes o) (sym (stays path)) (moved_whole b c path part bytes mode placed.whole moves));
   free = sym (same part) ∙ placed.free;
   others = λ q ne. at_each m n part q (stays part ∙ moves.gone ∙ sym placed.free ∙ same part)
@@ -356,7 +357,7 @@ renamed_is_written m a b c n path part bytes mode apart same is writable placed 
 }
 
 -- what is made stays where nothing else is changed
-pub made_same : (m a n : Files) (path part : List ℕ) (mode : ℕ) (bytes : List ℕ) → IsMade m path part mode bytes a → Same a n
+pub made_same : (m a n : Files) (path part : List ℕ) (mode : Mode) (bytes : List ℕ) → IsMade m path part mode bytes a → Same a n
     → IsMade m path part mode bytes n
 made_same m a n path part mode bytes made same = record {
   free = made.free;

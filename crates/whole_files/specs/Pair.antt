@@ -2,7 +2,9 @@
 use Rattle.std.specs.Prelude.{◌≡◌, ◌≢◌, ◌⊎◌, ℕ, List, None, Result, Ok, Err}
 use Rattle.whole_files.specs.declared.error.WriteError.{WriteError}
 use Rattle.whole_files.specs.declared.error.WriteError.TheVariants.{NotRegular, Taken, Failed, Left}
-use Rattle.whole_files.specs.declared.whole.TheConstants.{NEW_MODE, SECRET_MODE}
+use Rattle.whole_files.specs.declared.file.Mode.{Mode}
+use Rattle.whole_files.specs.declared.file.Mode.TheVariants.{Masked}
+use Rattle.whole_files.specs.declared.whole.TheConstants.{SECRET_MODE}
 use Rattle.whole_files.specs.Files.{Files, Same, Puts}
 use Rattle.whole_files.specs.Whole.{HasWhole, HasBegun}
 
@@ -16,7 +18,7 @@ pub record AreApart (kp ks pp ps : List ℕ) : Type 0 where
   pub parts : ks ≢ ps
 
 -- what was there, or a new file where nothing was
-abbrev pub IsOldOrNew : Files → List ℕ → ℕ → List ℕ → Files → Type 0
+abbrev pub IsOldOrNew : Files → List ℕ → Mode → List ℕ → Files → Type 0
 IsOldOrNew m path mode bytes n = (n path ≡ m path) ⊎ ((m path ≡ None) × HasWhole mode bytes (n path))
 
 -- At each moment of the making of two files: each path has what it had, or the new file, whole, where
@@ -24,8 +26,8 @@ IsOldOrNew m path mode bytes n = (n path ≡ m path) ⊎ ((m path ≡ None) × H
 pub record IsPairing (m : Files) (kp ks key pp ps public : List ℕ) (n : Files) : Type 0 where
   pub secret_at : IsOldOrNew m kp SECRET_MODE key n
   pub secret_beside : (n ks ≡ m ks) ⊎ HasBegun SECRET_MODE key (n ks)
-  pub public_at : IsOldOrNew m pp NEW_MODE public n
-  pub public_beside : (n ps ≡ m ps) ⊎ HasBegun NEW_MODE public (n ps)
+  pub public_at : IsOldOrNew m pp Masked public n
+  pub public_beside : (n ps ≡ m ps) ⊎ HasBegun Masked public (n ps)
   pub others : (q : List ℕ) → q ≢ kp → q ≢ ks → q ≢ pp → q ≢ ps → n q ≡ m q
 
 -- both files stand whole where nothing stood, and all else is the same
@@ -33,7 +35,7 @@ pub record IsPair (m : Files) (kp ks key pp ps public : List ℕ) (n : Files) : 
   pub secret_free : m kp ≡ None
   pub public_free : m pp ≡ None
   pub secret : HasWhole SECRET_MODE key (n kp)
-  pub public_file : HasWhole NEW_MODE public (n pp)
+  pub public_file : HasWhole Masked public (n pp)
   pub others : (q : List ℕ) → q ≢ kp → q ≢ pp → n q ≡ m q
 
 abbrev pub Pairs : {A : Type 0} → Files → List ℕ → List ℕ → List ℕ → List ℕ → List ℕ → List ℕ

@@ -4,7 +4,7 @@ ghost use Rattle.whole_files.specs.declared.file.Failed.{Failed};
 ghost use Rattle.whole_files.specs.Causes.{HasCause};
 ghost use Rattle.whole_files.specs.Files.{Files, Same, Shows, Creates, Appends, Syncs, Renames, Links, Removes};
 
-use crate::file::{Failed, Stat};
+use crate::file::{Failed, Mode, Stat};
 
 /// What a program does to files. Each call that changes something asks first that every outcome of
 /// it is permitted, also where it fails or is cut short. So a function that is proved for every
@@ -34,7 +34,7 @@ pub trait FileSystem {
         ensures cause { HasCause (faults self.old) (faults self.new) result };
 
     /// Makes a file without bytes, and says whether it did: not where something stands at the path.
-    fn create_new(&mut self, path: &str, mode: u32) -> Result<bool, Failed>
+    fn create_new(&mut self, path: &str, mode: Mode) -> Result<bool, Failed>
         requires { IsTrue tells → (n : Files) (r : Result Bool Failed)
             → Creates (files self.old) path.now mode r n → permits n }
         ensures files { IsTrue tells → Creates (files self.old) path.now mode result (files self.new) }

@@ -2,16 +2,14 @@
 ghost use Rattle.std.specs.Prelude.{◌≡◌, ◌≤◌};
 ghost use Rattle.whole_files.specs.Causes.{HasCause, RoseBy};
 
-use crate::file::{Failed, FileId, Kind, Stat};
+use crate::file::{Failed, FileId, Kind, Mode, Stat};
 use crate::file_system::FileSystem;
-use crate::whole::NEW_MODE;
 use std::fs::{self, File, Metadata, OpenFile, OpenOptions, Permissions};
 use std::io::{self, ErrorKind, Write};
 use std::os::unix::fs::{MetadataExt, OpenOptionsExt, PermissionsExt};
 
-/// The files of the system, of which nothing is told. A file that is made with the mode
-/// [`NEW_MODE`] has what the user's mask leaves of it, and any other one has its mode exactly. A
-/// folder that can't be opened to be read, or whose file system doesn't bring folders to the disk,
+/// The files of the system, of which nothing is told. A file that is made has what the user's mask
+/// leaves of its mode, or its mode exactly, as [`Mode`] says. A folder that can't be opened to be read, or whose file system doesn't bring folders to the disk,
 /// is left to the system.
 #[derive(Drop)]
 pub struct HostFiles<'r> {
@@ -64,15 +62,15 @@ impl<'r> HostFiles<'r> {
         }
     }
 
-    fn make(&mut self, path: &str, mode: u32) -> io::Result<()>
+    fn make(&mut self, path: &str, mode: Mode) -> io::Result<()>
         ensures { self.new.faults ≡ self.old.faults }
     {
         let name = String::from_str(self.rt.alloc(), path)?;
         let mut options = OpenOptions::new();
-        options.write(true).create_new(true).mode(mode);
+        options.write(true).create_new(true).mode(mode.bits());
         let file = options.open(self.rt, path)?;
-        if mode != NEW_MODE
-            && let Err(error) = file.set_permissions(Permissions::from_mode(mode))
+        if let Mode::Exact(bits) = mode
+            && let Err(error) = file.set_permissions(Permissions::from_mode(bits))
         {
             let _ = fs::remove_file(self.rt, path);
             return Err(error);
@@ -165,7 +163,7 @@ impl FileSystem for HostFiles<'_> {
         }
     }
 
-    fn create_new(&mut self, path: &str, mode: u32) -> Result<bool, Failed> {
+    fn create_new(&mut self, path: &str, mode: Mode) -> Result<bool, Failed> {
         let made = self.make(path, mode);
         self.answer_new(made)
     }

@@ -24,11 +24,11 @@ mod tests;
 mod whole;
 
 pub use error::{WriteError, Written};
-pub use file::{Failed, FileId, Kind, Stat};
+pub use file::{Failed, FileId, Kind, MASKED_BITS, Mode, Stat};
 pub use file_system::FileSystem;
 pub use host::HostFiles;
 pub use inputs::is_input;
 pub use memory::MemFiles;
 pub use pair::{are_apart, make_pair};
 pub use parts::{is_part, part_name};
-pub use whole::{NEW_MODE, SECRET_MODE, make_new, make_secret, write_whole};
+pub use whole::{SECRET_MODE, make_new, make_secret, write_whole};

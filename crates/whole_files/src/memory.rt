@@ -2,7 +2,7 @@
 ghost use Rattle.std.specs.Prelude.{◌≡◌, ◌≢◌, ◌<◌, ◌≤◌, ℕ, List, length, IfSome, OnOk, OnErr, IsErr, vec_len, true, []};
 ghost use Rattle.whole_files.specs.NameTable.{ArePlaces, place_of};
 
-use crate::file::{Failed, FileId, Kind, Stat};
+use crate::file::{Failed, FileId, Kind, Mode, Stat};
 use crate::file_system::FileSystem;
 use crate::inode::{self, Inode};
 use crate::names::{self, Names};
@@ -26,6 +26,7 @@ pub struct MemFiles {
 impl MemFiles {
     ghost use Rattle.whole_files.specs.Files.{IsFresh, Moves, Node, Puts, Same};
     ghost use Rattle.std.specs.Option.{option_copied};
+    ghost use Rattle.whole_files.specs.declared.file.Mode.TheVariants.{Exact};
     ghost use Rattle.std.specs.Prelude.{option_map};
     ghost use Rattle.whole_files.specs.Inodes.{node_of};
     ghost use Rattle.whole_files.specs.Memory.{mem_files};
@@ -45,16 +46,16 @@ impl MemFiles {
         }
     }
 
-    /// Puts a file at a path, all of it on the disk, in place of what is there.
-    pub fn put(&mut self, path: &str, kind: Kind, mode: u32, bytes: &[u8]) -> Result<(), AllocError>
+    /// Puts a file with these bits for its mode at a path, all of it on the disk, in place of what is there.
+    pub fn put(&mut self, path: &str, kind: Kind, bits: u32, bytes: &[u8]) -> Result<(), AllocError>
         ensures ok { OnOk result ((node : Node) × Puts (mem_files self.old) path.now (Some node) (mem_files self.new)
-            × (node.kind ≡ kind) × (node.mode ≡ mode) × (node.bytes ≡ bytes.now)) }
+            × (node.kind ≡ kind) × (node.mode ≡ Exact bits) × (node.bytes ≡ bytes.now)) }
         ensures err { OnErr result (Same (mem_files self.old) (mem_files self.new)) }
     {
         let bytes = Vec::from_slice(self.alloc, bytes)?;
         let inode = Inode {
             kind,
-            mode,
+            mode: Mode::Exact(bits),
             synced: true,
             bytes,
         };
@@ -75,8 +76,8 @@ impl MemFiles {
         }
     }
 
-    /// The mode of what stands at a path.
-    pub fn mode(&self, path: &str) -> Option<u32>
+    /// The mode that what stands at a path was made with.
+    pub fn mode(&self, path: &str) -> Option<Mode>
         ensures { result ≡ option_map (λ node. node.mode) (mem_files self.now path.now) }
     {
         match self.find(path) {
@@ -183,7 +184,7 @@ impl FileSystem for MemFiles {
         let inode = &self.inodes[place];
         Ok(Some(Stat {
             kind: inode.kind,
-            mode: inode.mode,
+            mode: inode.mode.bits(),
             id: FileId {
                 device: 0,
                 number: place as u64,
@@ -191,7 +192,7 @@ impl FileSystem for MemFiles {
         }))
     }
 
-    fn create_new(&mut self, path: &str, mode: u32) -> Result<bool, Failed> {
+    fn create_new(&mut self, path: &str, mode: Mode) -> Result<bool, Failed> {
         self.script.next()?;
         if self.find(path).is_some() {
             return Ok(false);

@@ -8,8 +8,9 @@ ghost use Rattle.whole_files.specs.Files.{Files, Removes, Same};
 ghost use Rattle.whole_files.specs.Pair.{AreApart, IsPairing, Pairs, TakesBack};
 
 use crate::error::{WriteError, Written};
+use crate::file::Mode;
 use crate::file_system::FileSystem;
-use crate::whole::{NEW_MODE, SECRET_MODE, link_new, settle};
+use crate::whole::{SECRET_MODE, link_new, settle};
 
 /// Whether the paths of a secret and its part, and of a public file and its part, are four.
 pub fn are_apart(key_path: &str, key_part: &str, public_path: &str, public_part: &str) -> bool
@@ -86,7 +87,7 @@ pub fn make_pair<F: FileSystem>(
     ensures later { F.faults fs.old ≤ F.faults fs.new }
 {
     link_new(fs, key_path, key_part, SECRET_MODE, key)?;
-    match link_new(fs, public_path, public_part, NEW_MODE, public) {
+    match link_new(fs, public_path, public_part, Mode::Masked, public) {
         Ok(()) => Ok(settle_both(fs, key_path, public_path)),
         Err(error) => Err(take_back(fs, key_path, error)),
     }

@@ -1,5 +1,6 @@
 //! Names of files that are begun.
-ghost use Rattle.std.specs.Prelude.{◌≢◌, IfOk, string_bytes};
+ghost use Rattle.std.specs.Prelude.{◌≢◌, ◌↔◌, IfOk, IsTrue, string_bytes};
+ghost use Rattle.whole_files.specs.Parts.{IsPartName};
 
 use std::alloc::{AllocError, Global};
 
@@ -25,8 +26,10 @@ pub fn part_name(alloc: Global, path: &str, number: u64) -> Result<String, Alloc
 }
 
 /// Whether a name, without its folder, is one that [`part_name`] gives where no file has it yet: 16
-/// hexadecimal digits and `.part`.
-pub fn is_part(name: &str) -> bool {
+/// hexadecimal digits, of either case, and `.part`.
+pub fn is_part(name: &str) -> bool
+    ensures { IsTrue result ↔ IsPartName name.now }
+{
     match name.strip_suffix(END) {
         Some(digits) => digits.len() == DIGITS && digits.bytes().all(|b| b.is_ascii_hexdigit()),
         None => false,

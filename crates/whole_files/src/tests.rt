@@ -1,6 +1,6 @@
 //! Each call failing in turn, and everything stopping at each call.
 use crate::error::{WriteError, Written};
-use crate::file::{FileId, Kind};
+use crate::file::{FileId, Kind, Mode};
 use crate::file_system::FileSystem;
 use crate::inputs::is_input;
 use crate::memory::MemFiles;
@@ -53,14 +53,23 @@ fn a_file_is_written(rt: HostRuntime) -> Result<(), Fail> {
     assert!(rt; has(&files, "at", b"newer"));
     assert!(rt; files.bytes("part").is_none());
     assert!(rt; files.is_settled());
-    assert_eq!(rt; files.mode("at"), Some(0o640));
+    assert_eq!(rt; files.mode("at"), Some(Mode::Exact(0o640)));
     assert_eq!(rt;
         write_whole(&mut files, "new", "part", b"first"),
         Ok(Written::Settled)
     );
     assert!(rt; has(&files, "new", b"first"));
-    assert_eq!(rt; files.mode("new"), Some(0o666));
+    assert_eq!(rt; files.mode("new"), Some(Mode::Masked));
     assert_eq!(rt; files.count(), 3);
+    Ok(())
+}
+
+#[test]
+fn a_mode_is_kept_that_a_new_file_may_have_too(rt: HostRuntime) -> Result<(), Fail> {
+    let mut files = MemFiles::new(rt.alloc(), Vec::new(rt.alloc()), NEVER);
+    files.put("at", Kind::Regular, 0o666, b"old")?;
+    assert_eq!(rt; write(&mut files), Ok(Written::Settled));
+    assert_eq!(rt; files.mode("at"), Some(Mode::Exact(0o666)));
     Ok(())
 }
 
@@ -147,7 +156,7 @@ fn a_secret_is_made_once(rt: HostRuntime) -> Result<(), Fail> {
     assert_eq!(rt; made, Ok(Written::Settled));
     assert_eq!(rt; files.calls(), CALLS_OF_A_NEW_FILE + 1);
     assert!(rt; has(&files, "key", b"secret"));
-    assert_eq!(rt; files.mode("key"), Some(0o600));
+    assert_eq!(rt; files.mode("key"), Some(Mode::Exact(0o600)));
     files.put("link", Kind::Link, 0o777, b"nowhere")?;
     for path in ["key", "link", "other"] {
         let again = make_secret(&mut files, path, "part", b"another");
@@ -183,7 +192,7 @@ fn a_secret_that_is_begun_is_secret(rt: HostRuntime) -> Result<(), Fail> {
         let mut files = other_file(rt.alloc(), Vec::new(rt.alloc()), stop)?;
         let made = make_secret(&mut files, "key", "part", b"secret");
         assert_eq!(rt; made, Err(WriteError::Left), "{stop}");
-        assert_eq!(rt; files.mode("part"), Some(0o600), "{stop}");
+        assert_eq!(rt; files.mode("part"), Some(Mode::Exact(0o600)), "{stop}");
         assert!(rt; is_whole(&files, "key", b"secret"), "{stop}");
     }
     Ok(())
@@ -209,8 +218,8 @@ fn a_pair_is_made_or_nothing(rt: HostRuntime) -> Result<(), Fail> {
         }
         if made.is_ok() {
             assert_eq!(rt; files.count(), 3, "{call}");
-            assert_eq!(rt; files.mode("key"), Some(0o600), "{call}");
-            assert_eq!(rt; files.mode("pub"), Some(0o666), "{call}");
+            assert_eq!(rt; files.mode("key"), Some(Mode::Exact(0o600)), "{call}");
+            assert_eq!(rt; files.mode("pub"), Some(Mode::Masked), "{call}");
         } else if call != 4 && call != 9 {
             assert_eq!(rt; files.count(), 1, "{call}");
         }

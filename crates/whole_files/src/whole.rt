@@ -9,14 +9,11 @@ ghost use Rattle.whole_files.specs.Whole.{Fills, FindsMode, IsFilling, IsPlacing
 ghost use Rattle.whole_files.specs.Whole.{IsMaking, MakesNew, TakesAway, Writes};
 
 use crate::error::{WriteError, Written};
-use crate::file::{Failed, Kind};
+use crate::file::{Failed, Kind, Mode};
 use crate::file_system::FileSystem;
 
-/// The mode of a file that isn't there yet.
-pub const NEW_MODE: u32 = 0o666;
-
 /// The mode of a secret.
-pub const SECRET_MODE: u32 = 0o600;
+pub const SECRET_MODE: Mode = Mode::Exact(0o600);
 
 // Writes bytes at the end of a file, and brings them to the disk.
 fn fill<F: FileSystem>(fs: &mut F, part: &str, bytes: &[u8]) -> Result<(), Failed>
@@ -46,7 +43,7 @@ fn take_away<F: FileSystem>(fs: &mut F, part: &str) -> WriteError
 }
 
 // Makes a file where nothing stands, writes it and brings it to the disk, or takes it away again.
-fn place<F: FileSystem>(fs: &mut F, part: &str, mode: u32, bytes: &[u8]) -> Result<(), WriteError>
+fn place<F: FileSystem>(fs: &mut F, part: &str, mode: Mode, bytes: &[u8]) -> Result<(), WriteError>
     requires { IsTrue F.tells → (n : Files)
         → IsPlacing (F.files fs.old) part.now mode bytes.now n → F.permits n }
     ensures files { IsTrue F.tells
@@ -66,7 +63,7 @@ fn place<F: FileSystem>(fs: &mut F, part: &str, mode: u32, bytes: &[u8]) -> Resu
 }
 
 // The mode that a file is to have which is written at a path.
-fn mode_for<F: FileSystem>(fs: &mut F, path: &str) -> Result<u32, WriteError>
+fn mode_for<F: FileSystem>(fs: &mut F, path: &str) -> Result<Mode, WriteError>
     ensures mode { IsTrue F.tells → FindsMode (F.files fs.old) path.now result }
     ensures same { IsTrue F.tells → Same (F.files fs.old) (F.files fs.new) }
     ensures failed { IsErrOf result NothingLeft → RoseBy 1 (F.faults fs.old) (F.faults fs.new) }
@@ -75,10 +72,10 @@ fn mode_for<F: FileSystem>(fs: &mut F, path: &str) -> Result<u32, WriteError>
 {
     match fs.stat(path) {
         Err(_) => Err(WriteError::Failed),
-        Ok(None) => Ok(NEW_MODE),
+        Ok(None) => Ok(Mode::Masked),
         Ok(Some(stat)) => {
             if stat.kind == Kind::Regular {
-                Ok(stat.mode)
+                Ok(Mode::Exact(stat.mode))
             } else {
                 Err(WriteError::NotRegular)
             }
@@ -101,7 +98,7 @@ pub(crate) fn settle<F: FileSystem>(fs: &mut F, path: &str) -> Written
     }
 }
 
-/// Writes a file in place of a regular file, whose mode it takes, or of nothing. It is written
+/// Writes a file in place of a regular file, whose very mode it takes, or of nothing. It is written
 /// whole as `part` first, where nothing may stand, and brought to the disk; then it takes the place
 /// of what is at the path, and the folder is brought to the disk.
 pub fn write_whole<F: FileSystem>(
@@ -140,7 +137,7 @@ pub(crate) fn link_new<F: FileSystem>(
     fs: &mut F,
     path: &str,
     part: &str,
-    mode: u32,
+    mode: Mode,
     bytes: &[u8],
 ) -> Result<(), WriteError>
     requires apart { part.now ≢ path.now }
@@ -174,7 +171,7 @@ pub fn make_new<F: FileSystem>(
     fs: &mut F,
     path: &str,
     part: &str,
-    mode: u32,
+    mode: Mode,
     bytes: &[u8],
 ) -> Result<Written, WriteError>
     requires apart { part.now ≢ path.now }
