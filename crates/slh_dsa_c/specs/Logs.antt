@@ -3,11 +3,11 @@
 use Rattle.std.specs.Prelude.{ℕ, ◌+◌, ◌*◌, ◌/◌, ◌%◌, ◌==◌, List, [], length, nat_lt}
 use Rattle.std.specs.Prelude.{if◌then◌else◌, Option, None, Some}
 use Rattle.std.specs.Simd.{first_chunks}
-use Rattle.std.specs.Str.{is_utf8}
 use Rattle.slh_core.specs.Parameters.{Scheme}
 use Rattle.slh_dsa_c.specs.Status.{in_named_set}
 use Rattle.slh_dsa_c.specs.declared.logs.CHead.{CHead}
 use Rattle.slh_log.specs.Calls.{growth_refusal, open_refusal, presence_refusal}
+use Rattle.slh_log.specs.Reading.{text_of}
 use Rattle.slh_log.specs.declared.error.GrowthError.{GrowthError}
 use Rattle.slh_log.specs.declared.error.GrowthError.TheVariants as growth
 use Rattle.slh_log.specs.declared.error.OpenError.{OpenError}
@@ -47,11 +47,6 @@ number_of_presence (Some refusal) = presence_number refusal
 abbrev pub number_of_growth : Option GrowthError → ℕ
 number_of_growth None = 0
 number_of_growth (Some refusal) = growth_number refusal
-
--- Bytes as the text that they are. What is none stands for the empty text, which no log has as its
--- origin.
-abbrev pub text_of : List ℕ → List ℕ
-text_of bytes = if is_utf8 bytes then bytes else []
 
 -- why a checkpoint isn't opened by a verifying key's bytes of a set, which is seen as its name, with
 -- a buffer of so many bytes

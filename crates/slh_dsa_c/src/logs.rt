@@ -2,7 +2,7 @@
 ghost use Rattle.std.specs.Prelude.{◌≡◌, ◌≢◌, length, IfErr, IfOk, Some};
 ghost use Rattle.slh_dsa_c.specs.Logs.{growth_number, growth_status, log_open_number};
 ghost use Rattle.slh_dsa_c.specs.Logs.{log_open_status, open_number, presence_number};
-ghost use Rattle.slh_dsa_c.specs.Logs.{presence_status, text_of as spec_text_of};
+ghost use Rattle.slh_dsa_c.specs.Logs.{presence_status};
 ghost use Rattle.slh_dsa_c.specs.Status.{status_of};
 ghost use Rattle.slh_log.specs.Reading.{read_root, read_size};
 ghost use Rattle.slh_sets.specs.Sets.{name_of, scheme_for};
@@ -16,7 +16,7 @@ use slh_dsa::{
     ParameterSet, Sha2_128f, Sha2_128s, Sha2_192f, Sha2_192s, Sha2_256f, Sha2_256s, VerifyingKey,
 };
 use slh_log::{
-    Checkpoint, GrowthError, OpenError, PresenceError, check_growth, check_presence, open_in,
+    Checkpoint, GrowthError, OpenError, PresenceError, check_growth, check_presence, open_in, text_of,
 };
 use slh_sets::Set;
 
@@ -77,16 +77,6 @@ fn number_of_growth(error: GrowthError) -> u32
         GrowthError::Smaller => SMALLER,
         GrowthError::Length => LENGTH,
         GrowthError::Invalid => INVALID,
-    }
-}
-
-// Bytes as the text that they are, or the empty one, which is no log's origin.
-fn text_of(bytes: &[u8]) -> &str
-    ensures { result.now ≡ spec_text_of bytes.now }
-{
-    match str::from_utf8(bytes) {
-        Ok(text) => text,
-        Err(_) => "",
     }
 }
 

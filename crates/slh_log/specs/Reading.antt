@@ -4,7 +4,7 @@ use Rattle.std.specs.Prelude.{ℕ, ◌+◌, ◌^◌, ◌==◌, ◌&&◌, List, [
 use Rattle.std.specs.Prelude.{Bool, true, false, not, nat_le, decimal, Option, None, Some, is_some}
 use Rattle.std.specs.Prelude.{if◌then◌else◌}
 use Rattle.std.specs.Result.{result_ok}
-use Rattle.std.specs.Str.{bytes_eq}
+use Rattle.std.specs.Str.{bytes_eq, is_utf8}
 use Rattle.base64.specs.Engines.{standard}
 use Rattle.base64.specs.GeneralPurpose.{decode_of, encoded_size_of}
 use Rattle.line_serve.specs.Decimals.{decimal_value}
@@ -24,6 +24,11 @@ all_origin_bytes (b ∷ bytes) = is_origin_byte b && all_origin_bytes bytes
 abbrev pub is_origin : List ℕ → Bool
 is_origin origin =
     nat_le 1 (length origin) && nat_le (length origin) 255 && all_origin_bytes origin
+
+-- Bytes as the text that they are. What is none stands for the empty text, which no log has as its
+-- origin.
+abbrev pub text_of : List ℕ → List ℕ
+text_of bytes = if is_utf8 bytes then bytes else []
 
 -- a value where it passes
 abbrev pub some_if : {A : Type 0} → Bool → A → Option A

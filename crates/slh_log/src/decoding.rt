@@ -9,8 +9,9 @@ use line_serve::decimal_value;
 /// How many digits a number below 2^64 has at most.
 const MAX_DIGITS: usize = 20;
 
-/// The number that a line is, in decimal without leading zeros.
-pub(crate) fn size_of(line: &[u8]) -> Option<u64>
+/// The number below 2^64 that a line is, in decimal without leading zeros, as a checkpoint has its
+/// size (C2SP, tlog-checkpoint).
+pub fn decimal_size(line: &[u8]) -> Option<u64>
     ensures { result ≡ size_value line.now }
 {
     let size = decimal_value(line, MAX_DIGITS, u64::MAX)?;

@@ -3,7 +3,7 @@ ghost use Rattle.std.specs.Prelude.{◌≡◌, false, MatchOption};
 ghost use Rattle.slh_log.specs.Notes.{IsFront, IsNote};
 ghost use Rattle.slh_log.specs.Reading.{has_form};
 
-use crate::decoding::{decode_into, size_of};
+use crate::decoding::{decimal_size, decode_into};
 use crate::lines::{are_signatures, cut_line, cut_text};
 use merkle_tree::DIGEST_LEN;
 
@@ -41,7 +41,7 @@ fn read_front(bytes: &[u8]) -> Option<(&[u8], Checkpoint)>
     if origin.is_empty() {
         return None;
     }
-    let size = size_of(size)?;
+    let size = decimal_size(size)?;
     let mut root = [0u8; DIGEST_LEN];
     if !decode_into(symbols, &mut root) {
         return None;

@@ -1,6 +1,6 @@
 //! Origins of logs, and the ids of their keys.
 ghost use Rattle.std.specs.Prelude.{◌≡◌, ◌≤◌, length};
-ghost use Rattle.slh_log.specs.Reading.{is_origin as spec_is_origin};
+ghost use Rattle.slh_log.specs.Reading.{is_origin as spec_is_origin, text_of as spec_text_of};
 ghost use Rattle.slh_log.specs.Texts.{key_id as spec_key_id};
 
 use hmac_sha256::Hash;
@@ -29,6 +29,17 @@ pub(crate) fn is_origin(origin: &str) -> bool
         }
     }
     true
+}
+
+/// Bytes as the text that they are, or the empty one, which is no log's origin: so an origin that
+/// comes as bytes is refused where its text would be.
+pub fn text_of(bytes: &[u8]) -> &str
+    ensures { result.now ≡ spec_text_of bytes.now }
+{
+    match str::from_utf8(bytes) {
+        Ok(text) => text,
+        Err(_) => "",
+    }
 }
 
 /// The id of a key of a log with an origin: the first 4 bytes of a digest (C2SP, signed-note).

@@ -2,8 +2,8 @@ use Rattle.std.proofs.Common.{◌≡◌, List, ℕ, [], refl, inl, inr}
 use Rattle.std.specs.Str.{IsUtf8, is_utf8}
 use Rattle.std.proofs.lemmas.Bool.{cases_Bool}
 use Rattle.std.proofs.lemmas.Str.{IsUtf8-from_is_utf8, is_utf8-from_IsUtf8}
-use Rattle.slh_dsa_c.specs.Logs.{text_of}
-use Rattle.slh_dsa_c.proofs.logs.text_of.Goals as goal
+use Rattle.slh_log.specs.Reading.{text_of}
+use Rattle.slh_log.proofs.origin.text_of.Goals as goal
 
 is_text : (bytes : List ℕ) → IsUtf8 bytes → bytes ≡ text_of bytes
 is_text bytes is =
