@@ -8,7 +8,7 @@
 # crates.txt, and the toolchain's line. No file's time counts.
 
 # shellcheck disable=SC2034
-programs='slh slh_cli slh_batch_cli slh_chain_cli slh_manifest_cli slh_ring_cli'
+programs='slh slh_cli slh_batch_cli slh_chain_cli slh_manifest_cli slh_ring_cli slh_log_cli'
 
 # say TEXT: a message on standard error
 say() {

@@ -23,8 +23,10 @@ SLH_BATCH_PROGRAM=$(absolute "${SLH_BATCH_PROGRAM:-$examples/../slh_batch_cli}")
 SLH_CHAIN_PROGRAM=$(absolute "${SLH_CHAIN_PROGRAM:-$examples/../slh_chain_cli}")
 SLH_MANIFEST_PROGRAM=$(absolute "${SLH_MANIFEST_PROGRAM:-$examples/../slh_manifest_cli}")
 SLH_RING_PROGRAM=$(absolute "${SLH_RING_PROGRAM:-$examples/../slh_ring_cli}")
+SLH_LOG_PROGRAM=$(absolute "${SLH_LOG_PROGRAM:-$examples/../slh_log_cli}")
 SLH_C_LIBRARY=$(absolute "${SLH_C_LIBRARY:-}")
-export SLH SLH_PROGRAM SLH_BATCH_PROGRAM SLH_CHAIN_PROGRAM SLH_MANIFEST_PROGRAM SLH_RING_PROGRAM
+export SLH SLH_PROGRAM SLH_BATCH_PROGRAM SLH_CHAIN_PROGRAM SLH_MANIFEST_PROGRAM SLH_RING_PROGRAM \
+    SLH_LOG_PROGRAM
 PATH=$examples/bin:$PATH
 
 # The names of the parameter sets.
