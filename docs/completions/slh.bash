@@ -10,7 +10,7 @@ _slh() {
     case $previous in
     --set) words=$sets ;;
     --prehash) words='sha256 sha512' ;;
-    --context | --context-hex | --depth | --evidence | --name | --path) return ;;
+    --context | --context-hex | --depth | --evidence | --key-text | --name | --path) return ;;
     --*) ;;
     esac
     if [ -z "$words" ] && [ "$COMP_CWORD" -eq 1 ]; then
@@ -20,7 +20,7 @@ _slh() {
         case ${COMP_WORDS[1]} in
         batch) words='sign verify --help' ;;
         manifest) words='seal check --help' ;;
-        chain) words='delegate walk verify --help' ;;
+        chain) words='delegate walk show verify --help' ;;
         ring) words='master key record restore --help' ;;
         help) words='keygen public sign verify audit check inspect batch manifest chain ring' ;;
         esac
@@ -28,13 +28,14 @@ _slh() {
     if [ -z "$words" ]; then
         case "${COMP_WORDS[1]} ${COMP_WORDS[2]}" in
         'batch sign') words='--key --deterministic --help' ;;
-        'batch verify') words='--key --receipt --help' ;;
+        'batch verify') words='--key --key-text --receipt --help' ;;
         'manifest seal') words='--key --deterministic --output --help' ;;
-        'manifest check') words='--key --manifest --help' ;;
+        'manifest check') words='--key --key-text --chain --manifest --strict --help' ;;
         'chain delegate')
             words='--key --subject --name --depth --chain --deterministic --output --help' ;;
-        'chain walk') words='--key --chain --output --help' ;;
-        'chain verify') words="--key --chain --signature $mode" ;;
+        'chain walk') words='--key --key-text --chain --output --help' ;;
+        'chain show') words='--key --key-text --chain --help' ;;
+        'chain verify') words="--key --key-text --chain --signature $mode" ;;
         'ring master') words='--help' ;;
         'ring key') words='--set --master --path --help' ;;
         'ring record') words='--set --master --output --help' ;;
@@ -42,7 +43,7 @@ _slh() {
         'keygen '*) words='--set --help' ;;
         'public '*) words='--key --output --help' ;;
         'sign '*) words="--key --deterministic --audit --output $mode" ;;
-        'verify '*) words="--key --signature $mode" ;;
+        'verify '*) words="--key --key-text --signature $mode" ;;
         'audit '*) words="--key --signature $mode" ;;
         'check '*) words="--key --signature --evidence $mode" ;;
         'inspect '*) words='--help' ;;

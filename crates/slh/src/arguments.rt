@@ -9,6 +9,9 @@ use slh_run::{ByteString, Mode};
 use slh_sets::Set;
 use std::random::RandomSource;
 
+/// What is put behind the name of a file for the name of its signature.
+pub const SIGNATURE_END: &str = ".sig";
+
 /// The most bytes of a context.
 const MAX_CONTEXT: usize = 255;
 
@@ -128,9 +131,18 @@ pub fn key_of_kind<'a>(rt: &HostRuntime, kind: Kind, path: &'a str) -> Result<Ke
     }
 }
 
-/// The verifying key of `--key`.
+/// The verifying key of `--key` or `--key-text`.
 pub fn verifying_key<'a>(rt: &HostRuntime, words: &ArgMatches<'a>) -> Result<Key, Failure<'a>> {
-    key_of_kind(rt, Kind::Verifying, required(words, "key")?)
+    let Some(text) = words.get_str("key-text") else {
+        return match words.get_str("key") {
+            Some(path) => key_of_kind(rt, Kind::Verifying, path),
+            None => Err(Failure::Told("--key", "it is missing, and so is --key-text")),
+        };
+    };
+    match read_key(rt.alloc(), Kind::Verifying, text.as_bytes()) {
+        Ok(key) => Ok(key),
+        Err(error) => Err(Failure::Key("--key-text", error)),
+    }
 }
 
 /// The signing key of `--key`, whose root is that of its own seeds.
@@ -143,19 +155,30 @@ pub fn signing_key<'a>(rt: &HostRuntime, words: &ArgMatches<'a>) -> Result<Key, 
     }
 }
 
-/// The signature of `--signature`, of the length that the set's have.
+// The file of the signature: that of `--signature`, or FILE.sig, as a path and an ending.
+fn signature_name<'a>(words: &ArgMatches<'a>) -> Result<(&'a str, &'static str), Failure<'a>> {
+    if let Some(path) = words.get_str("signature") {
+        return Ok((path, ""));
+    }
+    match required(words, "file")? {
+        files::STANDARD => Err(Failure::Told("--signature", "standard input has none beside it")),
+        path => Ok((path, SIGNATURE_END)),
+    }
+}
+
+/// The signature of `--signature`, or of FILE.sig, of the length that the set's have.
 pub fn signature<'a>(
     rt: &HostRuntime,
     words: &ArgMatches<'a>,
     set: Set,
 ) -> Result<ByteString, Failure<'a>> {
-    let path = required(words, "signature")?;
-    let file = files::read_limited(rt, path)?;
+    let (path, end) = signature_name(words)?;
+    let file = files::read_beside(rt, path, end)?;
     let signature = read_signature(rt.alloc(), set, file)?;
     if signature.len() == set.signature_len() {
         Ok(signature)
     } else {
-        Err(Failure::Signature(path, set))
+        Err(Failure::Signature(path, end, set))
     }
 }
 

@@ -5,15 +5,18 @@ use crate::arguments::{
 };
 use crate::failure::Failure;
 use crate::keys::key_file;
+use crate::shown::shown;
 use crate::signatures::tell_verdict;
 use crate::{files, outputs};
 use clap::ArgMatches;
-use slh_chain::{ChainError, LinkError, delegate as link_of, walk as end_of};
+use line_serve::{push_hex, push_number};
+use slh_chain::{Chain, ChainError, LinkError, LinkRef, delegate as link_of, walk as end_of};
+use slh_dsa::ParameterSet;
 use slh_files::{Key, Kind, Outcome, digits_of};
 use slh_line::{signing_key as signing_key_of, verifying_key as verifying_key_of};
 use slh_run::ByteString;
 use slh_sets::{OnSet, Set, SetSuite};
-use std::alloc::Global;
+use std::alloc::{AllocError, Global};
 
 // A link that is to be made.
 #[derive(Drop)]
@@ -151,6 +154,12 @@ enum WalkError {
     Memory,
 }
 
+impl From<AllocError> for WalkError {
+    fn from(_: AllocError) -> Self {
+        WalkError::Memory
+    }
+}
+
 impl<'s> OnSet for Walking<'s> {
     ghost use Rattle.std.specs.Prelude.{⊤};
 
@@ -166,13 +175,8 @@ impl<'s> OnSet for Walking<'s> {
             Ok(end) => end,
             Err(error) => return Err(WalkError::Link(error)),
         };
-        let Ok(bytes) = end.key.to_vec(self.alloc) else {
-            return Err(WalkError::Memory);
-        };
-        match ByteString::from_slice(self.alloc, &bytes) {
-            Ok(bytes) => Ok(bytes),
-            Err(_) => Err(WalkError::Memory),
-        }
+        let bytes = end.key.to_vec(self.alloc)?;
+        Ok(ByteString::from_slice(self.alloc, &bytes)?)
     }
 }
 
@@ -220,21 +224,94 @@ pub fn walk<'a>(rt: &HostRuntime, words: &ArgMatches<'a>) -> Result<Outcome, Fai
     Ok(Outcome::Done)
 }
 
-/// Tells whether a signature of a file is one of the key at the end of a chain. Where a link isn't
-/// good, none is, and which link that is goes to standard error.
-pub fn verify<'a>(rt: &HostRuntime, words: &ArgMatches<'a>) -> Result<Outcome, Failure<'a>> {
+// The links of a chain, a line each.
+#[derive(Drop)]
+struct Showing<'s>(Walking<'s>);
+
+impl<'s> OnSet for Showing<'s> {
+    ghost use Rattle.std.specs.Prelude.{⊤};
+
+    type Out = Result<ByteString, WalkError>;
+
+    ghost gives = { λ _ _ _ _. ⊤ };
+
+    fn on<P: SetSuite>(self) -> Result<ByteString, WalkError> {
+        let Showing(Walking { alloc, root, chain }) = self;
+        let Ok(root) = verifying_key_of::<P>(root) else {
+            return Err(WalkError::Link(ChainError::Form(0)));
+        };
+        let chain = match Chain::open(&root, chain) {
+            Ok(chain) => chain,
+            Err(error) => return Err(WalkError::Link(error)),
+        };
+        let mut text = ByteString::new(alloc);
+        for link in chain.links() {
+            push_link(alloc, &mut text, &link)?;
+        }
+        Ok(text)
+    }
+}
+
+// Puts a line for a link at the end: its depth, its key and its name.
+fn push_link<P: ParameterSet>(
+    alloc: Global,
+    text: &mut ByteString,
+    link: &LinkRef<'_, P>,
+) -> Result<(), AllocError> {
+    push_number(text, u64::from(link.depth))?;
+    text.push_slice(b" ")?;
+    push_hex(text, &link.subject.to_vec(alloc)?)?;
+    text.push_slice(b" ")?;
+    text.push_slice(shown(alloc, link.name)?.as_bytes())?;
+    text.push_slice(b"\n")
+}
+
+/// Writes a line for each link of a chain.
+pub fn show<'a>(rt: &HostRuntime, words: &ArgMatches<'a>) -> Result<Outcome, Failure<'a>> {
     check_inputs(words)?;
-    let context = context(rt, words)?;
+    let root = verifying_key(rt, words)?;
+    let path = required(words, "chain")?;
+    let chain = chain(rt, path)?;
+    let walking = Walking {
+        alloc: rt.alloc(),
+        root: root.bytes.as_slice(),
+        chain: chain.as_slice(),
+    };
+    match root.set.run(Showing(walking)) {
+        Ok(text) => {
+            outputs::put(rt, files::STANDARD, text.as_slice())?;
+            Ok(Outcome::Done)
+        }
+        Err(error) => Err(walk_failure(path, error)),
+    }
+}
+
+/// The key at the end of `--chain`, or that of `--key` where there is no chain. Where a link isn't
+/// good there is none, and which link that is goes to standard error.
+pub fn acting_key<'a>(
+    rt: &HostRuntime,
+    words: &ArgMatches<'a>,
+) -> Result<Option<Key>, Failure<'a>> {
+    if words.get_str("chain").is_none() {
+        return Ok(Some(verifying_key(rt, words)?));
+    }
     match last_key(rt, words) {
-        Ok(key) => tell_verdict(rt, words, &key, context.as_slice()),
+        Ok(key) => Ok(Some(key)),
         Err(Failure::BadLink(path, text, i)) => {
-            tell_bad_link(rt, Failure::BadLink(path, text, i))
+            let failure = Failure::BadLink(path, text, i);
+            let _ = eprintln!(rt; "slh: {failure}");
+            Ok(None)
         }
         Err(failure) => Err(failure),
     }
 }
 
-fn tell_bad_link(rt: &HostRuntime, failure: Failure<'_>) -> Result<Outcome, Failure<'static>> {
-    let _ = eprintln!(rt; "slh: {failure}");
-    tell(rt, Outcome::Invalid)
+/// Tells whether a signature of a file is one of the key at the end of a chain.
+pub fn verify<'a>(rt: &HostRuntime, words: &ArgMatches<'a>) -> Result<Outcome, Failure<'a>> {
+    check_inputs(words)?;
+    let context = context(rt, words)?;
+    match acting_key(rt, words)? {
+        Some(key) => tell_verdict(rt, words, &key, context.as_slice()),
+        None => tell(rt, Outcome::Invalid),
+    }
 }

@@ -67,6 +67,7 @@ fn chain<'a>(rt: &HostRuntime, matches: &ArgMatches<'a>) -> Result<Outcome, Fail
     match matches.subcommand() {
         Some(("delegate", words)) => chains::delegate(rt, words),
         Some(("walk", words)) => chains::walk(rt, words),
+        Some(("show", words)) => chains::show(rt, words),
         Some(("verify", words)) => chains::verify(rt, words),
         _ => Err(Failure::Command),
     }

@@ -29,7 +29,7 @@ pub enum Failure<'a> {
     TwoInputs,
     /// A file can't be read or written.
     File(&'a str, io::Error),
-    /// A file of this name and this ending can't be made.
+    /// A file of this name and this ending can't be made or read.
     NewFile(&'a str, &'static str, io::Error),
     /// What is wrong with a file of this name and this ending.
     NewTold(&'a str, &'static str, &'static str),
@@ -39,8 +39,8 @@ pub enum Failure<'a> {
     Unsettled(&'a str, &'static str, io::Error),
     /// A file is no such key.
     Key(&'a str, KeyFileError),
-    /// A file is no signature of this set.
-    Signature(&'a str, Set),
+    /// A file of this name and this ending is no signature of this set.
+    Signature(&'a str, &'static str, Set),
     /// A file is neither a key nor a signature.
     Unknown(&'a str),
     /// The context is too long.
@@ -96,12 +96,12 @@ impl fmt::Display for Failure<'_> {
                 let text = key_text(*error);
                 write!(f, "{path}: {text}")
             }
-            Failure::Signature(path, set) => {
+            Failure::Signature(path, end, set) => {
                 let name = set.name();
                 let len = set.signature_len();
                 write!(
                     f,
-                    "{path}: not a signature of {name}, which has {len} bytes"
+                    "{path}{end}: not a signature of {name}, which has {len} bytes"
                 )
             }
             Failure::Unknown(path) => write!(f, "{path}: neither a key nor a signature"),

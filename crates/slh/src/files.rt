@@ -97,17 +97,27 @@ pub fn read<'a>(rt: &HostRuntime, path: &'a str) -> Result<ByteString, Failure<'
 
 /// As [`read`], of an input that has at most `MOST` bytes.
 pub fn read_limited<'a>(rt: &HostRuntime, path: &'a str) -> Result<ByteString, Failure<'a>> {
-    let read = if path == STANDARD {
+    read_beside(rt, path, "")
+}
+
+/// As [`read_limited`], the file of a path and an ending. Standard input has no ending.
+pub fn read_beside<'a>(
+    rt: &HostRuntime,
+    path: &'a str,
+    end: &'static str,
+) -> Result<ByteString, Failure<'a>> {
+    let read = if path == STANDARD && end.is_empty() {
         gather(rt.alloc(), &mut rt.reader().take(MOST + 1))
     } else {
-        read_front(rt, path, MOST + 1)
+        let name = format!(in rt.alloc(); "{path}{end}")?;
+        read_front(rt, name.as_str(), MOST + 1)
     };
     match read {
         Ok(bytes) if bytes.len() as u64 > MOST => {
-            Err(Failure::Told(path, "more than 2^24 bytes, which no such file has"))
+            Err(Failure::NewTold(path, end, "more than 2^24 bytes, which no such file has"))
         }
         Ok(bytes) => Ok(bytes),
-        Err(error) => Err(Failure::File(path, error)),
+        Err(error) => Err(Failure::NewFile(path, end, error)),
     }
 }
 

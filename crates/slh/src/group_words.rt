@@ -1,7 +1,7 @@
 //! The words of the commands for batches, manifests, chains and rings.
 use crate::words::{
-    CONTEXT, CONTEXT_HEX, DETERMINISTIC, FILE, Group, Kind, NAME, OUTPUT, PREHASH, SET, SIGNATURE,
-    SIGNING_KEY, Subcommand, VERIFYING_KEY, Word,
+    CONTEXT, CONTEXT_HEX, DETERMINISTIC, FILE, Group, KEY_TEXT, Kind, NAME, OUTPUT, PREHASH, SET,
+    SIGNATURE, SIGNING_KEY, Subcommand, VERIFYING_KEY, Word,
 };
 
 /// The commands that have commands below them.
@@ -26,7 +26,7 @@ fn batch() -> Group {
                 about: "Verifies the receipt of a file: accepted (0) or invalid (1)",
                 example: "Example:\n    \
                           slh batch verify --key release.pub --receipt a.txt.receipt a.txt",
-                words: &[VERIFYING_KEY, RECEIPT, FILE],
+                words: &[VERIFYING_KEY, KEY_TEXT, RECEIPT, FILE],
             },
         ],
     }
@@ -48,10 +48,10 @@ fn manifest() -> Group {
             Subcommand {
                 name: "check",
                 about: "Tells whether a folder has the files of a manifest: accepted (0), or \
-                        which is missing or differs (1)",
+                        which is missing, differs or is unnamed (1)",
                 example: "Example:\n    \
                           slh manifest check --key release.pub --manifest folder.manifest folder",
-                words: &[VERIFYING_KEY, MANIFEST_FILE, FOLDER],
+                words: &[VERIFYING_KEY, KEY_TEXT, ROOT_CHAIN, MANIFEST_FILE, STRICT, FOLDER],
             },
         ],
     }
@@ -83,16 +83,23 @@ fn chain() -> Group {
                 name: "walk",
                 about: "Writes the key at the end of a chain",
                 example: "Example:\n    slh chain walk --key root.pub --chain release.chain",
-                words: &[ROOT, CHAIN_FILE, OUTPUT],
+                words: &[ROOT, KEY_TEXT, CHAIN_FILE, OUTPUT],
+            },
+            Subcommand {
+                name: "show",
+                about: "Writes a line for each link of a chain: its depth, its key and its name",
+                example: "Example:\n    slh chain show --key root.pub --chain release.chain",
+                words: &[ROOT, KEY_TEXT, CHAIN_FILE],
             },
             Subcommand {
                 name: "verify",
                 about: "Verifies a file under the key at the end of a chain: accepted (0) or \
                         invalid (1)",
-                example: "Example:\n    slh chain verify --key root.pub --chain release.chain \
-                          --signature notes.txt.sig notes.txt",
+                example: "Example:\n    \
+                          slh chain verify --key root.pub --chain release.chain notes.txt",
                 words: &[
                     ROOT,
+                    KEY_TEXT,
                     CHAIN_FILE,
                     SIGNATURE,
                     CONTEXT,
@@ -213,6 +220,20 @@ const CHAIN_FILE: Word = Word {
     help: "The chain from the root key",
 };
 
+const ROOT_CHAIN: Word = Word {
+    kind: Kind::Optional,
+    name: "chain",
+    value: "CHAIN",
+    help: "A chain from that key to the one that sealed",
+};
+
+const STRICT: Word = Word {
+    kind: Kind::Flag,
+    name: "strict",
+    value: "",
+    help: "Refuses a file below the folder that the manifest doesn't name",
+};
+
 const CHAIN_OUTPUT: Word = Word {
     kind: Kind::Required,
     name: "output",
@@ -221,7 +242,7 @@ const CHAIN_OUTPUT: Word = Word {
 };
 
 const ROOT: Word = Word {
-    kind: Kind::Required,
+    kind: Kind::Key,
     name: "key",
     value: "ROOT.pub",
     help: "The root's verifying key",

@@ -5,6 +5,10 @@ use crate::{files, outputs};
 use clap::ArgMatches;
 use slh_files::{Key, Kind, Outcome, encode_key, made_key, verifying_key};
 use slh_run::ByteString;
+use slh_sets::Set;
+
+// The set of a new key where no other one is named.
+const DEFAULT_SET: Set = Set::Sha2_128s;
 
 /// The text of a key file. A key that gives none is told of under a name.
 pub fn key_file<'a>(
@@ -22,12 +26,22 @@ pub fn key_file<'a>(
 /// Makes a key of random bytes: NAME.key and NAME.pub. Where one can't be made neither is left.
 pub fn keygen<'a>(rt: &HostRuntime, words: &ArgMatches<'a>) -> Result<Outcome, Failure<'a>> {
     let name = required(words, "name")?;
-    let set = set_of(words)?;
+    let set = new_set(rt, words)?;
     let key = match made_key(rt.alloc(), set, &random::<96>(rt)?) {
         Ok(key) => key,
         Err(error) => return Err(Failure::Refused(name, error)),
     };
     write_pair(rt, name, &key)
+}
+
+// The set of `--set`, or the one that is told of.
+fn new_set(rt: &HostRuntime, words: &ArgMatches<'_>) -> Result<Set, Failure<'static>> {
+    if words.get_str("set").is_some() {
+        return set_of(words);
+    }
+    let name = DEFAULT_SET.name();
+    let _ = eprintln!(rt; "slh: a key of {name}; --set takes another");
+    Ok(DEFAULT_SET)
 }
 
 /// Writes the files of a pair, NAME.key and NAME.pub, neither of which may be there.

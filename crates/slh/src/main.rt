@@ -17,6 +17,7 @@ mod manifests;
 mod outputs;
 mod rings;
 mod secrets;
+mod shown;
 mod signatures;
 mod words;
 

@@ -1,9 +1,11 @@
 //! `slh manifest`: one signature for the files of a folder.
 use crate::arguments::{
-    Randomness, check_inputs, check_output, required, signing_key, tell, verifying_key,
+    Randomness, check_inputs, check_output, required, signing_key, tell,
 };
+use crate::chains::acting_key;
 use crate::failure::Failure;
-use crate::folder::{Folder, names_below};
+use crate::folder::{Folder, Found, names_below};
+use crate::shown::shown;
 use crate::{files, outputs};
 use clap::ArgMatches;
 use slh_dsa::{ParameterSet, VerifyingKey};
@@ -12,7 +14,7 @@ use slh_line::{signing_key as signing_key_of, verifying_key as verifying_key_of}
 use slh_manifest::{BuildError, Builder, CheckError, MAX_ENTRIES, Manifest};
 use slh_sets::{OnSet, SetSuite};
 use std::alloc::{AllocError, Global};
-use std::{fs, io, str};
+use std::{fs, io};
 use whole_files::is_part;
 
 const UNREADABLE: &str = "it can't be read";
@@ -72,20 +74,29 @@ fn folder_path<'a>(rt: &HostRuntime, words: &ArgMatches<'a>) -> Result<&'a str, 
     }
 }
 
+// The names of what is to be found below a folder.
+fn found_below<'a>(
+    rt: &HostRuntime,
+    path: &'a str,
+    found: Found,
+) -> Result<Vec<String>, Failure<'a>> {
+    match names_below(rt, path, found) {
+        Ok(names) => Ok(names),
+        Err(walk) if walk.below.is_empty() => Err(Failure::File(path, walk.error)),
+        Err(walk) => {
+            let below = shown(rt.alloc(), walk.below.as_bytes())?;
+            Err(Failure::EntryFile(path, below, walk.error))
+        }
+    }
+}
+
 // The names of the files below a folder, none of which is the output or was begun by another run.
 fn names_for<'a>(
     rt: &HostRuntime,
     path: &'a str,
     output: &'a str,
 ) -> Result<Vec<String>, Failure<'a>> {
-    let names = match names_below(rt, path) {
-        Ok(names) => names,
-        Err(walk) if walk.below.is_empty() => return Err(Failure::File(path, walk.error)),
-        Err(walk) => {
-            let below = shown(rt.alloc(), walk.below.as_bytes())?;
-            return Err(Failure::EntryFile(path, below, walk.error));
-        }
-    };
+    let names = found_below(rt, path, Found::Regular)?;
     if names.len() > MAX_ENTRIES {
         return Err(Failure::Told(path, build_text(BuildError::Full)));
     }
@@ -198,12 +209,13 @@ fn entries_below<'a>(
     entries_of(rt, path, &names)
 }
 
-// A manifest over a folder.
+// A manifest over a folder, and what stands below that.
 #[derive(Drop)]
 struct Checking<'s> {
     key: &'s [u8],
     manifest: &'s [u8],
     folder: Folder<'s>,
+    others: &'s [String],
 }
 
 impl<'s> OnSet for Checking<'s> {
@@ -218,51 +230,107 @@ impl<'s> OnSet for Checking<'s> {
             key,
             manifest,
             mut folder,
+            others,
         } = self;
-        let found = match verifying_key_of::<P>(key) {
-            Ok(key) => checked_over(&key, manifest, &mut folder),
-            Err(_) => (Err(CheckError::Form), NO_NAME),
+        let finding = match verifying_key_of::<P>(key) {
+            Ok(key) => checked_over(&key, manifest, &mut folder, others),
+            Err(_) => Finding::Refused(CheckError::Form, NO_NAME),
         };
-        (found, folder)
+        (finding, folder)
     }
 }
 
-// What is answered of a manifest over a folder, and where it speaks of an entry, the entry's name.
-type Finding<'m> = (Result<(), CheckError>, &'m [u8]);
+// What is answered of a manifest over a folder.
+#[derive(Drop)]
+enum Finding<'m> {
+    Accepted,
+    // Why not, and where that speaks of an entry, the entry's name.
+    Refused(CheckError, &'m [u8]),
+    // All is as the manifest says, and this stands below the folder too.
+    Unnamed(&'m [u8]),
+}
 
 fn checked_over<'m, P: ParameterSet>(
     key: &VerifyingKey<P>,
     manifest: &'m [u8],
     folder: &mut Folder<'_>,
+    others: &'m [String],
 ) -> Finding<'m> {
     let manifest = match Manifest::open(key, manifest) {
         Ok(manifest) => manifest,
-        Err(error) => return (Err(error), NO_NAME),
+        Err(error) => return Finding::Refused(error, NO_NAME),
     };
-    let checked = manifest.check(folder);
-    let entry = match checked {
-        Err(CheckError::Missing(i)) | Err(CheckError::Differs(i)) => manifest.entry(i as usize),
+    let Err(error) = manifest.check(folder) else {
+        return unnamed_in(&manifest, others);
+    };
+    let entry = match error {
+        CheckError::Missing(i) | CheckError::Differs(i) => manifest.entry(i as usize),
         _ => None,
     };
     match entry {
-        Some(entry) => (checked, entry.name),
-        None => (checked, NO_NAME),
+        Some(entry) => Finding::Refused(error, entry.name),
+        None => Finding::Refused(error, NO_NAME),
     }
+}
+
+// The first of some names that a manifest hasn't.
+fn unnamed_in<'m>(manifest: &Manifest<'m>, others: &'m [String]) -> Finding<'m> {
+    for name in others {
+        if manifest.find(name.as_bytes()).is_none() {
+            return Finding::Unnamed(name.as_bytes());
+        }
+    }
+    Finding::Accepted
+}
+
+// What stands below a folder and is no input of the command, where the words ask for that.
+fn others_below<'a>(
+    rt: &HostRuntime,
+    words: &ArgMatches<'a>,
+    path: &'a str,
+) -> Result<Vec<String>, Failure<'a>> {
+    let mut others = Vec::new(rt.alloc());
+    if !words.get_flag("strict") {
+        return Ok(others);
+    }
+    for name in found_below(rt, path, Found::All)? {
+        let below = format!(in rt.alloc(); "{path}/{name}")?;
+        if !is_named(rt, words, below.as_str()) {
+            others.push(name).map_err(AllocError::from)?;
+        }
+    }
+    Ok(others)
+}
+
+// Whether the words name a file as the manifest, the chain or the key.
+fn is_named(rt: &HostRuntime, words: &ArgMatches<'_>, path: &str) -> bool {
+    for name in ["manifest", "chain", "key"] {
+        if let Some(input) = words.get_str(name)
+            && files::are_one(rt, input, path)
+        {
+            return true;
+        }
+    }
+    false
 }
 
 /// Tells whether a folder has the files of a manifest.
 pub fn check<'a>(rt: &HostRuntime, words: &ArgMatches<'a>) -> Result<Outcome, Failure<'a>> {
     check_inputs(words)?;
     let below = folder_path(rt, words)?;
-    let key = verifying_key(rt, words)?;
+    let Some(key) = acting_key(rt, words)? else {
+        return tell(rt, Outcome::Invalid);
+    };
     let path = required(words, "manifest")?;
     let manifest = files::read_limited(rt, path)?;
-    let (found, folder) = key.set.run(Checking {
+    let others = others_below(rt, words, below)?;
+    let (finding, folder) = key.set.run(Checking {
         key: key.bytes.as_slice(),
         manifest: manifest.as_slice(),
         folder: Folder::new(rt, below),
+        others: &others,
     });
-    tell_checked(rt, below, path, found, folder)
+    tell_checked(rt, below, path, finding, folder)
 }
 
 // Tells what came of a check of the manifest at a path over a folder.
@@ -270,16 +338,20 @@ fn tell_checked<'a>(
     rt: &HostRuntime,
     below: &'a str,
     path: &'a str,
-    (checked, name): Finding<'_>,
+    finding: Finding<'_>,
     folder: Folder<'_>,
 ) -> Result<Outcome, Failure<'a>> {
-    match checked {
-        Ok(()) => tell(rt, Outcome::Accepted),
-        Err(CheckError::Invalid) => tell(rt, Outcome::Invalid),
-        Err(CheckError::Missing(_)) => tell_name(rt, Outcome::Missing, name),
-        Err(CheckError::Differs(_)) => tell_name(rt, Outcome::Differs, name),
-        Err(CheckError::Form) => Err(Failure::Told(path, "not a manifest of the key's set")),
-        Err(CheckError::Fault) => Err(fault_failure(rt.alloc(), below, folder)?),
+    let (error, name) = match finding {
+        Finding::Accepted => return tell(rt, Outcome::Accepted),
+        Finding::Unnamed(name) => return tell_name(rt, Outcome::Unnamed, name),
+        Finding::Refused(error, name) => (error, name),
+    };
+    match error {
+        CheckError::Invalid => tell(rt, Outcome::Invalid),
+        CheckError::Missing(_) => tell_name(rt, Outcome::Missing, name),
+        CheckError::Differs(_) => tell_name(rt, Outcome::Differs, name),
+        CheckError::Form => Err(Failure::Told(path, "not a manifest of the key's set")),
+        CheckError::Fault => Err(fault_failure(rt.alloc(), below, folder)?),
     }
 }
 
@@ -304,24 +376,4 @@ fn tell_name(rt: &HostRuntime, outcome: Outcome, name: &[u8]) -> Result<Outcome,
         Ok(()) => Ok(outcome),
         Err(error) => Err(Failure::Output(error)),
     }
-}
-
-// A name as it is printed: UTF-8 without control characters as it stands; of any other name what
-// isn't graphic ASCII is shown as `?`.
-fn shown(alloc: Global, name: &[u8]) -> Result<String, AllocError> {
-    if let Ok(text) = str::from_utf8(name)
-        && !text.chars().any(|c| c.is_control())
-    {
-        return text.to_owned(alloc);
-    }
-    let mut shown = String::new(alloc);
-    for byte in name {
-        let c = if byte.is_ascii_graphic() || *byte == b' ' {
-            char::from(*byte)
-        } else {
-            '?'
-        };
-        shown.push(c)?;
-    }
-    Ok(shown)
 }

@@ -1,7 +1,7 @@
 //! `slh sign` and `slh verify`.
 use crate::arguments::{
-    Randomness, check_inputs, check_output, context, message, mode, required, signature,
-    signing_key, tell, verifying_key,
+    Randomness, SIGNATURE_END, check_inputs, check_output, context, message, mode, required,
+    signature, signing_key, tell, verifying_key,
 };
 use crate::failure::Failure;
 use crate::files::{self, FromStart, Reader};
@@ -11,9 +11,6 @@ use slh_files::{Key, Message, Outcome, SignError};
 use slh_readers::{ReadError, sign_digest, sign_twice};
 use slh_run::{ByteString, Mode};
 use std::fs::File;
-
-// What is put behind the name of a file for the name of its signature.
-const SIGNATURE_END: &str = ".sig";
 
 /// Signs a file. The signature goes to `--output`, else to FILE.sig, or from standard input to
 /// standard output.

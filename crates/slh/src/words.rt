@@ -6,7 +6,7 @@ use slh_sets::Set;
 use std::alloc::{AllocError, Global};
 
 /// What `--version` prints: the version, and the logic of the toolchain that proved the program.
-const VERSION: &str = "0.13.0 (logic dac8208d650f15bf)";
+const VERSION: &str = "0.14.0 (logic dac8208d650f15bf)";
 
 const HASHES: [&str; 2] = ["sha256", "sha512"];
 
@@ -51,6 +51,10 @@ pub enum Kind {
     Required,
     /// An option, the name of a set.
     Set,
+    /// An option that may be left out, the name of a set.
+    OptionalSet,
+    /// An option that may be left out, and does not stand with `--key-text`.
+    Key,
     /// One word, which is not empty.
     Operand,
     /// One word or more.
@@ -64,6 +68,13 @@ pub const SET: Word = Word {
     help: "The parameter set",
 };
 
+const KEYGEN_SET: Word = Word {
+    kind: Kind::OptionalSet,
+    name: "set",
+    value: "SET",
+    help: "The parameter set; SLH-DSA-SHA2-128s if it is left out",
+};
+
 pub const SIGNING_KEY: Word = Word {
     kind: Kind::Required,
     name: "key",
@@ -72,17 +83,24 @@ pub const SIGNING_KEY: Word = Word {
 };
 
 pub const VERIFYING_KEY: Word = Word {
-    kind: Kind::Required,
+    kind: Kind::Key,
     name: "key",
     value: "NAME.pub",
     help: "The verifying key",
 };
 
+pub const KEY_TEXT: Word = Word {
+    kind: Kind::Optional,
+    name: "key-text",
+    value: "TEXT",
+    help: "The verifying key itself, as 'SET HEX'",
+};
+
 pub const SIGNATURE: Word = Word {
-    kind: Kind::Required,
+    kind: Kind::Optional,
     name: "signature",
     value: "FILE.sig",
-    help: "The signature",
+    help: "The signature; FILE.sig if it is left out",
 };
 
 pub const CONTEXT: Word = Word {
@@ -162,7 +180,7 @@ fn subcommands() -> &'static [Subcommand] {
             name: "keygen",
             about: "Makes a key of random bytes: NAME.key, which is secret, and NAME.pub",
             example: "Example:\n    slh keygen --set SLH-DSA-SHA2-128f release",
-            words: &[SET, NAME],
+            words: &[KEYGEN_SET, NAME],
         },
         Subcommand {
             name: "public",
@@ -188,10 +206,10 @@ fn subcommands() -> &'static [Subcommand] {
         Subcommand {
             name: "verify",
             about: "Verifies a signature of a file: accepted (0) or invalid (1)",
-            example: "Example:\n    \
-                      slh verify --key release.pub --signature notes.txt.sig notes.txt",
+            example: "Example:\n    slh verify --key release.pub notes.txt",
             words: &[
                 VERIFYING_KEY,
+                KEY_TEXT,
                 SIGNATURE,
                 CONTEXT,
                 CONTEXT_HEX,
@@ -243,9 +261,9 @@ fn root<'a>(alloc: Global) -> Command<'a> {
     let about = "Signs and verifies files by SLH-DSA over SHA-2 (FIPS 205)";
     parent(alloc, "slh", about).version(VERSION).after_help(
         "The status is 0, or 1 where a verdict says no, or 2 for all else.\n\n\
-         Example:\n    slh keygen --set SLH-DSA-SHA2-128f release\n    \
+         Example:\n    slh keygen release\n    \
          slh sign --key release.key notes.txt\n    \
-         slh verify --key release.pub --signature notes.txt.sig notes.txt",
+         slh verify --key release.pub notes.txt",
     )
 }
 
@@ -290,6 +308,7 @@ fn arg_of<'a>(alloc: Global, word: &'static Word) -> Result<Arg<'a>, AllocError>
         Kind::Operand => Ok(with_value(arg, word)),
         Kind::Operands => Ok(with_value(arg, word).num_args(1usize..)),
         Kind::Context => with_value(arg.long(word.name), word).conflicts_with("context-hex"),
+        Kind::Key => with_value(arg.long(word.name), word).conflicts_with("key-text"),
         _ => Ok(with_value(arg.long(word.name), word)),
     }
 }
@@ -303,7 +322,7 @@ fn with_value<'a>(arg: Arg<'a>, word: &'static Word) -> Arg<'a> {
 
 fn parser_of(kind: Kind) -> ValueParser<'static> {
     match kind {
-        Kind::Set => ValueParser::Names(&Set::NAMES),
+        Kind::Set | Kind::OptionalSet => ValueParser::Names(&Set::NAMES),
         Kind::Hash => ValueParser::Names(&HASHES),
         Kind::Number => value_parser!(u8),
         Kind::Operand | Kind::Operands => ValueParser::NonEmptyString,

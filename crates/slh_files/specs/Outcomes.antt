@@ -3,7 +3,7 @@ use Rattle.std.specs.Prelude.{ℕ, List, codes}
 use Rattle.slh_files.specs.declared.outcome.Outcome.{Outcome}
 use Rattle.slh_files.specs.declared.outcome.Outcome.TheVariants.{Done, Accepted, Invalid, Genuine}
 use Rattle.slh_files.specs.declared.outcome.Outcome.TheVariants.{Foreign, Shown, NotShown}
-use Rattle.slh_files.specs.declared.outcome.Outcome.TheVariants.{Missing, Differs}
+use Rattle.slh_files.specs.declared.outcome.Outcome.TheVariants.{Missing, Differs, Unnamed}
 
 -- 1 for a verdict that says no
 abbrev pub status_of : Outcome → ℕ
@@ -16,6 +16,7 @@ status_of Shown = 0
 status_of NotShown = 1
 status_of Missing = 1
 status_of Differs = 1
+status_of Unnamed = 1
 
 abbrev pub word_of : Outcome → List ℕ
 word_of Done = codes ""
@@ -27,3 +28,4 @@ word_of Shown = codes "shown"
 word_of NotShown = codes "not shown"
 word_of Missing = codes "missing"
 word_of Differs = codes "differs"
+word_of Unnamed = codes "unnamed"

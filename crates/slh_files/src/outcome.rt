@@ -23,6 +23,8 @@ pub enum Outcome {
     Missing,
     /// A file of a manifest is another one.
     Differs,
+    /// A manifest doesn't name a file.
+    Unnamed,
 }
 
 impl Outcome {
@@ -36,7 +38,8 @@ impl Outcome {
             | Outcome::Foreign
             | Outcome::NotShown
             | Outcome::Missing
-            | Outcome::Differs => 1,
+            | Outcome::Differs
+            | Outcome::Unnamed => 1,
         }
     }
 
@@ -54,6 +57,7 @@ impl Outcome {
             Outcome::NotShown => "not shown",
             Outcome::Missing => "missing",
             Outcome::Differs => "differs",
+            Outcome::Unnamed => "unnamed",
         }
     }
 }
