@@ -32,8 +32,9 @@ pub fn compress(state: &mut [u32; 8], block: &[u8])
     *state = words;
 }
 
-// Takes one block after the other into the eight words.
-fn absorb_each(state: &mut [u32; 8], blocks: &[u8])
+/// Takes one block after the other into the eight words; bytes after the last whole block are left.
+/// As `absorb_blocks`, for programs that are to be small.
+pub fn absorb_each(state: &mut [u32; 8], blocks: &[u8])
     ensures { state.new ≡ fold_blocks state.old blocks.now (length blocks.now / 64) }
 {
     'each_block: for i in 0..blocks.len() / BLOCK_BYTES {

@@ -35,8 +35,8 @@ pub(crate) fn compress(state: &mut [u64; 8], block: &[u8])
     *state = words;
 }
 
-// Takes one block after the other into the eight words.
-fn absorb_each(state: &mut [u64; 8], blocks: &[u8])
+/// Takes one block after the other into the eight words.
+pub(crate) fn absorb_each(state: &mut [u64; 8], blocks: &[u8])
     ensures { state.new ≡ hash_after state.old blocks.now (length blocks.now / 128) }
 {
     'each_block: for i in 0..blocks.len() / BLOCK_BYTES {

@@ -206,6 +206,43 @@ impl<P: ParameterSet> VerifyingKey<P> {
         self.verify_bytes_on::<Brand>(mode, ctx, msg, sig, Blank::new(1))
     }
 
+    /// As `verify_bytes`, where a message that is signed by its digest is hashed block by block: for
+    /// programs that are to be small.
+    pub fn verify_small(&self, mode: Mode, ctx: &[u8], msg: &[u8], sig: &[u8]) -> Result<(), Error>
+        ensures { RefusedExactly result
+            (hash_verify_error P.scheme mode self.now ctx.now msg.now sig.now) }
+    {
+        Self::check_verify(msg, ctx, sig)?;
+        self.verify_frame::<Brand>(&Frame::small(mode, ctx, msg), sig, Blank::new(1))
+    }
+
+    /// As `verify_bytes` in the mode `Pure`, without the code of the other modes.
+    pub fn verify_pure(&self, ctx: &[u8], msg: &[u8], sig: &[u8]) -> Result<(), Error>
+        ensures { RefusedExactly result (verify_error P.scheme self.now ctx.now msg.now sig.now) }
+    {
+        Self::check_verify(msg, ctx, sig)?;
+        self.verify_frame::<Brand>(&Frame::pure(ctx, msg), sig, Blank::new(1))
+    }
+
+    // Verifies a signature of what is signed, on a counter that is made here.
+    fn verify_frame<L: Ledger>(
+        &self,
+        frame: &Frame<'_>,
+        sig: &[u8],
+        blank: Blank,
+    ) -> Result<(), Error>
+        requires sig { length sig.now ≡ signature_size P.scheme }
+        requires fits { length frame.now.head + length frame.now.ctx + length frame.now.tail
+            ≤ MAX_MESSAGE_LEN }
+        requires fresh { IsFresh blank L.name L.parts }
+        ensures { let message = frame.now.head ++ frame.now.ctx ++ frame.now.tail in
+            RefusedExactly result (root_refusal P.scheme self.now message sig.now) }
+    {
+        let sig = SigView::exact(sig);
+        let mut steps = Steps::<L>::new(blank);
+        self.verify_slices(frame.head(), frame.ctx(), frame.tail(), &sig, &mut steps)
+    }
+
     /// Whether the bytes of a signature lead to the key's root, for a message and a context of sizes
     /// that no call refuses.
     pub fn is_valid(&self, mode: Mode, ctx: &[u8], msg: &[u8], sig: &[u8]) -> bool

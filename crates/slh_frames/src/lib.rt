@@ -10,4 +10,4 @@ pub mod clones;
 mod frame;
 pub mod laws;
 
-pub use frame::{Frame, MAX_CONTEXT, MAX_MESSAGE, Mode};
+pub use frame::{Frame, MAX_CONTEXT, MAX_MESSAGE, Mode, SHA256_IDENTIFIER, SHA512_IDENTIFIER};

@@ -1,8 +1,8 @@
 -- What the numbers stand for as which a state of a message in pieces is put aside.
 use Rattle.std.specs.Prelude.{ℕ, List, Bool, true, false, ◌==◌}
-use Rattle.hmac_sha256.specs.Hash.{StandsFor}
+use Rattle.hmac_sha256.specs.Hash.{StandsFor, new_hash}
 use Rattle.hmac_sha256.specs.Hmac.{inner_block, masked}
-use Rattle.sha512_lanes.specs.Hash.{StandsFor as StandsFor512}
+use Rattle.sha512_lanes.specs.Hash.{StandsFor as StandsFor512, new_hash as new_hash_512}
 use Rattle.slh_hash.specs.HmacSha512.{key_block}
 use Rattle.slh_hash.specs.declared.resumable.Hashes.{Hashes}
 
@@ -10,6 +10,10 @@ use Rattle.slh_hash.specs.declared.resumable.Hashes.{Hashes}
 -- 11.2.1), and not by SHA-512 (section 11.2.2)
 abbrev pub is_category_1 : ℕ → Bool
 is_category_1 n = n == 16
+
+-- two hashes that have absorbed nothing
+abbrev pub new_hashes : Hashes
+new_hashes = record { sha256 = new_hash; sha512 = new_hash_512 }
 
 -- the hash of SHA-256, or else that of SHA-512, has absorbed the message
 abbrev pub HasHashed : Bool → Hashes → List ℕ → Type 0

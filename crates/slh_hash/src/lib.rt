@@ -57,6 +57,9 @@ mod rows_512;
 mod sets;
 mod sha2_l1;
 mod sha2_l35;
+mod small;
+mod small_l1;
+mod small_l35;
 mod tweaked;
 
 pub use keyed::{Sha2Keyed, Sha2Keyed512};
@@ -68,3 +71,6 @@ pub use resumable::{Hashes, ResumableSuite};
 pub use sets::{Sha2_128f, Sha2_128s, Sha2_192f, Sha2_192s, Sha2_256f, Sha2_256s};
 pub use sha2_l1::Sha2L1;
 pub use sha2_l35::Sha2L35;
+pub use small::SmallSuite;
+pub use small_l1::SmallKeyed;
+pub use small_l35::SmallKeyed512;

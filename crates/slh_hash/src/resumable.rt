@@ -1,7 +1,7 @@
 //! What a hash suite is whose states can be put aside between the pieces of a message.
 ghost use Rattle.std.specs.Prelude.{◌≡◌, ℕ, ◌≤◌, ◌^◌, List, ◌++◌, length};
 ghost use Rattle.std.specs.Prelude.{IfSome, MatchOption};
-ghost use Rattle.slh_hash.specs.Suspended.{HasHashed, is_category_1, mac_block};
+ghost use Rattle.slh_hash.specs.Suspended.{HasHashed, is_category_1, mac_block, new_hashes};
 
 use hmac_sha256::Hash;
 use sha512_lanes::Hash512;
@@ -21,7 +21,9 @@ pub struct Hashes {
 
 impl Hashes {
     /// Two hashes that have absorbed nothing.
-    pub fn new() -> Self {
+    pub fn new() -> Self
+        ensures { result ≡ new_hashes }
+    {
         Hashes {
             sha256: Hash::new(),
             sha512: Hash512::new(),

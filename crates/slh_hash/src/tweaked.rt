@@ -21,8 +21,8 @@ const SHA512_BLOCK_LEN: usize = 128;
 // A compressed address and two values of 32 bytes.
 const SHORT_LEN: usize = 86;
 
-// The public seed, and zeros after it.
-fn block_of<N: ArraySize, const B: usize>(pk_seed: &NBytes<N>) -> [u8; B]
+/// The public seed, and zeros after it.
+pub(crate) fn block_of<N: ArraySize, const B: usize>(pk_seed: &NBytes<N>) -> [u8; B]
     requires { 32 ≤ B }
     ensures { result ≡ seed_block B N.USIZE pk_seed.now }
 {

@@ -1,6 +1,6 @@
 -- What is refused of a message that comes in two pieces.
 use Rattle.std.proofs.Common.{◌≡◌, ℕ, ◌≤◌, ◌^◌, List, [], ◌∷◌, ◌++◌, length, Option, Some, None, refl, ap, inl, inr, if◌then◌else◌, arith, length-append}
-use Rattle.std.specs.Prelude.{nat_lt, Result, Ok, Err, IsErrAnd}
+use Rattle.std.specs.Prelude.{nat_lt, false, true, Result, Ok, Err, IsErrAnd}
 use Rattle.std.proofs.lemmas.Bool.{cases_lt, lt-ltb, le-ltb}
 use Rattle.slh_trees.specs.Refusals.{RefusedExactly, first_refusal, message_refusal}
 
@@ -37,3 +37,7 @@ pub handed_on : {T E : Type 0} (result : Result T E) (refusal : Option E) (e : E
     → RefusedExactly result refusal
 handed_on (Ok x) refusal e is_e never = absurd never
 handed_on (Err x) refusal e is_e same = cc (is_e, same)
+
+-- what is refused has a cause
+pub never_none : {E : Type 0} (refusal : Option E) (e : E) → refusal ≡ Some e → refusal ≡ None → false ≡ true
+never_none refusal e is_e none = cc (is_e, none)

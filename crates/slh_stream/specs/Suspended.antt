@@ -1,12 +1,12 @@
 -- What the numbers of a verifier stand for that is put aside between two pieces.
-use Rattle.std.specs.Prelude.{◌≡◌, ℕ, ◌≤◌, ◌^◌, List, [], ◌++◌, length, take}
+use Rattle.std.specs.Prelude.{◌≡◌, ℕ, ◌≤◌, ◌^◌, List, [], ◌++◌, length, replicate, take}
 use Rattle.hmac_sha256.specs.Hash.{StandsFor}
 use Rattle.sha512_lanes.specs.Hash.{StandsFor as StandsFor512}
 use Rattle.slh_core.specs.Bytes.{part}
 use Rattle.slh_frames.specs.Frames.{head_of}
 use Rattle.slh_frames.specs.declared.frame.Mode.{Mode}
 use Rattle.slh_frames.specs.declared.frame.Mode.TheVariants.{Pure, Sha256, Sha512}
-use Rattle.slh_hash.specs.Suspended.{HasHashed, is_category_1}
+use Rattle.slh_hash.specs.Suspended.{HasHashed, is_category_1, new_hashes}
 use Rattle.slh_hash.specs.declared.resumable.Hashes.{Hashes}
 use Rattle.slh_stream.specs.Tails.{StandsAfter}
 use Rattle.slh_stream.specs.declared.tail.Tail.{Tail}
@@ -38,6 +38,15 @@ pub record IsSuspended (n : ℕ) (state : SuspendedVerifier) (mode : Mode)
   pub stands : HasHashed (is_category_1 n) state.front
       (rand ++ part n key 0 ++ part n key 1
       ++ ((head_of mode context ++ context) ++ passed_in mode message))
+
+-- nothing of a key, a signature and a message stands there
+pub record IsBlank (state : SuspendedVerifier) : Type 0 where
+  pub seed_is : state.seed ≡ replicate 32 0
+  pub root_is : state.root ≡ replicate 32 0
+  pub rand_is : state.rand ≡ replicate 32 0
+  pub taken_is : state.taken ≡ 0
+  pub front_is : state.front ≡ new_hashes
+  pub tail_is : state.tail ≡ new_hashes
 
 -- H_msg and what becomes of the pieces, taken up again, stand for the same.
 pub record IsResumed (n : ℕ) (digests : List ℕ → List ℕ → List ℕ → List ℕ → Type 0) (tail : Tail)

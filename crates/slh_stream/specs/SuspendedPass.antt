@@ -3,7 +3,7 @@ use Rattle.std.specs.Prelude.{◌≡◌, ℕ, ◌≤◌, ◌^◌, List, ◌++◌
 use Rattle.std.specs.Prelude.{unwrap_or}
 use Rattle.slh_core.specs.Bytes.{part}
 use Rattle.slh_frames.specs.Frames.{frame}
-use Rattle.slh_hash.specs.Suspended.{HasHashed, is_category_1, mac_block}
+use Rattle.slh_hash.specs.Suspended.{HasHashed, is_category_1, mac_block, new_hashes}
 use Rattle.slh_stream.specs.declared.suspended_pass.SuspendedPass.{SuspendedPass}
 
 -- The numbers stand for the bytes of a signing key of values of n bytes, but for its secret seed, a
@@ -28,7 +28,7 @@ pub record IsSecondAside (n : ℕ) (state : SuspendedPass) (key : List ℕ)
   pub hashed : HasHashed (is_category_1 n) state.digest
       (rand ++ part n key 2 ++ part n key 3 ++ frame context message)
 
--- nothing of a key and of a message stands there, but for the states of the hashes
+-- nothing of a key and of a message stands there
 pub record IsBlank (state : SuspendedPass) : Type 0 where
   pub prf_is : state.prf ≡ replicate 32 0
   pub seed_is : state.seed ≡ replicate 32 0
@@ -36,3 +36,5 @@ pub record IsBlank (state : SuspendedPass) : Type 0 where
   pub opt_rand_is : state.opt_rand ≡ replicate 32 0
   pub rand_is : state.rand ≡ replicate 32 0
   pub taken_is : state.taken ≡ 0
+  pub mac_is : state.mac ≡ new_hashes
+  pub digest_is : state.digest ≡ new_hashes

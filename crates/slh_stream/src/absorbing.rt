@@ -11,14 +11,7 @@ use slh_core::nbytes::NBytes;
 use slh_core::params::MAX_MESSAGE_LEN;
 use slh_core::pieces::MessageSuite;
 use slh_dsa::Mode;
-
-pub(crate) const SHA256_IDENTIFIER: [u8; 11] = [
-    0x06, 0x09, 0x60, 0x86, 0x48, 0x01, 0x65, 0x03, 0x04, 0x02, 0x01,
-];
-
-pub(crate) const SHA512_IDENTIFIER: [u8; 11] = [
-    0x06, 0x09, 0x60, 0x86, 0x48, 0x01, 0x65, 0x03, 0x04, 0x02, 0x03,
-];
+use slh_frames::{SHA256_IDENTIFIER, SHA512_IDENTIFIER};
 
 /// The two bytes before a context.
 pub(crate) fn head(mode: Mode, ctx: &[u8]) -> [u8; 2]

@@ -1,8 +1,9 @@
 //! What a caller learns who hands in a message in two pieces.
-ghost use Rattle.std.specs.Prelude.{◌≡◌, ◌++◌, OnOk, true};
+ghost use Rattle.std.specs.Prelude.{◌≡◌, ◌≢◌, ◌↔◌, ◌++◌, length, IfOk, IsTrue, None, OnOk, true};
 ghost use Rattle.std.specs.Option.{option_copied};
 ghost use Rattle.slh_dsa.specs.Calls.{hash_verify_error};
 ghost use Rattle.slh_frames.specs.Frames.{frame};
+ghost use Rattle.slh_stream.specs.Passes.{pass_refusal, randomizer_for};
 ghost use Rattle.slh_trees.specs.Signing.{signature_of};
 ghost use Rattle.slh_trees.specs.Refusals.{RefusedExactly};
 
@@ -30,7 +31,8 @@ pub fn verify_two<P: ParameterSet + MessageSuite>(
     verifier.finish()
 }
 
-/// Signs the two pieces of a second pass, whatever the first pass was given.
+/// Signs the two pieces of a second pass, whatever the first pass was given. False: PRF_msg of the
+/// two isn't that of what the first pass was given, or `out` doesn't have the bytes of a signature.
 pub fn sign_two<P: ParameterSet + MessageSuite>(
     key: &SigningKey<P>,
     ctx: &[u8],
@@ -40,9 +42,15 @@ pub fn sign_two<P: ParameterSet + MessageSuite>(
     second: &[u8],
     out: &mut [u8],
 ) -> Result<bool, Error>
-    ensures { let opt_rand = option_copied opt_rand.entry in
+    ensures value { let opt_rand = option_copied opt_rand.entry in
         let message = frame ctx.now (first.now ++ second.now) in
         OnOk result (result ≡ Ok true → out.new ≡ signature_of P.scheme key.now opt_rand message) }
+    ensures signed { let opt_rand = option_copied opt_rand.entry in
+        let message = frame ctx.now (first.now ++ second.now) in
+        let rand = randomizer_for P.scheme key.now opt_rand (frame ctx.now before.now) in
+        IfOk result (λ is_signed. IsTrue is_signed
+        ↔ (pass_refusal P.scheme key.now opt_rand message rand (length out.old) ≡ None)) }
+    ensures same { result ≢ Ok true → out.new ≡ out.old }
 {
     let mut pass = FirstPass::<P>::new(key, ctx, opt_rand)?;
     pass.update(before)?;

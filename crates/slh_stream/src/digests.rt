@@ -9,13 +9,14 @@ ghost use Rattle.slh_stream.specs.Digests.{sign_digest_refusal, verify_digest_er
 ghost use Rattle.slh_trees.specs.Signing.{signature_of};
 ghost use Rattle.slh_trees.specs.Refusals.{RefusedExactly};
 
-use crate::absorbing::{SHA256_IDENTIFIER, SHA512_IDENTIFIER, head};
+use crate::absorbing::head;
 use crate::key_parts::{public_parts, secret_parts};
 use hybrid_array::ArraySize;
 use slh_core::nbytes::NBytes;
 use slh_core::params::{chain_sizes, forest_sizes};
 use slh_core::steps::Steps;
 use slh_dsa::{Error, Mode, ParameterSet, SigningKey, VerifyingKey};
+use slh_frames::{SHA256_IDENTIFIER, SHA512_IDENTIFIER};
 use slh_trees::sign::sign_message;
 use slh_trees::{SigView, check_root};
 use std::marker::Brand;

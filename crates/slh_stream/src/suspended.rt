@@ -5,7 +5,7 @@ ghost use Rattle.std.specs.Prelude.{length, take};
 ghost use Rattle.slh_dsa.specs.Calls.{hash_verify_error};
 ghost use Rattle.slh_dsa.specs.declared.error.Error.TheVariants.{Length, MessageTooLong};
 ghost use Rattle.slh_frames.specs.declared.frame.Mode.{Mode as SigningMode};
-ghost use Rattle.slh_stream.specs.Suspended.{HasTail, IsResumed, IsSuspended};
+ghost use Rattle.slh_stream.specs.Suspended.{HasTail, IsBlank, IsResumed, IsSuspended};
 ghost use Rattle.slh_stream.specs.Tails.{IsTailOf, hashed_count, mode_of};
 ghost use Rattle.slh_trees.specs.Checking.{signature_size};
 ghost use Rattle.slh_trees.specs.Refusals.{RefusedExactly, message_refusal};
@@ -161,7 +161,7 @@ fn resume_for<'a, P: ParameterSet + ResumableSuite>(
 impl SuspendedVerifier {
     /// The numbers of nothing, to be written over.
     pub fn blank() -> Self
-        ensures { result.taken ≡ 0 }
+        ensures { IsBlank result }
     {
         SuspendedVerifier {
             seed: [0; 32],

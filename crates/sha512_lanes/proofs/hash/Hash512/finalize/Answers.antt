@@ -12,4 +12,4 @@ returns c = λ m held.
     let front : take ((239 - c.value-total.result % 128) % 128 + 1) c.one_and_zeros.result ≡ 0x80 ∷ replicate z 0 =
     rw (zeros, c.one_and_zeros.ensures) (padding-take 0x80 0 z (omega arith)) in
     c.word_bytes.ensures
-    ∙ StandsFor_padded c.update-2.new.self m _ _ (c.update-2.ensures _ (c.update.ensures m held)) front (rw bits at c.to_be_bytes.ensures)
+    ∙ StandsFor_padded c.update_each-2.new.self m _ _ (c.update_each-2.ensures _ (c.update_each.ensures m held)) front (rw bits at c.to_be_bytes.ensures)
