@@ -1,0 +1,19 @@
+//! The tiles of a signed log, as C2SP's `tlog-tiles` has them: which there are, their names, and
+//! their bytes as the log grows.
+//!
+//! A tile has 256 hashes of 32 bytes, the roots over whole runs of 256^level entries; the last one
+//! of a level may have fewer. [`last_tile`] and [`is_piece`] say which tiles a log of so many
+//! entries has, [`Tile::path`] and [`Bundle::path`] what their files are called.
+//!
+//! [`GrowingTiles`] adds digests one at a time, keeps the last tile of each level, 64 KiB in all,
+//! and says which tiles became full. The root over all digests is made of them.
+#![tactic(auto)]
+
+mod growing;
+mod names;
+mod shape;
+mod span;
+
+pub use growing::{GrowingTiles, LEVELS};
+pub use names::{Bundle, FULL, Tile};
+pub use shape::{hash_count, is_piece, last_bundle, last_tile};
