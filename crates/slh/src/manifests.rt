@@ -59,6 +59,7 @@ fn build_text(error: BuildError) -> &'static str {
         BuildError::Missing => "it is gone",
         BuildError::TooLarge => "it has more than 2^32 bytes",
         BuildError::Empty => "no files",
+        BuildError::Signature => "a wrong signature",
         BuildError::Randomizer => "a wrong randomizer",
         BuildError::Memory => "out of memory",
     }

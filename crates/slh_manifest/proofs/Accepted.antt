@@ -18,16 +18,16 @@ use Rattle.slh_trees.specs.Keys.{IsTrueKey}
 use Rattle.slh_trees.specs.Signing.{signature_of}
 use Rattle.slh_trees.specs.Refusals.{first_refusal}
 use Rattle.slh_manifest.specs.Building.{entry_of, manifest_of}
-use Rattle.slh_manifest.specs.Checking.{HasEntry, bytes_error, check_error, entries_error}
+use Rattle.slh_manifest.specs.Checking.{HasEntry, bytes_error, check_error, entries_error, manifest_refusal}
 use Rattle.slh_manifest.specs.Files.{Files, bytes_of}
 use Rattle.slh_manifest.specs.Manifest.{HasForm, body_bytes, entry_bytes, manifest_context}
 use Rattle.slh_manifest.specs.declared.entry.Entry.{Entry}
 use Rattle.slh_manifest.specs.declared.error.CheckError.{CheckError}
-use Rattle.slh_manifest.specs.declared.error.CheckError.TheVariants.{Differs}
+use Rattle.slh_manifest.specs.declared.error.CheckError.TheVariants.{Differs, Invalid}
 use Rattle.slh_manifest.proofs.Errors.{first_none, first_of_one}
 use Rattle.slh_manifest.proofs.Lists.{entries_short}
 use Rattle.slh_manifest.proofs.ReadBack.{body_is, entries_are_read, manifest_is, signature_is_read}
-use Rattle.slh_manifest.proofs.Whole.{check_entries_decide, not_refused}
+use Rattle.slh_manifest.proofs.Whole.{check_entries_decide, not_refused, refused_by_signature}
 
 entry_right : (told : Option (List ℕ)) (i : ℕ) (entry : Entry) → IsSomeAnd told (λ bytes. entry ≡ entry_of entry.name bytes) → bytes_error i entry.len entry.digest told ≡ None
 entry_right None i entry is = absurd is
@@ -73,16 +73,27 @@ SignedIsAccepted Z n =
 abbrev pub SignatureHasSize : Scheme → Type 0
 SignatureHasSize Z = (key : List ℕ) (opt_rand : Option (List ℕ)) (message : List ℕ) → length (signature_of Z key opt_rand message) ≡ signature_size Z
 
+-- a manifest by its signature, whoever made that
+module _ (Z : Scheme) (key sig : List ℕ) (entries : List Entry) (form : HasForm entries) (size : length sig ≡ signature_size Z) where
+  abbrev whole : List ℕ
+  whole = body_bytes entries ++ sig
+
+  pub accepted_with : (files : Files) → is_valid Z Pure key manifest_context (body_bytes entries) sig ≡ true → AllByRecursion (HasEntry files) entries → check_error Z key whole files ≡ None
+  accepted_with files valid all =
+      let none = not_refused Z key whole (body_bytes entries) sig (sym (manifest_is entries sig form Z size)) (sym (body_is entries sig form)) (sym (signature_is_read entries sig form)) true (sym valid) refl in
+      check_entries_decide Z key whole none files
+      ∙ ap (entries_error files 0) (entries_are_read entries sig form) ∙ entries_right files 0 entries all
+
+  pub invalid_with : is_valid Z Pure key manifest_context (body_bytes entries) sig ≡ false → manifest_refusal Z key whole ≡ Some Invalid
+  invalid_with invalid =
+      refused_by_signature Z key whole (body_bytes entries) sig (sym (manifest_is entries sig form Z size)) (sym (body_is entries sig form)) (sym (signature_is_read entries sig form)) false (sym invalid) refl
+
 pub accepted : (Z : Scheme) (n : ℕ) (key : List ℕ) (opt_rand : Option (List ℕ)) (entries : List Entry) (files : Files)
     → SignedIsAccepted Z n → SignatureHasSize Z → IsTrueKey Z key → length key ≡ 4 * n → HasForm entries → AllByRecursion (HasEntry files) entries
     → check_error Z (drop (2 * n) key) (manifest_of Z key opt_rand entries) files ≡ None
 accepted Z n key opt_rand entries files signed sized true_key size form all =
     let body = body_bytes entries in
     let sig = signature_of Z key opt_rand (frame manifest_context body) in
-    let manifest = body ++ sig in
     let verified : is_valid Z Pure (drop (2 * n) key) manifest_context body sig ≡ true
     = valid_of Z (drop (2 * n) key) body sig (signed key opt_rand body true_key size (body_short entries form)) in
-    let none = not_refused Z (drop (2 * n) key) manifest body sig (sym (manifest_is entries sig form Z (sized key opt_rand (frame manifest_context body))))
-    (sym (body_is entries sig form)) (sym (signature_is_read entries sig form)) true (sym verified) refl in
-    check_entries_decide Z (drop (2 * n) key) manifest none files
-    ∙ ap (entries_error files 0) (entries_are_read entries sig form) ∙ entries_right files 0 entries all
+    accepted_with Z (drop (2 * n) key) sig entries form (sized key opt_rand (frame manifest_context body)) files verified all

@@ -11,3 +11,4 @@ pub mod Accepted
 pub mod Named
 pub mod Tellings
 pub mod Written
+pub mod Calls

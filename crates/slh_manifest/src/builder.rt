@@ -1,5 +1,6 @@
 //! Manifests made from what a store has.
-ghost use Rattle.std.specs.Prelude.{◌≡◌, ◌≢◌, ◌↔◌, ◌≤◌, ◌<◌, ◌^◌, ◌++◌, ◌∷◌, [], Some, IsSome};
+ghost use Rattle.std.specs.Prelude.{◌≡◌, ◌≢◌, ◌↔◌, ◌≤◌, ◌<◌, ◌^◌, ◌++◌, ◌∷◌, ◌==◌, []};
+ghost use Rattle.std.specs.Prelude.{Some, IsSome};
 ghost use Rattle.std.specs.Prelude.{IsErrOf, OnOk, OnErr, IfOk, IfErr, IfSome, IsTrue, length};
 ghost use Rattle.std.specs.Option.{option_copied, ForSome};
 ghost use Rattle.line_serve.specs.Causes.{Rose};
@@ -7,14 +8,15 @@ ghost use Rattle.slh_frames.specs.Frames.{frame};
 ghost use Rattle.slh_trees.specs.Signing.{signature_of};
 ghost use Rattle.slh_trees.specs.Refusals.{RefusedExactly, RefusedOrNoMemory};
 ghost use Rattle.slh_manifest.specs.Building.{IsAdded, IsBuilt, RefusedOrFault};
-ghost use Rattle.slh_manifest.specs.Building.{add_refusal, entry_of, manifest_of, name_refusal};
+ghost use Rattle.slh_manifest.specs.Building.{add_refusal, digest_refusal, empty_refusal, entry_of};
+ghost use Rattle.slh_manifest.specs.Building.{manifest_of, name_refusal};
 ghost use Rattle.slh_manifest.specs.Building.{last_name as spec_last_name};
-ghost use Rattle.slh_manifest.specs.Building.{seal_refusal};
+ghost use Rattle.slh_manifest.specs.Building.{seal_refusal, with_signature_refusal};
 ghost use Rattle.slh_manifest.specs.Files.{bytes_of};
 ghost use Rattle.slh_manifest.specs.Manifest.{HasForm, body_bytes, entry_bytes, manifest_context};
 ghost use Rattle.slh_manifest.specs.Manifest.{may_follow as spec_may_follow};
 ghost use Rattle.slh_manifest.specs.declared.error.BuildError.TheVariants.{Name, Full, Fault};
-ghost use Rattle.slh_manifest.specs.declared.error.BuildError.TheVariants.{Empty, Randomizer};
+ghost use Rattle.slh_manifest.specs.declared.error.BuildError.TheVariants.{Empty, Signature as NoSignature, Randomizer};
 ghost use Rattle.slh_manifest.specs.declared.error.BuildError.TheVariants.{Memory};
 
 use crate::entry::{Entry, MAX_ENTRIES, MAX_LEN, may_follow};
@@ -29,7 +31,7 @@ use std::alloc::{AllocError, Global};
 use std::marker::Model;
 
 /// The context under which bodies are signed.
-pub(crate) const CONTEXT: &[u8] = b"slh-manifest";
+pub const CONTEXT: &[u8] = b"slh-manifest";
 
 /// Entries of a manifest to be. Clauses see it as their list.
 #[derive(Drop)]
@@ -65,7 +67,7 @@ impl Builder {
     pub fn add<T: Store>(&mut self, name: &[u8], store: &mut T) -> Result<(), BuildError>
         ensures name { IsErrOf result Name ↔ (name_refusal self.old name.now ≡ Some Name) }
         ensures full { IsErrOf result Full ↔ (name_refusal self.old name.now ≡ Some Full) }
-        ensures only { IfErr result (λ e. (e ≢ Empty) × (e ≢ Randomizer)) }
+        ensures only { IfErr result (λ e. (e ≢ Empty) × (e ≢ Randomizer) × (e ≢ NoSignature)) }
         ensures fault { IsErrOf result Fault → Rose (T.faults store.old) (T.faults store.new) }
         ensures told { IfSome (T.files store.old)
             (λ files. RefusedOrFault result (add_refusal self.old name.now files)) }
@@ -81,18 +83,79 @@ impl Builder {
         ensures kept { T.files store.new ≡ T.files store.old }
         ensures later { T.faults store.old ≤ T.faults store.new }
     {
-        if !may_follow(last_name(&self.entries), name) {
-            return Err(BuildError::Name);
-        }
-        if self.entries.len() >= MAX_ENTRIES {
-            return Err(BuildError::Full);
-        }
+        self.check_name(name)?;
         match measure(store, name, MAX_LEN) {
             Err(_) => Err(BuildError::Fault),
             Ok(Found::Missing) => Err(BuildError::Missing),
             Ok(Found::Longer) => Err(BuildError::TooLarge),
             Ok(Found::Whole { len, digest }) => Ok(self.push(name, len, &digest)?),
         }
+    }
+
+    /// Adds an entry of a name by the length and the SHA-256 of its bytes, which stand elsewhere.
+    /// `Name`; `Full`; `TooLarge`; `Memory`. After a refusal there are the entries that there were.
+    pub fn add_digest(&mut self, name: &[u8], len: u64, digest: &[u8; 32]) -> Result<(), BuildError>
+        ensures refusal { RefusedOrNoMemory Memory result (digest_refusal self.old name.now len) }
+        ensures added { OnOk result (self.new
+            ≡ self.old ++ record { name = name.now; len = len; digest = digest.now } ∷ []) }
+        ensures same { OnErr result (self.new ≡ self.old) }
+    {
+        self.check_name(name)?;
+        if len > MAX_LEN {
+            return Err(BuildError::TooLarge);
+        }
+        Ok(self.push(name, len, digest)?)
+    }
+
+    /// How many entries there are, at most 4096.
+    pub fn len(&self) -> usize
+        ensures value { result ≡ length self.now }
+        ensures few { result ≤ 4096 }
+    {
+        self.entries.len()
+    }
+
+    /// Whether there are none.
+    pub fn is_empty(&self) -> bool
+        ensures { result ≡ (length self.now == 0) }
+    {
+        self.entries.is_empty()
+    }
+
+    /// The body of the manifest, for a key that is elsewhere, as in a module or on another machine:
+    /// it signs these bytes in mode `Pure` (FIPS 205, algorithm 22) under [`CONTEXT`]. `Empty`;
+    /// `Memory`.
+    pub fn body(&self, alloc: Global) -> Result<Vec<u8>, BuildError>
+        ensures refusal { RefusedOrNoMemory Memory result (empty_refusal self.now) }
+        ensures value { IfOk result (λ body. body.items ≡ body_bytes self.now) }
+        ensures form { OnOk result (HasForm self.now) }
+        ensures context { CONTEXT.now ≡ manifest_context }
+    {
+        self.check_some()?;
+        Ok(body(alloc, &self.entries)?)
+    }
+
+    /// The manifest of the entries and a signature of their body that was made elsewhere, as
+    /// [`Builder::body`] says. Whether it is one isn't checked: who opens the manifest checks it.
+    /// `Empty`; `Signature`; `Memory`.
+    pub fn with_signature<P: ParameterSet>(
+        &self,
+        alloc: Global,
+        signature: &[u8],
+    ) -> Result<Vec<u8>, BuildError>
+        ensures refusal { RefusedOrNoMemory Memory result
+            (with_signature_refusal P.scheme self.now signature.now) }
+        ensures value { IfOk result
+            (λ manifest. manifest.items ≡ body_bytes self.now ++ signature.now) }
+        ensures form { OnOk result (HasForm self.now) }
+    {
+        self.check_some()?;
+        if signature.len() != P::SigLen::USIZE {
+            return Err(BuildError::Signature);
+        }
+        let mut manifest = body(alloc, &self.entries)?;
+        manifest.extend_from_slice(signature)?;
+        Ok(manifest)
     }
 
     /// The manifest of the entries: their body, signed in mode `Pure` (FIPS 205, algorithm 22)
@@ -111,14 +174,39 @@ impl Builder {
             ≡ manifest_of P.scheme key.now opt_rand self) }
         ensures form { OnOk result (HasForm self) }
     {
-        if self.entries.is_empty() {
-            return Err(BuildError::Empty);
-        }
+        self.check_some()?;
         check_opt_rand::<P, BuildError>(opt_rand, BuildError::Randomizer)?;
         let mut manifest = body(alloc, &self.entries)?;
         let signature = sign_body(alloc, key, &manifest, opt_rand)?;
         manifest.extend_from_slice(signature.as_slice())?;
         Ok(manifest)
+    }
+
+    // Whether there are entries.
+    fn check_some(&self) -> Result<(), BuildError>
+        ensures refusal { RefusedExactly result (empty_refusal self.now) }
+        ensures some { OnOk result (1 ≤ length self.now) }
+    {
+        if self.entries.is_empty() {
+            return Err(BuildError::Empty);
+        }
+        Ok(())
+    }
+
+    // Whether an entry of this name may stand at the end.
+    fn check_name(&self, name: &[u8]) -> Result<(), BuildError>
+        ensures refusal { RefusedExactly result (name_refusal self.now name.now) }
+        ensures room { OnOk result (length self.now < 4096) }
+        ensures follows { OnOk result
+            (IsTrue (spec_may_follow (spec_last_name [] self.now) name.now)) }
+    {
+        if !may_follow(last_name(&self.entries), name) {
+            return Err(BuildError::Name);
+        }
+        if self.entries.len() >= MAX_ENTRIES {
+            return Err(BuildError::Full);
+        }
+        Ok(())
     }
 
     // Puts an entry at the end.

@@ -1,20 +1,22 @@
 //! What manifests have to do with their entries, as the contracts of functions that do nothing.
 ghost use Rattle.std.specs.Prelude.{◌⊎◌, Some};
 ghost use Rattle.std.specs.Prelude.{◌≡◌, ℕ, ◌*◌, ◌<◌, ◌++◌, List, length, drop, Option, None, true};
-ghost use Rattle.std.specs.Prelude.{slice_index};
+ghost use Rattle.std.specs.Prelude.{[], false, map, slice_index};
 ghost use Rattle.std.specs.List.{AllByRecursion};
 ghost use Rattle.slh_core.specs.Parameters.{Scheme};
 ghost use Rattle.slh_trees.specs.Checking.{signature_size};
 ghost use Rattle.slh_trees.specs.Keys.{IsTrueKey};
-ghost use Rattle.slh_manifest.specs.Building.{manifest_of};
+ghost use Rattle.slh_dsa.specs.Calls.{is_valid};
+ghost use Rattle.slh_frames.specs.declared.frame.Mode.TheVariants.{Pure};
+ghost use Rattle.slh_manifest.specs.Building.{AreCalls, Call, manifest_of, ok_names};
 ghost use Rattle.slh_manifest.specs.Checking.{HasEntry, check_error, entries_of, is_manifest};
 ghost use Rattle.slh_manifest.specs.Checking.{IsFirst, HasOther, LacksEntry, entries_error};
-ghost use Rattle.slh_manifest.specs.Checking.{signature_part};
+ghost use Rattle.slh_manifest.specs.Checking.{manifest_refusal, signature_part};
 ghost use Rattle.slh_manifest.specs.Files.{Files};
-ghost use Rattle.slh_manifest.specs.Manifest.{HasForm, body_bytes};
+ghost use Rattle.slh_manifest.specs.Manifest.{HasForm, body_bytes, manifest_context};
 ghost use Rattle.slh_manifest.specs.declared.entry.Entry.{Entry as ManifestEntry};
 ghost use Rattle.slh_manifest.specs.declared.error.CheckError.{CheckError};
-ghost use Rattle.slh_manifest.specs.declared.error.CheckError.TheVariants.{Missing, Differs};
+ghost use Rattle.slh_manifest.specs.declared.error.CheckError.TheVariants.{Missing, Differs, Invalid};
 
 use crate::error::CheckError;
 use slh_dsa::ParameterSet;
@@ -81,3 +83,33 @@ pub fn sealed_is_accepted<P: ParameterSet>()
 {
     signed_is_accepted::<P>();
 }
+
+/// A manifest with a signature that was made elsewhere is judged by that signature: it is accepted
+/// over every store that has each of the names with these bytes where the signature is one of the
+/// body under the context `slh-manifest`, and refused as `Invalid` where it isn't.
+pub fn bodies_are_signed_elsewhere()
+    ensures accepted { (Z : Scheme) (key sig : List ℕ) (entries : List ManifestEntry)
+        (files : Files)
+        → HasForm entries
+        → length sig ≡ signature_size Z
+        → is_valid Z Pure key manifest_context (body_bytes entries) sig ≡ true
+        → AllByRecursion (HasEntry files) entries
+        → check_error Z key (body_bytes entries ++ sig) files ≡ None }
+    ensures invalid { (Z : Scheme) (key sig : List ℕ) (entries : List ManifestEntry)
+        → HasForm entries
+        → length sig ≡ signature_size Z
+        → is_valid Z Pure key manifest_context (body_bytes entries) sig ≡ false
+        → manifest_refusal Z key (body_bytes entries ++ sig) ≡ Some Invalid }
+{}
+
+/// After any calls of `add` to a new builder over a store with these files, whatever they answered,
+/// the entries have the names of the calls that answered Ok, in the order of the calls, and each is
+/// of the bytes that the store has under its name.
+pub fn calls_list_the_names()
+    ensures names { (files : Files) (calls : List Call) (new : List ManifestEntry)
+        → AreCalls files [] calls new
+        → map (λ entry. entry.name) new ≡ ok_names calls }
+    ensures entries { (files : Files) (calls : List Call) (new : List ManifestEntry)
+        → AreCalls files [] calls new
+        → AllByRecursion (HasEntry files) new }
+{}

@@ -63,7 +63,7 @@ mod memory;
 mod parts;
 mod store;
 
-pub use builder::Builder;
+pub use builder::{Builder, CONTEXT};
 pub use checker::EntryChecker;
 pub use checking::check;
 pub use entry::{Entry, MAX_ENTRIES, MAX_LEN, MAX_NAME};

@@ -1,11 +1,12 @@
 //! A store in memory. It numbers its reads from 0, and fails at those whose numbers it was given,
 //! so that a test can try each fault in turn.
 ghost use Rattle.std.specs.Prelude.{◌≡◌, ◌↔◌, ◌+◌, ◌^◌, Some, min, Contains, IsErr, is_ok};
-ghost use Rattle.std.specs.Prelude.{OnOk, OnErr, if◌then◌else◌};
+ghost use Rattle.std.specs.Prelude.{IfOk, OnOk, OnErr, if◌then◌else◌, length};
+ghost use Rattle.std.specs.Option.{option_map};
 ghost use Rattle.std.specs.FinMap as map;
 ghost use Rattle.line_serve.specs.Causes.{HasCause};
 ghost use Rattle.line_serve.specs.Memory.{one_more};
-ghost use Rattle.slh_manifest.specs.Files.{Reads, ReadsWithin};
+ghost use Rattle.slh_manifest.specs.Files.{Reads, ReadsWithin, bytes_of, read_count};
 ghost use Rattle.slh_manifest.specs.Memory.{store_faults, store_files, store_fails, store_number};
 
 use crate::store::{Store, copy_from};
@@ -66,6 +67,8 @@ impl Store for MemStore {
     fn read(&mut self, name: &[u8], at: u64, buf: &mut [u8]) -> Result<Option<usize>, Failed>
         ensures bound { ReadsWithin result buf.new }
         ensures bytes { Reads (Some (store_files self.old)) name.now at result buf.new }
+        ensures whole { IfOk result (λ answer. answer ≡ option_map
+            (read_count at (length buf.new)) (bytes_of (store_files self.old) name.now)) }
         ensures kept { Some (store_files self.new) ≡ Some (store_files self.old) }
         ensures cause { HasCause (store_faults self.old) (store_faults self.new) result }
         ensures listed { IsErr result ↔ Contains (store_fails self.old) (store_number self.old) }

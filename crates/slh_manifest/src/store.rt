@@ -2,6 +2,7 @@
 ghost use Rattle.std.specs.Prelude.{◌≡◌, ◌≤◌, Option, Some, ℕ, length};
 ghost use Rattle.line_serve.specs.Causes.{HasCause};
 ghost use Rattle.slh_manifest.specs.Files.{Files, Reads, ReadsFrom, ReadsWithin};
+ghost use Rattle.slh_manifest.specs.Files.{read_count};
 
 use line_serve::Failed;
 
@@ -27,6 +28,7 @@ pub trait Store {
 /// for a name that has these bytes.
 pub fn copy_from(bytes: &[u8], at: u64, buf: &mut [u8]) -> usize
     ensures bound { result ≤ length buf.new }
+    ensures count { result ≡ read_count at (length buf.new) bytes.now }
     ensures reads { ReadsFrom (Some bytes.now) at (Some result) buf.new }
 {
     if at >= bytes.len() as u64 {

@@ -8,3 +8,10 @@ mod Written
 mod Restored
 mod Adds
 mod Costs
+mod TextsBack
+mod Infos
+mod Firsts
+mod Calls
+mod Removes
+mod SetNames
+mod Got

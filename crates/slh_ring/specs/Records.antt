@@ -3,6 +3,7 @@
 use Rattle.std.specs.Prelude.{◌≡◌, ◌==◌, ℕ, zero, suc, ◌+◌, ◌*◌, ◌<◌, List, [], ◌∷◌, ◌++◌}
 use Rattle.std.specs.Prelude.{length, take, drop, map, codes, slice_index, slice_range}
 use Rattle.std.specs.Prelude.{Bool, true, ◌&&◌, nat_le, Option, None, Some}
+use Rattle.std.specs.Prelude.{if◌then◌else◌}
 use Rattle.std.specs.Int.{from_be_bytes, w16, w32}
 use Rattle.std.specs.List.{All}
 use Rattle.std.specs.Ordering.{is_lt}
@@ -123,3 +124,10 @@ has_form name bytes =
 -- the entries of a record
 abbrev pub recorded : List ℕ → List ℕ → List Entry
 recorded name bytes = entries_in (count_in name bytes) (body_in name bytes)
+
+-- the set's name that stands in bytes that begin as a record does, whatever follows it
+abbrev pub set_in : List ℕ → Option (List ℕ)
+set_in bytes =
+    let end = 6 + slice_index bytes 5 in
+    if nat_le end (length bytes) && bytes_eq (take 5 bytes) (codes "SLHR" ++ 1 ∷ [])
+    then Some (slice_range bytes 6 end) else None

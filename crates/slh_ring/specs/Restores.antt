@@ -1,6 +1,8 @@
 -- What restoring a ring answers. Z is the scheme, and NAME the parameter set's name.
-use Rattle.std.specs.Prelude.{◌≡◌, ◌⊎◌, ℕ, suc, ◌+◌, List, [], ◌∷◌, Option, None, Some}
+use Rattle.std.specs.Prelude.{◌≡◌, ◌≢◌, ◌⊎◌, ℕ, suc, ◌+◌, List, [], ◌∷◌, ◌++◌, length}
+use Rattle.std.specs.Prelude.{Option, None, Some}
 use Rattle.std.specs.Prelude.{Result, Ok, Err, IsOk, if◌then◌else◌}
+use Rattle.std.specs.List.{AllByRecursion}
 use Rattle.std.specs.Str.{bytes_eq}
 use Rattle.slh_core.specs.Parameters.{Scheme}
 use Rattle.slh_ring.specs.Keys.{key_tag}
@@ -14,6 +16,21 @@ first_mismatch Z name master i [] = None
 first_mismatch Z name master i (e ∷ es) =
     if bytes_eq e.tag (key_tag Z name master e.path)
     then first_mismatch Z name master (suc i) es else Some i
+
+-- the 8 bytes of an entry are those of its key
+abbrev pub HasOwnTag : Scheme → List ℕ → List ℕ → Entry → Type 0
+HasOwnTag Z name master entry = entry.tag ≡ key_tag Z name master entry.path
+
+-- those of entry number i aren't, and those of each before it are
+pub record IsFirstOther (Z : Scheme) (name master : List ℕ) (i : ℕ) (entries : List Entry)
+    : Type 0 where
+  pub before : List Entry
+  pub entry : Entry
+  pub later : List Entry
+  pub entries_are : entries ≡ before ++ entry ∷ later
+  pub number : length before ≡ i
+  pub each_before : AllByRecursion (HasOwnTag Z name master) before
+  pub other : entry.tag ≢ key_tag Z name master entry.path
 
 -- the paths, where there is no mismatch
 abbrev pub matching : Option ℕ → List (List ℕ) → Result (List (List ℕ)) RestoreError

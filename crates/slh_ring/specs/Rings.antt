@@ -1,16 +1,17 @@
 -- Rings: up to 64 paths in the order of their lists.
-use Rattle.std.specs.Prelude.{ℕ, ◌≤◌, List, [], ◌∷◌, length, Bool, nat_le}
-use Rattle.std.specs.Prelude.{Option, None, Some, if◌then◌else◌}
+use Rattle.std.specs.Prelude.{◌≡◌, ℕ, ◌≤◌, List, [], ◌∷◌, length, Bool, nat_le}
+use Rattle.std.specs.Prelude.{Option, None, Some, Result, Ok, Err, OnOk, OnErr, if◌then◌else◌}
 use Rattle.std.specs.BTreeSet.{insert_key}
+use Rattle.std.specs.Set.{remove_key}
 use Rattle.std.specs.Cmp.Lexicographic.{slice_cmp}
 use Rattle.std.specs.List.{All, list_any}
 use Rattle.std.specs.List.Sorted.{IsStrictlySortedBy}
 use Rattle.std.specs.Ordering.{is_eq, nat_cmp}
 use Rattle.std.specs.declared.cmp.Ordering.{Ordering}
-use Rattle.slh_trees.specs.Refusals.{first_refusal}
+use Rattle.slh_trees.specs.Refusals.{RefusedOrNoMemory, first_refusal}
 use Rattle.slh_ring.specs.Paths.{IsPath}
 use Rattle.slh_ring.specs.declared.error.RingError.{RingError}
-use Rattle.slh_ring.specs.declared.error.RingError.TheVariants.{Present, Full}
+use Rattle.slh_ring.specs.declared.error.RingError.TheVariants.{Present, Full, Memory}
 
 -- paths are ordered as lists
 abbrev pub path_cmp : List ℕ → List ℕ → Ordering
@@ -37,6 +38,10 @@ has_path paths path = list_any (same_path path) paths
 -- the paths with one more, at its place; with the same ones, where it is there
 abbrev pub with_path : List (List ℕ) → List ℕ → List (List ℕ)
 with_path = insert_key path_cmp
+
+-- the paths without one; the same ones, where it isn't there
+abbrev pub without_path : List (List ℕ) → List ℕ → List (List ℕ)
+without_path paths path = remove_key (same_path path) paths
 
 -- why a path isn't added: it is there, or there are 64 others
 abbrev pub present_refusal : List (List ℕ) → List ℕ → Option RingError
@@ -67,3 +72,29 @@ abbrev pub accepted : List (List ℕ) → List (List ℕ) → List (List ℕ)
 accepted paths [] = []
 accepted paths (p ∷ ps) =
     if_accepted (add_refusal paths p) p (accepted (added (add_refusal paths p) paths p) ps)
+
+-- a call of `add`: its path, and what it answered
+pub record Call : Type 0 where
+  pub path : List ℕ
+  pub result : Result (Unit {0}) RingError
+
+-- what the clauses of `add` say of a call
+pub record IsCall (old : List (List ℕ)) (call : Call) (new : List (List ℕ)) : Type 0 where
+  pub refusal : RefusedOrNoMemory Memory call.result (add_refusal old call.path)
+  pub added : OnOk call.result (new ≡ with_path old call.path)
+  pub same : OnErr call.result (new ≡ old)
+
+-- calls one after another, from some paths to others
+abbrev pub AreCalls : List (List ℕ) → List Call → List (List ℕ) → Type 0
+AreCalls old [] new = new ≡ old
+AreCalls old (call ∷ later) new =
+    (next : List (List ℕ)) × (IsCall old call next × AreCalls next later new)
+
+-- the paths of those that answered Ok
+abbrev pub if_ok : Result (Unit {0}) RingError → List ℕ → List (List ℕ) → List (List ℕ)
+if_ok (Ok answer) path later = path ∷ later
+if_ok (Err error) path later = later
+
+abbrev pub ok_paths : List Call → List (List ℕ)
+ok_paths [] = []
+ok_paths (call ∷ later) = if_ok call.result call.path (ok_paths later)

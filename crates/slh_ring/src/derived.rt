@@ -1,5 +1,6 @@
 //! The keys that a master secret and a path give, by HKDF (RFC 5869).
-ghost use Rattle.std.specs.Prelude.{◌≡◌, ◌+◌, ◌*◌, ◌^◌, ◌≤◌, length};
+ghost use Rattle.std.specs.Prelude.{◌≡◌, ◌+◌, ◌*◌, ◌^◌, ◌≤◌, drop, length, take};
+ghost use Rattle.sha256_lanes.specs.Sha256.{sha256};
 ghost use Rattle.slh_core.specs.Costs.{slh_keygen_cost};
 ghost use Rattle.slh_core.specs.Steps.{IsFresh};
 ghost use Rattle.slh_trees.specs.Keys.{IsTrueKey};
@@ -159,6 +160,20 @@ fn key_at<P: ParameterSet, L: Ledger>(
     SigningKey::slh_keygen_counted(sk_seed, sk_prf, pk_seed, steps).unwrap()
 }
 
+/// The 8 bytes that tell a key.
+pub(crate) fn tag_of<P: ParameterSet>(key: &SigningKey<P>) -> [u8; TAG_LEN]
+    ensures { result ≡ take 8 (sha256 (drop (2 * P.N.USIZE) key.now)) }
+{
+    chain_sizes::<P>();
+    let mut store = [0u8; 2 * MAX_N];
+    let public = &mut store[..2 * P::N::USIZE];
+    key.verifying_key().write_to(public);
+    let digest = Hash::hash(public);
+    let mut tag = [0u8; TAG_LEN];
+    tag.copy_from_slice(&digest[..TAG_LEN]);
+    tag
+}
+
 /// The 8 bytes that tell the key at a path.
 #[tactic(auto, unfolding(crate::specs::Keys::key_tag))]
 pub(crate) fn key_tag<P: ParameterSet, L: Ledger>(
@@ -169,13 +184,5 @@ pub(crate) fn key_tag<P: ParameterSet, L: Ledger>(
     ensures tag { result ≡ spec_key_tag P.scheme P.set_name master.now path.now }
     ensures cost { steps.new ≡ steps.old + slh_keygen_cost P.scheme }
 {
-    chain_sizes::<P>();
-    let key = key_at::<P, L>(master, path, steps);
-    let mut store = [0u8; 2 * MAX_N];
-    let public = &mut store[..2 * P::N::USIZE];
-    key.verifying_key().write_to(public);
-    let digest = Hash::hash(public);
-    let mut tag = [0u8; TAG_LEN];
-    tag.copy_from_slice(&digest[..TAG_LEN]);
-    tag
+    tag_of(&key_at::<P, L>(master, path, steps))
 }

@@ -57,11 +57,14 @@ mod entry;
 mod error;
 pub mod laws;
 mod path;
+mod recorded;
 mod records;
 mod ring;
 mod text;
 
 pub use derived::{derive, derive_counted};
+pub use entry::TAG_LEN;
 pub use error::{RestoreError, RingError};
-pub use path::Path;
-pub use ring::Ring;
+pub use path::{MAX_NUMBERS, Path};
+pub use recorded::{Record, RecordEntry, recorded_set};
+pub use ring::{MAX_PATHS, Ring};

@@ -8,7 +8,7 @@ use std::fmt;
 use std::marker::Model;
 
 /// The most numbers of a path.
-pub(crate) const MAX_NUMBERS: usize = 8;
+pub const MAX_NUMBERS: usize = 8;
 
 /// Where a key stands under a master secret: 0 to 8 numbers, as of a product, a year and a device.
 /// Clauses see it as the list of them.

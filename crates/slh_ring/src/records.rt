@@ -25,7 +25,7 @@ use std::marker::Brand;
 use std::sync::ledger::{Blank, Ledger};
 
 /// What a record begins with: four letters and the version.
-const MARK: &[u8; 5] = b"SLHR\x01";
+pub(crate) const MARK: &[u8; 5] = b"SLHR\x01";
 
 /// The most bytes of a record before the number of its paths.
 const MAX_HEAD_LEN: usize = 6 + 255;
@@ -126,13 +126,13 @@ fn are_entries(count: usize, bytes: &[u8]) -> bool
 
 /// How many entries a record has, and their bytes.
 #[derive(Drop)]
-struct Body<'a> {
-    count: usize,
-    entries: &'a [u8],
+pub(crate) struct Body<'a> {
+    pub(crate) count: usize,
+    pub(crate) entries: &'a [u8],
 }
 
-// Finds the entries of a record. `None`: the bytes haven't the form of one.
-fn read_record<'a>(name: &[u8], bytes: &'a [u8]) -> Option<Body<'a>>
+/// Finds the entries of a record. `None`: the bytes haven't the form of one.
+pub(crate) fn read_record<'a>(name: &[u8], bytes: &'a [u8]) -> Option<Body<'a>>
     requires { length name.now ≤ 255 }
     ensures form { IsSome result ↔ IsTrue (has_form name.now bytes.now) }
     ensures count { IfSome result (λ body. body.count ≡ count_in name.now bytes.now) }

@@ -1,7 +1,7 @@
 //! Rings: the paths of the keys that are in use.
 ghost use Rattle.std.specs.Prelude.{◌≡◌, ◌+◌, ◌<◌, ◌≤◌, [], length, slice_get, OnOk, OnErr};
 ghost use Rattle.std.specs.Option.{option_copied};
-ghost use Rattle.slh_ring.specs.Rings.{IsRing, add_refusal, with_path};
+ghost use Rattle.slh_ring.specs.Rings.{IsRing, add_refusal, has_path, with_path, without_path};
 ghost use Rattle.slh_trees.specs.Refusals.{RefusedOrNoMemory};
 ghost use Rattle.slh_ring.specs.declared.error.RingError.TheVariants.{Memory};
 
@@ -14,7 +14,7 @@ use std::fmt;
 use std::marker::{Model, PhantomData};
 
 /// The most paths of a ring.
-pub(crate) const MAX_PATHS: usize = 64;
+pub const MAX_PATHS: usize = 64;
 
 /// The paths of up to 64 keys of one parameter set. Clauses see it as the list of them, in order.
 #[derive(Drop)]
@@ -78,8 +78,23 @@ impl<P: ParameterSet> Ring<P> {
         }
     }
 
+    /// Whether a path is there.
+    pub fn contains(&self, path: &Path) -> bool
+        ensures { result ≡ has_path self.now path.now }
+    {
+        self.paths.contains(path)
+    }
+
+    /// Takes a path out, and says whether it was there.
+    pub fn remove(&mut self, path: &Path) -> bool
+        ensures found { result ≡ has_path self.old path.now }
+        ensures removed { self.new ≡ without_path self.old path.now }
+    {
+        self.paths.remove(path)
+    }
+
     /// The paths in order.
-    pub(crate) fn paths(&self) -> &BTreeSet<Path>
+    pub fn paths(&self) -> &BTreeSet<Path>
         ensures { result.now.keys ≡ self.now }
     {
         &self.paths

@@ -1,6 +1,6 @@
 //! Paths as text: decimal numbers between slashes, as `2/2026`, or `.` for the path of none.
 ghost use Rattle.std.specs.Prelude.{◌≡◌, ◌⊎◌, ◌≤◌, ◌++◌, length, take, codes, decimal};
-ghost use Rattle.std.specs.Prelude.{None, Some, MatchOption, OnOk};
+ghost use Rattle.std.specs.Prelude.{None, Some, MatchOption, OnOk, OnErr};
 ghost use Rattle.std.specs.List.{flat_map};
 ghost use Rattle.line_serve.specs.Decimals.{number_value};
 ghost use Rattle.slh_ring.specs.PathTexts.{all_numbers, is_dot, path_parts, path_text, path_value};
@@ -42,16 +42,31 @@ fn is_only_dot(text: &[u8]) -> bool
     text.len() == 1 && text[0] == b'.'
 }
 
-// Puts each number at the end of a text, behind a slash.
+// Puts each number at the end of a text, behind a slash. After an error a part of them is there.
 fn push_later(text: &mut ByteString, numbers: &[u32]) -> Result<(), AllocError>
-    ensures { OnOk result (text.new
+    ensures ok { OnOk result (text.new
         ≡ text.old ++ flat_map (λ number. codes "/" ++ decimal number) numbers.now) }
+    ensures front { take (length text.old) text.new ≡ text.old }
 {
     for number in numbers {
         text.push_slice(b"/")?;
         push_number(text, u64::from(*number))?;
     }
     Ok(())
+}
+
+// Puts the text of a path of these numbers at the end. After an error a part of it is there.
+fn push_numbers(text: &mut ByteString, numbers: &[u32]) -> Result<(), AllocError>
+    ensures ok { OnOk result (text.new ≡ text.old ++ path_text numbers.now) }
+    ensures front { take (length text.old) text.new ≡ text.old }
+{
+    match numbers {
+        [] => text.push_slice(b"."),
+        [first, later @ ..] => {
+            push_number(text, u64::from(*first))?;
+            push_later(text, later)
+        }
+    }
 }
 
 impl Path {
@@ -68,17 +83,16 @@ impl Path {
         Path::from_slice(&numbers[..count])
     }
 
-    /// Puts the path's text at the end, its numbers without leading zeros. After an error a part of
-    /// it is there.
+    /// Puts the path's text at the end, its numbers without leading zeros.
     pub fn push_to(&self, text: &mut ByteString) -> Result<(), AllocError>
-        ensures { OnOk result (text.new ≡ text.old ++ path_text self.now) }
+        ensures ok { OnOk result (text.new ≡ text.old ++ path_text self.now) }
+        ensures err { OnErr result (text.new ≡ text.old) }
     {
-        match self.as_slice() {
-            [] => text.push_slice(b"."),
-            [first, later @ ..] => {
-                push_number(text, u64::from(*first))?;
-                push_later(text, later)
-            }
+        let len = text.len();
+        let pushed = push_numbers(text, self.as_slice());
+        if pushed.is_err() {
+            text.truncate(len);
         }
+        pushed
     }
 }
