@@ -51,7 +51,14 @@ fn manifest() -> Group {
                         which is missing, differs or is unnamed (1)",
                 example: "Example:\n    \
                           slh manifest check --key release.pub --manifest folder.manifest folder",
-                words: &[VERIFYING_KEY, KEY_TEXT, ROOT_CHAIN, MANIFEST_FILE, STRICT, FOLDER],
+                words: &[
+                    VERIFYING_KEY,
+                    KEY_TEXT,
+                    ROOT_CHAIN,
+                    MANIFEST_FILE,
+                    STRICT,
+                    FOLDER,
+                ],
             },
         ],
     }

@@ -1,7 +1,5 @@
 //! `slh manifest`: one signature for the files of a folder.
-use crate::arguments::{
-    Randomness, check_inputs, check_output, required, signing_key, tell,
-};
+use crate::arguments::{Randomness, check_inputs, check_output, required, signing_key, tell};
 use crate::chains::acting_key;
 use crate::failure::Failure;
 use crate::folder::{Folder, Found, names_below};

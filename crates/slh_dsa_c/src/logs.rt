@@ -16,7 +16,8 @@ use slh_dsa::{
     ParameterSet, Sha2_128f, Sha2_128s, Sha2_192f, Sha2_192s, Sha2_256f, Sha2_256s, VerifyingKey,
 };
 use slh_log::{
-    Checkpoint, GrowthError, OpenError, PresenceError, check_growth, check_presence, open_in, text_of,
+    Checkpoint, GrowthError, OpenError, PresenceError, check_growth, check_presence, open_in,
+    text_of,
 };
 use slh_sets::Set;
 

@@ -20,11 +20,7 @@ pub trait SmallSuite: HashSuite {
         ensures { small_seed result ≡ pk_seed.now };
 
     /// F: the hash of one value.
-    fn small_f<A: Address>(
-        keyed: &Self::Small,
-        adrs: &A,
-        m: &NBytes<Self::N>,
-    ) -> NBytes<Self::N>
+    fn small_f<A: Address>(keyed: &Self::Small, adrs: &A, m: &NBytes<Self::N>) -> NBytes<Self::N>
         ensures { result ≡ Self.suite.f (small_seed keyed.now) (A.bytes adrs.now) m.now };
 
     /// H: the hash of a left and a right value.
