@@ -101,5 +101,5 @@ last_is H tiles q row height count are few is odd size places fits =
     let j = (count - 1) * p + x in
     let rest : j % 256 ≡ (count - 1) * p % 256 + x = omega (arith, fits, small) in
     places x small ∙ ap (λ k. get_or tiles.hashes (256 * l + k) []) (sym rest)
-    ∙ are.hashes l j (omega (arith, few)) (omega (arith, within, split, small)) (last_tile_has r count m x low by_m odd small))
+    ∙ are.hashes l (omega (arith, few)) j (omega (arith, within, split, small)) (last_tile_has r count m x low by_m odd small))
     ∙ ap (λ h. run_root H h (count - 1) q) (sym parts)
