@@ -18,6 +18,11 @@ abbrev pub tile_hashes : HashFunction → ℕ → ℕ → ℕ → List (List ℕ
 tile_hashes H level index width q =
     map (level_hash H level q) (range_with_len (256 * index) width)
 
+-- the hashes of a tile that stand under the root over run `index` of 2^height digests
+abbrev pub hashes_under : HashFunction → ℕ → ℕ → List (List ℕ) → List (List ℕ)
+hashes_under H height index q =
+    map (level_hash H (height / 8) q) (range_with_len (index * 2 ^ (height % 8)) (2 ^ (height % 8)))
+
 -- the bytes of a tile's file
 abbrev pub tile_bytes : HashFunction → ℕ → ℕ → ℕ → List (List ℕ) → List ℕ
 tile_bytes H level index width q = flat_map (λ hash. hash) (tile_hashes H level index width q)
