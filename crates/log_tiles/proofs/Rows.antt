@@ -3,7 +3,7 @@ use Rattle.std.proofs.Common.{◌≡◌, ◌≢◌, ℕ, zero, suc, ◌+◌, ◌
 use Rattle.std.proofs.Math.Nat.{div-div-eq-div-mul}
 use Rattle.std.proofs.lemmas.Nat.{div-mul-add, pow_pos, pow-add}
 use Rattle.std.proofs.lemmas.Bool.{cases_lt}
-use Rattle.std.proofs.lemmas.List.{ext_get_or, get_or-set_same, get_or-set_other, get_or-take, get_or-drop, drop_at}
+use Rattle.std.proofs.lemmas.List.{ext_get_or, get_or-append-add, get_or_append_left, get_or-set_same, get_or-set_other, get_or-take, get_or-drop, drop_at}
 use Rattle.std.proofs.lemmas.List.FromFn.{get_or-map-range_with_len, length-map-range_with_len}
 use Rattle.merkle_tree.proofs.Growing.{differ, same}
 use Rattle.merkle_tree.proofs.Splitting.{one_leaf}
@@ -11,7 +11,7 @@ use Rattle.merkle_tree.specs.Hashes.{HashFunction}
 use Rattle.merkle_tree.specs.Tree.{tree_root}
 use Rattle.merkle_store.specs.Nodes.{run_root}
 use Rattle.log_tiles.proofs.Runs.{row_root, run_inside, run_same}
-use Rattle.log_tiles.specs.Tiles.{AreTilesOf, Tiles, full_within, hash_count, last_width, level_hash, tile_hashes}
+use Rattle.log_tiles.specs.Tiles.{AreTilesOf, IsLastTile, Tiles, full_within, hash_count, last_width, level_hash, tile_hashes}
 
 -- the hashes of the last tile of a level are in their places
 abbrev pub IsRow : HashFunction → List (List ℕ) → List (List ℕ) → ℕ → ℕ → Type 0
@@ -43,7 +43,7 @@ count_above c at p r some ends not_full =
 pub start : (H : HashFunction) (tiles : Tiles) (q : List (List ℕ)) (d : List ℕ) → AreTilesOf H tiles q → IsCarried H tiles.hashes q d 0
 start H tiles q d are = record {
   low = λ l below. absurd (omega (arith, below));
-  high = λ l _ few i inside last. are.hashes l i few inside last;
+  high = λ l _ few i inside last. are.hashes l few i inside last;
 }
 
 -- places of two levels are apart
@@ -127,7 +127,7 @@ finish H hashes q d level at ends stopped carried =
     let long : length (q ++ d ∷ []) ≡ length q + 1 = length-append q (d ∷ []) in
     record {
       count = sym long;
-      hashes = λ l i few. rw long (elim (cases_lt l (level + 1)) [
+      hashes = λ l few i. rw long (elim (cases_lt l (level + 1)) [
         | inl low ↦ λ inside last. carried.low l low i inside last
         | inr high ↦ λ inside last.
             let above = l - (level + 1) in
@@ -211,5 +211,47 @@ last_hashes H tiles q level are few room =
     let rest : i % 256 ≡ x = omega (arith, some.1) in
     get_or-take w front x [] small ∙ get_or-drop (256 * level) tiles.hashes x []
     ∙ ap (λ r. get_or tiles.hashes (256 * level + r) []) (sym rest)
-    ∙ are.hashes level i few (omega (arith, some.0, some.1)) (omega (arith, some.1))
+    ∙ are.hashes level few i (omega (arith, some.0, some.1)) (omega (arith, some.1))
     ∙ sym (get_or-map-range_with_len f (256 * index) w x i [] small refl))
+
+-- a tile that is put in its places
+pub put_is : (H : HashFunction) (tiles : Tiles) (q row : List (List ℕ)) (level : ℕ) → length row ≡ last_width (hash_count level (length q))
+    → row ≡ tile_hashes H level ((hash_count level (length q) - 1) / 256) (last_width (hash_count level (length q))) q
+    → ((x : ℕ) → x < length row → get_or tiles.hashes (256 * level + x) [] ≡ get_or row x [])
+    → IsLastTile H tiles q level
+put_is H tiles q row level size is placed = λ i inside last.
+    let m = hash_count level (length q) in
+    let w = last_width m in
+    let x = i % 256 in
+    let width : w ≡ (m - 1) % 256 + 1 = ap (λ b. cond b 0 ((m - 1) % 256 + 1)) (differ m 0 (λ e. omega (arith, e, inside))) in
+    let small : x < w = omega (arith, width, inside, last) in
+    placed x (omega (arith, small, size)) ∙ ap (λ l. get_or l x []) is
+    ∙ get_or-map-range_with_len (level_hash H level q) (256 * ((m - 1) / 256)) w x i [] small (omega (arith, last))
+
+-- a part of a list that is written over
+pub part_here : (a k x : ℕ) (xs ys : List (List ℕ)) → a ≤ length xs → x < length ys
+    → get_or (take a xs ++ (ys ++ drop k (drop a xs))) (a + x) [] ≡ get_or ys x []
+part_here a k x xs ys inside small =
+    let front : length (take a xs) ≡ a = omega (arith, length-take a xs, inside) in
+    let rest = ys ++ drop k (drop a xs) in
+    ap (λ n. get_or (take a xs ++ rest) (n + x) []) (sym front) ∙ get_or-append-add (take a xs) rest x []
+    ∙ get_or_append_left ys (drop k (drop a xs)) [] x small
+
+pub part_before : (a k n : ℕ) (xs ys : List (List ℕ)) → a ≤ length xs → n < a
+    → get_or (take a xs ++ (ys ++ drop k (drop a xs))) n [] ≡ get_or xs n []
+part_before a k n xs ys inside small =
+    get_or_append_left (take a xs) (ys ++ drop k (drop a xs)) [] n (omega (arith, length-take a xs, inside, small))
+    ∙ get_or-take a xs n [] small
+
+pub part_behind : (a k n : ℕ) (xs ys : List (List ℕ)) → a ≤ length xs → length ys ≡ k → a + k ≤ n
+    → get_or (take a xs ++ (ys ++ drop k (drop a xs))) n [] ≡ get_or xs n []
+part_behind a k n xs ys inside size far =
+    let front : length (take a xs) ≡ a = omega (arith, length-take a xs, inside) in
+    let j = n - (a + k) in
+    let rest = ys ++ drop k (drop a xs) in
+    let first : n ≡ length (take a xs) + (k + j) = omega (arith, front, far) in
+    let second : k + j ≡ length ys + j = omega (arith, size) in
+    let back : a + (k + j) ≡ n = omega (arith, far) in
+    ap (λ m. get_or (take a xs ++ rest) m []) first ∙ get_or-append-add (take a xs) rest (k + j) []
+    ∙ ap (λ m. get_or rest m []) second ∙ get_or-append-add ys (drop k (drop a xs)) j []
+    ∙ get_or-drop k (drop a xs) j [] ∙ get_or-drop a xs (k + j) [] ∙ ap (λ m. get_or xs m []) back

@@ -1,13 +1,14 @@
 -- Runs of hashes of a tile: where they stand, and what the roots over them are.
-use Rattle.std.proofs.Common.{◌≡◌, ℕ, ◌+◌, ◌-◌, ◌*◌, ◌/◌, ◌%◌, ◌^◌, ◌<◌, ◌≤◌, List, [], length, get_or, sym, ap, ◌∙◌, arith}
+use Rattle.std.proofs.Common.{◌≡◌, ℕ, ◌+◌, ◌-◌, ◌*◌, ◌/◌, ◌%◌, ◌^◌, ◌<◌, ◌≤◌, List, [], length, get_or, refl, sym, ap, ◌∙◌, arith}
 use Rattle.std.proofs.Math.Nat.{div-div-eq-div-mul, div-mul-le_self, mod-eq_of_lt, mod-lt}
 use Rattle.std.proofs.Math.Pow.{pow-lt}
 use Rattle.std.proofs.lemmas.Nat.{div-add-mod', div-mul-add, pow_pos, pow-add}
+use Rattle.std.proofs.lemmas.List.FromFn.{get_or-map-range_with_len, length-map-range_with_len}
 use Rattle.merkle_tree.specs.Hashes.{HashFunction}
 use Rattle.merkle_tree.specs.Tree.{tree_root}
 use Rattle.merkle_store.specs.Nodes.{run_root}
 use Rattle.log_tiles.proofs.Runs.{row_root}
-use Rattle.log_tiles.specs.Tiles.{AreTilesOf, Tiles}
+use Rattle.log_tiles.specs.Tiles.{AreTilesOf, Tiles, hashes_under, level_hash}
 
 -- what a shift gives
 pub shifted : (r : ℕ) → r < 8 → 1 * 2 ^ r % 18446744073709551616 ≡ 2 ^ r
@@ -101,5 +102,33 @@ last_is H tiles q row height count are few is odd size places fits =
     let j = (count - 1) * p + x in
     let rest : j % 256 ≡ (count - 1) * p % 256 + x = omega (arith, fits, small) in
     places x small ∙ ap (λ k. get_or tiles.hashes (256 * l + k) []) (sym rest)
-    ∙ are.hashes l j (omega (arith, few)) (omega (arith, within, split, small)) (last_tile_has r count m x low by_m odd small))
+    ∙ are.hashes l (omega (arith, few)) j (omega (arith, within, split, small)) (last_tile_has r count m x low by_m odd small))
     ∙ ap (λ h. run_root H h (count - 1) q) (sym parts)
+
+-- the root over a run, from the hashes under it
+pub under_is : (H : HashFunction) (height i : ℕ) (q row : List (List ℕ)) → (i + 1) * 2 ^ height ≤ length q
+    → row ≡ hashes_under H height i q → tree_root H row ≡ run_root H height i q
+under_is H height i q row inside is =
+    let l = height / 8 in
+    let r = height % 8 in
+    let p = 2 ^ r in
+    let f = level_hash H l q in
+    let parts : height ≡ 8 * l + r = omega arith in
+    let within : (i + 1) * 2 ^ (8 * l + r) ≤ length q = rw (← parts) inside in
+    let size : length row ≡ p = ap length is ∙ length-map-range_with_len f (i * p) p in
+    row_root H (8 * l) r i q row within size (λ x small.
+    ap (λ (k : List (List ℕ)). get_or k x []) is ∙ get_or-map-range_with_len f (i * p) p x (i * p + x) [] small refl)
+    ∙ ap (λ h. run_root H h i q) (sym parts)
+
+-- which tile has them
+pub tile_of_span : (x r : ℕ) → r < 8 → x / (256 / 2 ^ r) ≡ x * 2 ^ r / 256
+tile_of_span x r few =
+    let p = 2 ^ r in
+    let s = 2 ^ (8 - r) in
+    let a = x / s in
+    let y = x % s in
+    let split : x ≡ a * s + y = sym (div-add-mod' x s) in
+    let room : y * p + p ≤ s * p = span_room y s p (mod-lt x (pow_pos (8 - r))) in
+    let product : x * p ≡ a * (s * p) + y * p = ap (λ n. n * p) split ∙ omega arith in
+    let places : x * p ≡ a * 256 + y * p = product ∙ ap (λ n. a * n + y * p) (whole_spans r few) in
+    rw (spans_in r few) (omega (arith, places, room, whole_spans r few, pow_pos r))

@@ -14,7 +14,8 @@ group_text n = if n == 0 then [] else codes "x" ++ three_digits (n % 1000) ++ co
 
 -- an index below 1000^7 by groups of three digits, without those that have zeros alone on the left
 abbrev pub index_text : ℕ → List ℕ
-index_text index = flat_map (λ power. group_text (index / power)) POWERS ++ three_digits (index % 1000)
+index_text index =
+    flat_map (λ power. group_text (index / power)) POWERS ++ three_digits (index % 1000)
 
 -- what a name ends with that isn't that of a full file
 abbrev pub width_text : ℕ → List ℕ

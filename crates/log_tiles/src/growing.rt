@@ -1,9 +1,13 @@
 //! The tiles of a log that grows, in memory of a fixed size.
-ghost use Rattle.std.specs.Prelude.{◌≡◌, ◌+◌, ◌-◌, ◌/◌, ◌%◌, ◌^◌, ◌<◌, ◌≤◌, ℕ, List, [], ◌∷◌, ◌++◌};
+ghost use Rattle.std.specs.Bool.{OnFalse};
+ghost use Rattle.std.specs.Prelude.{◌≡◌, ◌≢◌, ◌↔◌, ◌+◌, ◌-◌, ◌/◌, ◌%◌, ◌^◌, ◌<◌, ◌≤◌};
+ghost use Rattle.std.specs.Prelude.{ℕ, List, [], ◌∷◌, ◌++◌, IsTrue, length};
+ghost use Rattle.log_tiles.specs.Tiles.{IsLastTile, last_hashes};
 ghost use Rattle.merkle_store.specs.Nodes.{run_root};
 ghost use Rattle.merkle_tree.specs.Tree.{tree_root};
 ghost use Rattle.log_tiles.specs.Tiles.{AreTilesOf, full_levels, hash_count as spec_hash_count};
-ghost use Rattle.log_tiles.specs.Tiles.{last_bytes as spec_last_bytes, last_width as spec_last_width};
+ghost use Rattle.log_tiles.specs.Tiles.{last_bytes as spec_last_bytes};
+ghost use Rattle.log_tiles.specs.Tiles.{last_width as spec_last_width};
 
 use crate::shape::hash_count;
 use crate::span::span_under;
@@ -50,6 +54,39 @@ impl<H: TreeHash> GrowingTiles<H> {
             count: 0,
             hash: PhantomData,
         }
+    }
+
+    /// The tiles over so many digests before their hashes are put: `put_tile` takes each level's.
+    pub fn resume(count: u64) -> Self
+        ensures { result.count ≡ count }
+    {
+        GrowingTiles {
+            hashes: [[0; DIGEST_LEN]; PLACES],
+            count,
+            hash: PhantomData,
+        }
+    }
+
+    /// Puts the hashes of the last tile of a level in their places, as they were kept. They are
+    /// believed: others show as another root. False where they are more or fewer than it has.
+    pub fn put_tile(&mut self, level: u32, hashes: &[[u8; DIGEST_LEN]]) -> bool
+        requires { level < 8 }
+        ensures len { IsTrue result
+            ↔ (length hashes.now ≡ spec_last_width (spec_hash_count level self.old.count)) }
+        ensures tile { IsTrue result → (q : List (List ℕ)) → length q ≡ self.old.count
+            → hashes.now ≡ last_hashes H.hash level q → IsLastTile H.hash self.new q level }
+        ensures others { (q : List (List ℕ)) (other : ℕ) → other ≢ level
+            → IsLastTile H.hash self.old q other → IsLastTile H.hash self.new q other }
+        ensures count { self.new.count ≡ self.old.count }
+        ensures refused { OnFalse result (self.new ≡ self.old) }
+    {
+        let width = self.last_width(level);
+        if hashes.len() != width {
+            return false;
+        }
+        let start = WIDTH * level as usize;
+        self.hashes[start..start + width].copy_from_slice(hashes);
+        true
     }
 
     /// How many digests there are.

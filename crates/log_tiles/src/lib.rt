@@ -7,13 +7,18 @@
 //!
 //! [`GrowingTiles`] adds digests one at a time, keeps the last tile of each level, 64 KiB in all,
 //! and says which tiles became full. The root over all digests is made of them.
+//!
+//! [`node_place`] says which hashes of which tile stand under any root over a whole run, and
+//! [`node_root`] makes it of them.
 #![tactic(auto)]
 
 mod growing;
 mod names;
+mod node;
 mod shape;
 mod span;
 
 pub use growing::{GrowingTiles, LEVELS};
 pub use names::{Bundle, FULL, Tile};
+pub use node::{NodePlace, node_place, node_root};
 pub use shape::{hash_count, is_piece, last_bundle, last_tile};

@@ -103,7 +103,8 @@ impl Bundle {
 
     /// Its name below the log's folder. A bundle that isn't full has its width in its name.
     pub fn path(&self, alloc: Global) -> Result<String, AllocError>
-        ensures { IfOk result (λ text. string_bytes text ≡ bundle_path self.now.index self.now.width) }
+        ensures { IfOk result (λ text. string_bytes text
+            ≡ bundle_path self.now.index self.now.width) }
     {
         let mut text = format!(in alloc; "tile/entries/")?;
         push_index(&mut text, self.index)?;
