@@ -22,7 +22,7 @@ fn ring_text<P: ParameterSet>(alloc: Global, ring: &Ring<P>) -> Result<ByteStrin
     let mut text = ByteString::from_slice(alloc, b"ring")?;
     for i in 0..ring.len() {
         let Some(path) = ring.get(i) else {
-            return Err(LineError::Memory);
+            unreachable!()
         };
         text.push_slice(b" ")?;
         path.push_to(&mut text)?;

@@ -5,3 +5,4 @@ pub mod Requests
 pub mod Reply
 pub mod Usage
 pub mod Bench
+pub mod EvidenceNumbers

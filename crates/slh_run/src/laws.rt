@@ -1,6 +1,10 @@
-//! What benches report, and what tells refusals apart, as contracts.
-ghost use Rattle.std.specs.Prelude.{◌≡◌, ℕ, List};
+//! What benches report, and how evidence is read back, as contracts.
+ghost use Rattle.std.specs.Prelude.{◌≡◌, ℕ, List, Some};
+ghost use Rattle.line_serve.specs.Fields.{fields};
+ghost use Rattle.slh_audit.specs.declared.evidence.Evidence.{Evidence};
 ghost use Rattle.slh_run.specs.Bench.{accepted_count};
+ghost use Rattle.slh_run.specs.EvidenceNumbers.{HasNumbers};
+ghost use Rattle.slh_run.specs.EvidenceWords.{evidence_in, evidence_text};
 ghost use Rattle.slh_sets.specs.Sets.{scheme_for};
 
 use slh_dsa::ParameterSet;
@@ -33,3 +37,10 @@ pub fn bench_accepts_all(set: Set)
 {
     set.run(AcceptsAll);
 }
+
+/// The evidence that is printed is read back from the words of its text, whose numbers are those of
+/// the code: who has what an audit printed can send it to a check.
+pub fn evidence_is_read_back()
+    ensures { (evidence : Evidence) → HasNumbers evidence
+        → evidence_in (fields (evidence_text evidence)) ≡ Some evidence }
+{}
