@@ -3,7 +3,8 @@
  * functions that the library wants, and nothing else. `image.h` has a key, an image and a signature
  * of it, as a boot loader finds them in flash. The status, by the one system call that it makes, is
  * 0 where the image is accepted and the same image with a bit changed is not. It verifies twice, by
- * slh_dsa_sha2_verdict, or once by the call of one set, where ONE_SET names it.
+ * slh_dsa_sha2_verdict, or once by the call of one set, where ONE_SET names it, or PURE_SET one that
+ * takes no mode.
  */
 #include "image.h"
 #include "slh_dsa_inline.h"
@@ -51,7 +52,12 @@ void *memset(void *at, int byte, size_t count)
 
 static slh_dsa_verdict verdict(void)
 {
-#ifdef ONE_SET
+#if defined(PURE_SET)
+    return PURE_SET(public_key, image, sizeof image, CONTEXT, CONTEXT_BYTES, signature)
+                   == SLH_DSA_OK
+               ? SLH_DSA_VERDICT_ACCEPTED
+               : SLH_DSA_VERDICT_REFUSED;
+#elif defined(ONE_SET)
     return ONE_SET(SLH_DSA_PURE, public_key, image, sizeof image, CONTEXT, CONTEXT_BYTES,
                    signature) == SLH_DSA_OK
                ? SLH_DSA_VERDICT_ACCEPTED

@@ -15,11 +15,17 @@ typedef slh_dsa_status verify_in_set(slh_dsa_mode mode, const uint8_t *verifying
                                      const uint8_t *context, size_t context_bytes,
                                      const uint8_t *signature);
 
+/* The same for the mode pure alone. */
+typedef slh_dsa_status verify_pure_in_set(const uint8_t *verifying_key, const uint8_t *message,
+                                          size_t message_bytes, const uint8_t *context,
+                                          size_t context_bytes, const uint8_t *signature);
+
 struct parameters {
     const char *name;
     slh_dsa_set set;
     size_t seeds, key, public_key, randomizer, signature;
     verify_in_set *verify, *verify_small;
+    verify_pure_in_set *verify_pure_small;
 };
 
 #define PARAMETERS(name, digits, set) \
@@ -28,7 +34,8 @@ struct parameters {
             SLH_DSA_SHA2_##digits##_SIGNING_KEY_BYTES, \
             SLH_DSA_SHA2_##digits##_VERIFYING_KEY_BYTES, \
             SLH_DSA_SHA2_##digits##_RANDOMIZER_BYTES, SLH_DSA_SHA2_##digits##_SIGNATURE_BYTES, \
-            slh_dsa_sha2_##set##_verify, slh_dsa_sha2_##set##_verify_small \
+            slh_dsa_sha2_##set##_verify, slh_dsa_sha2_##set##_verify_small, \
+            slh_dsa_sha2_##set##_verify_pure_small \
     }
 
 static const struct parameters SETS[] = {
@@ -117,6 +124,9 @@ static int is_of_its_mode_alone(const struct parameters *p, const struct job *jo
                           signature) == wanted;
         good &= p->verify_small(mode, public_key, message, length, context, context_length,
                                 signature) == wanted;
+        if (mode == SLH_DSA_PURE)
+            good &= p->verify_pure_small(public_key, message, length, context, context_length,
+                                         signature) == wanted;
     }
     return good;
 }

@@ -115,6 +115,20 @@ static void *verify_small(void *unused)
     return unused;
 }
 
+/* The signature is one of another mode, which is told at the end. */
+static void *verify_pure_small(void *unused)
+{
+    static slh_dsa_status (*const calls[])(const uint8_t *, const uint8_t *, size_t, const uint8_t *,
+                                           size_t, const uint8_t *) = {
+        slh_dsa_sha2_128s_verify_pure_small, slh_dsa_sha2_128f_verify_pure_small,
+        slh_dsa_sha2_192s_verify_pure_small, slh_dsa_sha2_192f_verify_pure_small,
+        slh_dsa_sha2_256s_verify_pure_small, slh_dsa_sha2_256f_verify_pure_small};
+
+    want(calls[set - 1](public_key, message, sizeof message, empty, 1, signature),
+         SLH_DSA_INVALID);
+    return unused;
+}
+
 static void *check_key(void *unused)
 {
     want(slh_dsa_sha2_check_key(set, key, 4 * n), SLH_DSA_OK);
@@ -328,6 +342,7 @@ int main(void)
     good &= is_within("verify in pieces", verify_pieces, SLH_DSA_VERIFY_STACK_BYTES);
     good &= is_within("sign in pieces", sign_pieces, SLH_DSA_SIGN_STACK_BYTES);
     good &= is_within("verify_small", verify_small, SLH_DSA_VERIFY_STACK_BYTES);
+    good &= is_within("verify_pure_small", verify_pure_small, SLH_DSA_VERIFY_STACK_BYTES);
     good &= is_within("check_key", check_key, SLH_DSA_KEYGEN_STACK_BYTES);
     good &= is_within("audit", audit, SLH_DSA_AUDIT_STACK_BYTES);
     good &= is_within("check_evidence", check_evidence, SLH_DSA_CHECK_EVIDENCE_STACK_BYTES);

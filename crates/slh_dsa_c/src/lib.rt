@@ -34,6 +34,7 @@ mod update_tests;
 mod verify;
 mod verify_pieces;
 mod verify_set;
+mod verify_small;
 
 pub use audit::{slh_dsa_sha2_audit, slh_dsa_sha2_check_evidence};
 pub use batches::{CBatchHead, slh_batch_accept, slh_batch_accept_under, slh_batch_open};
@@ -57,8 +58,14 @@ pub use verify_pieces::{
     CVerifier, slh_dsa_sha2_verify_begin, slh_dsa_sha2_verify_finish, slh_dsa_sha2_verify_update,
 };
 pub use verify_set::{
-    slh_dsa_sha2_128f_verify, slh_dsa_sha2_128f_verify_small, slh_dsa_sha2_128s_verify,
-    slh_dsa_sha2_128s_verify_small, slh_dsa_sha2_192f_verify, slh_dsa_sha2_192f_verify_small,
-    slh_dsa_sha2_192s_verify, slh_dsa_sha2_192s_verify_small, slh_dsa_sha2_256f_verify,
-    slh_dsa_sha2_256f_verify_small, slh_dsa_sha2_256s_verify, slh_dsa_sha2_256s_verify_small,
+    slh_dsa_sha2_128f_verify, slh_dsa_sha2_128s_verify, slh_dsa_sha2_192f_verify,
+    slh_dsa_sha2_192s_verify, slh_dsa_sha2_256f_verify, slh_dsa_sha2_256s_verify,
+};
+pub use verify_small::{
+    slh_dsa_sha2_128f_verify_pure_small, slh_dsa_sha2_128f_verify_small,
+    slh_dsa_sha2_128s_verify_pure_small, slh_dsa_sha2_128s_verify_small,
+    slh_dsa_sha2_192f_verify_pure_small, slh_dsa_sha2_192f_verify_small,
+    slh_dsa_sha2_192s_verify_pure_small, slh_dsa_sha2_192s_verify_small,
+    slh_dsa_sha2_256f_verify_pure_small, slh_dsa_sha2_256f_verify_small,
+    slh_dsa_sha2_256s_verify_pure_small, slh_dsa_sha2_256s_verify_small,
 };

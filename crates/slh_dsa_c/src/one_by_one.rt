@@ -1,5 +1,6 @@
 //! A parameter set whose suite hashes one value after the other, for small code.
-ghost use Rattle.std.specs.Prelude.{◌≡◌, ◌+◌, ◌*◌, ◌≤◌, ◌++◌, length};
+ghost use Rattle.std.specs.Prelude.{◌≡◌, ◌+◌, ◌*◌, ◌≤◌, ◌++◌, length, refl};
+ghost use Rattle.slh_core.specs.Suite.{seeded};
 
 use slh_core::address::Address;
 use slh_core::nbytes::NBytes;
@@ -7,72 +8,77 @@ use slh_core::params::{ForsParams, HypertreeParams, WotsParams, XmssParams};
 use slh_core::steps::Steps;
 use slh_core::suite::HashSuite;
 use slh_dsa::ParameterSet;
+use slh_hash::SmallSuite;
 use std::marker::PhantomData;
 use std::sync::ledger::Ledger;
 
-/// The set, with the functions of many values left to the trait's own bodies. Its values, and so its
-/// scheme, are the set's. What hashes a value is a call and never in line: the code of SHA-2 stands
-/// in a program once.
-pub struct OneByOne<P: ParameterSet> {
+/// The set, by the functions of its suite in little code, with those of many values left to the
+/// trait's own bodies. Its values, and so its scheme, are the set's. What hashes a value is a call and
+/// never in line: the code of SHA-2 stands in a program once.
+pub struct OneByOne<P: ParameterSet + SmallSuite> {
     set: PhantomData<P>,
 }
 
-impl<P: ParameterSet> HashSuite for OneByOne<P> {
+impl<P: ParameterSet + SmallSuite> HashSuite for OneByOne<P> {
     type N = P::N;
 
     type M = P::M;
 
-    type Keyed = P::Keyed;
+    type Keyed = <P as SmallSuite>::Small;
 
     ghost suite = { P.suite };
 
-    ghost seed_of = { P.seed_of };
+    ghost seed_of = { P.small_seed };
 
-    ghost keyed_suite = { P.keyed_suite };
+    ghost keyed_suite = { λ keyed. seeded P.suite P.N.USIZE (P.small_seed keyed) };
 
-    fn keyed(pk_seed: &NBytes<P::N>) -> P::Keyed {
-        P::keyed(pk_seed)
+    fn keyed(pk_seed: &NBytes<P::N>) -> <P as SmallSuite>::Small {
+        P::small_keyed(pk_seed)
     }
 
     #[inline(never)]
     fn f<A: Address, L: Ledger>(
-        keyed: &P::Keyed,
+        keyed: &<P as SmallSuite>::Small,
         adrs: &A,
         m: &NBytes<P::N>,
         steps: &mut Steps<L>,
     ) -> NBytes<P::N> {
-        P::f(keyed, adrs, m, steps)
+        steps.tick();
+        P::small_f(keyed, adrs, m)
     }
 
     #[inline(never)]
     fn h<A: Address, L: Ledger>(
-        keyed: &P::Keyed,
+        keyed: &<P as SmallSuite>::Small,
         adrs: &A,
         m1: &NBytes<P::N>,
         m2: &NBytes<P::N>,
         steps: &mut Steps<L>,
     ) -> NBytes<P::N> {
-        P::h(keyed, adrs, m1, m2, steps)
+        steps.tick();
+        P::small_h(keyed, adrs, m1, m2)
     }
 
     #[inline(never)]
     fn t<A: Address, L: Ledger>(
-        keyed: &P::Keyed,
+        keyed: &<P as SmallSuite>::Small,
         adrs: &A,
         m: &[u8],
         steps: &mut Steps<L>,
     ) -> NBytes<P::N> {
-        P::t(keyed, adrs, m, steps)
+        steps.tick();
+        P::small_t(keyed, adrs, m)
     }
 
     #[inline(never)]
     fn prf_sk<A: Address, L: Ledger>(
-        keyed: &P::Keyed,
+        keyed: &<P as SmallSuite>::Small,
         sk_seed: &NBytes<P::N>,
         adrs: &A,
         steps: &mut Steps<L>,
     ) -> NBytes<P::N> {
-        P::prf_sk(keyed, sk_seed, adrs, steps)
+        steps.tick();
+        P::small_prf(keyed, adrs, sk_seed)
     }
 
     fn prf_msg(
@@ -94,10 +100,10 @@ impl<P: ParameterSet> HashSuite for OneByOne<P> {
         msg: &[u8],
         out: &mut [u8],
     ) {
-        P::h_msg(rand, pk_seed, pk_root, head, ctx, msg, out);
+        P::small_h_msg(rand, pk_seed, pk_root, head, ctx, msg, out);
     }
 
-    ghost keyed_suite_is = { P.keyed_suite_is };
+    ghost keyed_suite_is = { λ _. refl };
 
     ghost lengths = { P.lengths };
 
@@ -106,7 +112,7 @@ impl<P: ParameterSet> HashSuite for OneByOne<P> {
     ghost value_bytes = { P.value_bytes };
 }
 
-impl<P: ParameterSet> WotsParams for OneByOne<P> {
+impl<P: ParameterSet + SmallSuite> WotsParams for OneByOne<P> {
     type WotsMsgLen = <P as WotsParams>::WotsMsgLen;
 
     type WotsSigLen = <P as WotsParams>::WotsSigLen;
@@ -114,13 +120,13 @@ impl<P: ParameterSet> WotsParams for OneByOne<P> {
     ghost valid_wots = { P.valid_wots };
 }
 
-impl<P: ParameterSet> XmssParams for OneByOne<P> {
+impl<P: ParameterSet + SmallSuite> XmssParams for OneByOne<P> {
     type HPrime = <P as XmssParams>::HPrime;
 
     ghost valid_xmss = { P.valid_xmss };
 }
 
-impl<P: ParameterSet> HypertreeParams for OneByOne<P> {
+impl<P: ParameterSet + SmallSuite> HypertreeParams for OneByOne<P> {
     type D = <P as HypertreeParams>::D;
 
     type H = <P as HypertreeParams>::H;
@@ -128,7 +134,7 @@ impl<P: ParameterSet> HypertreeParams for OneByOne<P> {
     ghost valid_hypertree = { P.valid_hypertree };
 }
 
-impl<P: ParameterSet> ForsParams for OneByOne<P> {
+impl<P: ParameterSet + SmallSuite> ForsParams for OneByOne<P> {
     type K = <P as ForsParams>::K;
 
     type A = <P as ForsParams>::A;
@@ -142,7 +148,7 @@ impl<P: ParameterSet> ForsParams for OneByOne<P> {
     ghost valid_fors = { P.valid_fors };
 }
 
-impl<P: ParameterSet> ParameterSet for OneByOne<P> {
+impl<P: ParameterSet + SmallSuite> ParameterSet for OneByOne<P> {
     const NAME: &'static str = <P as ParameterSet>::NAME;
 
     type SkLen = <P as ParameterSet>::SkLen;

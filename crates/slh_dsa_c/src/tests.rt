@@ -14,7 +14,8 @@ use crate::verify::slh_dsa_sha2_verify;
 use crate::verify_pieces::{
     CVerifier, slh_dsa_sha2_verify_begin, slh_dsa_sha2_verify_finish, slh_dsa_sha2_verify_update,
 };
-use crate::verify_set::{slh_dsa_sha2_128f_verify, slh_dsa_sha2_128f_verify_small};
+use crate::verify_set::slh_dsa_sha2_128f_verify;
+use crate::verify_small::{slh_dsa_sha2_128f_verify_pure_small, slh_dsa_sha2_128f_verify_small};
 
 // A set's number, its n and the bytes of its signatures (FIPS 205, section 11, table 2).
 const SIZES: [(u32, usize, usize); 6] = [
@@ -190,6 +191,20 @@ fn verify_in_one_set(mode: u32, ctx: &[u8], sig: &Sig) -> (u32, u32) {
     let by_lanes = slh_dsa_sha2_128f_verify(mode, &public, b"Hello", ctx, sig);
     let one_by_one = slh_dsa_sha2_128f_verify_small(mode, &public, b"Hello", ctx, sig);
     (by_lanes, one_by_one)
+}
+
+// What the form for the mode pure alone answers.
+fn verify_pure(ctx: &[u8], sig: &Sig) -> u32 {
+    let (_, _, public) = keys();
+    slh_dsa_sha2_128f_verify_pure_small(&public, b"Hello", ctx, sig)
+}
+
+#[test]
+fn the_pure_form_accepts_a_message_signed_as_it_is_alone(rt: HostRuntime) {
+    let (_, sig) = sign(0, b"ctx", &[4; 16]);
+    assert!(rt; verify_pure(b"ctx", &sig) == 0 && verify_pure(b"", &sig) == 1);
+    let (_, sig) = sign(1, b"ctx", &[4; 16]);
+    assert!(rt; verify_pure(b"ctx", &sig) == 1);
 }
 
 #[test]

@@ -5,7 +5,7 @@ ghost use Rattle.slh_dsa_c.specs.Numbers.{mode_numbered};
 ghost use Rattle.slh_dsa_c.specs.VerifyPieces.{HasOtherLength, HasOtherRandomizer, IsNone, StandsIn, Verifies};
 ghost use Rattle.slh_dsa_c.specs.VerifyPieces.{begin_number, begin_refusal, begin_status, update_number};
 ghost use Rattle.slh_dsa_c.specs.Status.{verify_number, verify_status};
-ghost use Rattle.slh_stream.specs.Suspended.{IsSuspended};
+ghost use Rattle.slh_stream.specs.Suspended.{IsBlank, IsSuspended};
 ghost use Rattle.slh_trees.specs.Checking.{signature_size};
 ghost use Rattle.slh_trees.specs.Refusals.{RefusedExactly};
 
@@ -29,7 +29,8 @@ pub struct CVerifier {
 impl CVerifier {
     /// No verification, to be written over by `slh_dsa_sha2_verify_begin`.
     pub fn new() -> Self
-        ensures { IsNone result }
+        ensures none { IsNone result }
+        ensures blank { IsBlank result.state }
     {
         CVerifier {
             set: 0,
@@ -213,6 +214,7 @@ pub extern "C" fn slh_dsa_sha2_verify_finish(verifier: &mut CVerifier, sig: &[u8
         → HasOtherLength verifier.old.set sig.now → result ≡ 5 }
     ensures unknown { IsNone verifier.old → result ≡ 13 }
     ensures spent { IsNone verifier.new }
+    ensures wiped { IsBlank verifier.new.state }
 {
     let call = Finish {
         mode: verifier.mode,

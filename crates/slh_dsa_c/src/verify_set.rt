@@ -3,7 +3,6 @@
 ghost use Rattle.std.specs.Prelude.{◌≡◌};
 ghost use Rattle.slh_dsa_c.specs.Status.{verify_number, verify_status};
 
-use crate::one_by_one::OneByOne;
 use crate::verify::{Verify, status_by};
 use slh_dsa::{ParameterSet, Sha2_128f, Sha2_128s, Sha2_192f, Sha2_192s, Sha2_256f, Sha2_256s};
 
@@ -103,88 +102,4 @@ pub extern "C" fn slh_dsa_sha2_256f_verify(
     ensures { result ≡ verify_status 6 mode public.now ctx.now msg.now sig.now }
 {
     verify_in::<Sha2_256f>(mode, public, msg, ctx, sig)
-}
-
-/// As `slh_dsa_sha2_128s_verify`, in less code and more time.
-#[unsafe(no_mangle)]
-pub extern "C" fn slh_dsa_sha2_128s_verify_small(
-    mode: u32,
-    public: &[u8; 32],
-    msg: &[u8],
-    ctx: &[u8],
-    sig: &[u8; 7856],
-) -> u32
-    ensures { result ≡ verify_status 1 mode public.now ctx.now msg.now sig.now }
-{
-    verify_in::<OneByOne<Sha2_128s>>(mode, public, msg, ctx, sig)
-}
-
-/// As `slh_dsa_sha2_128f_verify`, in less code and more time.
-#[unsafe(no_mangle)]
-pub extern "C" fn slh_dsa_sha2_128f_verify_small(
-    mode: u32,
-    public: &[u8; 32],
-    msg: &[u8],
-    ctx: &[u8],
-    sig: &[u8; 17088],
-) -> u32
-    ensures { result ≡ verify_status 2 mode public.now ctx.now msg.now sig.now }
-{
-    verify_in::<OneByOne<Sha2_128f>>(mode, public, msg, ctx, sig)
-}
-
-/// As `slh_dsa_sha2_192s_verify`, in less code and more time.
-#[unsafe(no_mangle)]
-pub extern "C" fn slh_dsa_sha2_192s_verify_small(
-    mode: u32,
-    public: &[u8; 48],
-    msg: &[u8],
-    ctx: &[u8],
-    sig: &[u8; 16224],
-) -> u32
-    ensures { result ≡ verify_status 3 mode public.now ctx.now msg.now sig.now }
-{
-    verify_in::<OneByOne<Sha2_192s>>(mode, public, msg, ctx, sig)
-}
-
-/// As `slh_dsa_sha2_192f_verify`, in less code and more time.
-#[unsafe(no_mangle)]
-pub extern "C" fn slh_dsa_sha2_192f_verify_small(
-    mode: u32,
-    public: &[u8; 48],
-    msg: &[u8],
-    ctx: &[u8],
-    sig: &[u8; 35664],
-) -> u32
-    ensures { result ≡ verify_status 4 mode public.now ctx.now msg.now sig.now }
-{
-    verify_in::<OneByOne<Sha2_192f>>(mode, public, msg, ctx, sig)
-}
-
-/// As `slh_dsa_sha2_256s_verify`, in less code and more time.
-#[unsafe(no_mangle)]
-pub extern "C" fn slh_dsa_sha2_256s_verify_small(
-    mode: u32,
-    public: &[u8; 64],
-    msg: &[u8],
-    ctx: &[u8],
-    sig: &[u8; 29792],
-) -> u32
-    ensures { result ≡ verify_status 5 mode public.now ctx.now msg.now sig.now }
-{
-    verify_in::<OneByOne<Sha2_256s>>(mode, public, msg, ctx, sig)
-}
-
-/// As `slh_dsa_sha2_256f_verify`, in less code and more time.
-#[unsafe(no_mangle)]
-pub extern "C" fn slh_dsa_sha2_256f_verify_small(
-    mode: u32,
-    public: &[u8; 64],
-    msg: &[u8],
-    ctx: &[u8],
-    sig: &[u8; 49856],
-) -> u32
-    ensures { result ≡ verify_status 6 mode public.now ctx.now msg.now sig.now }
-{
-    verify_in::<OneByOne<Sha2_256f>>(mode, public, msg, ctx, sig)
 }
