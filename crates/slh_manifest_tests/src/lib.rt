@@ -2,6 +2,8 @@
 #![tactic(auto)]
 
 #[cfg(test)]
+mod elsewhere;
+#[cfg(test)]
 mod faults;
 #[cfg(test)]
 mod forms;
@@ -15,3 +17,5 @@ mod page_of_manifests;
 mod reads;
 #[cfg(test)]
 mod refusals;
+#[cfg(test)]
+mod watched;
