@@ -12,8 +12,12 @@ mod page_of_rings;
 #[cfg(test)]
 mod paths;
 #[cfg(test)]
+mod recorded;
+#[cfg(test)]
 mod records;
 #[cfg(test)]
 mod rings;
+#[cfg(test)]
+mod texts;
 #[cfg(test)]
 mod toys;

@@ -1,5 +1,7 @@
 //! Rings: which paths are refused, and in which order paths stand.
-use crate::toys::{add, are_equal, copied, empty, len, numbers_at, stands, takes_first};
+use crate::toys::{
+    add, are_equal, contains, copied, empty, len, numbers_at, remove, stands, takes_first,
+};
 use slh_ring::{Ring, RingError};
 use slh_trees::toy::Toy;
 use std::alloc::Global;
@@ -98,4 +100,57 @@ fn copies_are_apart(alloc: Global) -> bool {
 #[test]
 fn a_copy_of_a_ring_is_equal_and_goes_on_alone(rt: HostRuntime) {
     assert!(rt; copies_are_apart(rt.alloc()));
+}
+
+// Whether of the paths 0, 1 and 2 the second is taken out once, and the others stay.
+fn is_taken_out(ring: &mut Ring<Toy>) -> bool {
+    contains(ring, 1)
+        && remove(ring, 1)
+        && !contains(ring, 1)
+        && !remove(ring, 1)
+        && contains(ring, 0)
+        && contains(ring, 2)
+        && len(ring) == 2
+        && stands(ring, 1, &[2])
+}
+
+// Whether it is put at its place again then, and a path that was never there isn't taken out.
+fn is_put_back(ring: &mut Ring<Toy>) -> bool {
+    !remove(ring, 3)
+        && add(ring, &[1]) == Ok(())
+        && len(ring) == 3
+        && stands(ring, 1, &[1])
+        && stands(ring, 2, &[2])
+}
+
+fn paths_go_and_come(alloc: Global) -> bool {
+    let mut ring = empty(alloc);
+    takes_first(&mut ring, 3) && is_taken_out(&mut ring) && is_put_back(&mut ring)
+}
+
+#[test]
+fn a_path_that_is_taken_out_is_there_no_more(rt: HostRuntime) {
+    assert!(rt; paths_go_and_come(rt.alloc()));
+}
+
+// Whether the paths of a full ring are gone through in their order, each once.
+fn are_gone_through(ring: &Ring<Toy>) -> bool {
+    let mut i = 0u32;
+    for path in ring.paths() {
+        if path.as_slice() != [i].as_slice() {
+            return false;
+        }
+        i = i.saturating_add(1);
+    }
+    i == 64
+}
+
+fn has_its_paths_in_order(alloc: Global) -> bool {
+    let mut ring = empty(alloc);
+    takes_first(&mut ring, 64) && are_gone_through(&ring)
+}
+
+#[test]
+fn the_paths_of_a_ring_are_gone_through_in_order(rt: HostRuntime) {
+    assert!(rt; has_its_paths_in_order(rt.alloc()));
 }

@@ -1,7 +1,8 @@
 //! Rings of the toy suite. Each call is written once, and the tests share it.
-ghost use Rattle.std.specs.Prelude.{◌≡◌, ◌≤◌, length};
+ghost use Rattle.std.specs.Prelude.{◌≡◌, ◌≤◌, ◌^◌, length};
 
-use slh_ring::{Path, RestoreError, Ring, RingError};
+use slh_dsa::SigningKey;
+use slh_ring::{Path, Record, RecordEntry, RestoreError, Ring, RingError};
 use slh_trees::toy::Toy;
 use std::alloc::{AllocError, Global};
 
@@ -63,4 +64,24 @@ pub(crate) fn record_of(alloc: Global, ring: &Ring<Toy>) -> Result<Vec<u8>, Allo
 /// The ring of such a record.
 pub(crate) fn restored(alloc: Global, record: &[u8]) -> Result<Ring<Toy>, RestoreError> {
     Ring::restore(alloc, &[0], record)
+}
+
+/// Whether the path of one number is there.
+pub(crate) fn contains(ring: &Ring<Toy>, number: u32) -> bool {
+    ring.contains(&Path::from_slice(&[number]).unwrap())
+}
+
+/// Takes the path of one number out.
+pub(crate) fn remove(ring: &mut Ring<Toy>, number: u32) -> bool {
+    ring.remove(&Path::from_slice(&[number]).unwrap())
+}
+
+pub(crate) fn read(bytes: &[u8]) -> Option<Record<'_>> {
+    Record::read::<Toy>(bytes)
+}
+
+pub(crate) fn key_of(entry: &RecordEntry<'_>, master: &[u8]) -> Option<SigningKey<Toy>>
+    requires { length master.now ≤ 2 ^ 60 }
+{
+    entry.key(master)
 }
