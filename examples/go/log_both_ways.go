@@ -1,8 +1,8 @@
 // Holds slh_log_cli to Go's golang.org/x/mod/sumdb, which nobody here wrote.
 //
-//	log_both_ways proofs       lines on all logs of 1 to 1,030 entries, whose roots, paths and
-//	                           proofs Go made, right and with a bit changed, and behind a tab
-//	                           what each is to be answered
+//	log_both_ways proofs       lines on five paths and five proofs of each log of 1 to 1,030
+//	                           entries, whose roots, paths and proofs Go made, right and with a
+//	                           bit changed, and behind a tab what each is to be answered
 //	log_both_ways note NAME SET KEY
 //	                           a checkpoint that Go puts together, signed by slh_cli
 //	log_both_ways open NAME SET VK FILE
@@ -87,13 +87,13 @@ func proofs() {
 	defer out.Flush()
 	reader, roots := grown(most)
 	for n := int64(1); n <= most; n++ {
-		for _, i := range []int64{0, n * 7919 % n, n * 104729 % n, n - 1} {
+		for _, i := range []int64{0, n / 2, 7919 % n, 104729 % n, n - 1} {
 			path, err := tlog.ProveRecord(n, i, reader)
 			check(err)
 			front := []string{"presence", fmt.Sprint(n), digits(roots[n][:]), fmt.Sprint(i), digits(entry(i))}
 			lines(out, "present", front, path, n*31+i)
 		}
-		for _, m := range []int64{1, n*7919%n + 1, n*104729%n + 1, n} {
+		for _, m := range []int64{1, (n + 1) / 2, 7919%n + 1, 104729%n + 1, n} {
 			proof, err := tlog.ProveTree(n, m, reader)
 			check(err)
 			front := []string{"growth", fmt.Sprint(m), digits(roots[m][:]), fmt.Sprint(n), digits(roots[n][:])}
