@@ -28,10 +28,11 @@ compadd() {
     builtin compadd "$@"
 }
 
-# The line is one of commands. vared takes it for a value.
+# The line is one of commands. vared takes it for a value. What is found is not shown.
 offer() {
     compstate[vared]=
     _main_complete
+    compstate[list]=
 }
 
 offer-line() {
