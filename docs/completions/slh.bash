@@ -1,17 +1,16 @@
 # Completions of slh for bash: source this file, or put it into a folder that bash-completion reads.
+# Written by docs/draw_words from the tables of words in crates/slh/src: edit those.
 
 _slh() {
     local word=${COMP_WORDS[COMP_CWORD]} previous=${COMP_WORDS[COMP_CWORD - 1]}
-    local sets='SLH-DSA-SHA2-128s SLH-DSA-SHA2-128f SLH-DSA-SHA2-192s
-        SLH-DSA-SHA2-192f SLH-DSA-SHA2-256s SLH-DSA-SHA2-256f'
-    local mode='--context --context-hex --prehash --help'
     local words=
 
     case $previous in
-    --set) words=$sets ;;
+    --set)
+        words='SLH-DSA-SHA2-128s SLH-DSA-SHA2-128f SLH-DSA-SHA2-192s SLH-DSA-SHA2-192f
+            SLH-DSA-SHA2-256s SLH-DSA-SHA2-256f' ;;
     --prehash) words='sha256 sha512' ;;
     --context | --context-hex | --depth | --evidence | --key-text | --name | --path) return ;;
-    --*) ;;
     esac
     if [ -z "$words" ] && [ "$COMP_CWORD" -eq 1 ]; then
         words='keygen public sign verify audit check inspect batch manifest chain ring help
@@ -27,6 +26,14 @@ _slh() {
     fi
     if [ -z "$words" ]; then
         case "${COMP_WORDS[1]} ${COMP_WORDS[2]}" in
+        'keygen '*) words='--set --help' ;;
+        'public '*) words='--key --output --help' ;;
+        'sign '*)
+            words='--key --context --context-hex --prehash --deterministic --audit --output --help' ;;
+        'verify '*) words='--key --key-text --signature --context --context-hex --prehash --help' ;;
+        'audit '*) words='--key --signature --context --context-hex --prehash --help' ;;
+        'check '*) words='--key --signature --evidence --context --context-hex --prehash --help' ;;
+        'inspect '*) words='--help' ;;
         'batch sign') words='--key --deterministic --help' ;;
         'batch verify') words='--key --key-text --receipt --help' ;;
         'manifest seal') words='--key --deterministic --output --help' ;;
@@ -35,18 +42,12 @@ _slh() {
             words='--key --subject --name --depth --chain --deterministic --output --help' ;;
         'chain walk') words='--key --key-text --chain --output --help' ;;
         'chain show') words='--key --key-text --chain --help' ;;
-        'chain verify') words="--key --key-text --chain --signature $mode" ;;
+        'chain verify')
+            words='--key --key-text --chain --signature --context --context-hex --prehash --help' ;;
         'ring master') words='--help' ;;
         'ring key') words='--set --master --path --help' ;;
         'ring record') words='--set --master --output --help' ;;
         'ring restore') words='--master --help' ;;
-        'keygen '*) words='--set --help' ;;
-        'public '*) words='--key --output --help' ;;
-        'sign '*) words="--key --deterministic --audit --output $mode" ;;
-        'verify '*) words="--key --key-text --signature $mode" ;;
-        'audit '*) words="--key --signature $mode" ;;
-        'check '*) words="--key --signature --evidence $mode" ;;
-        'inspect '*) words='--help' ;;
         esac
     fi
 
