@@ -4,8 +4,8 @@ use Rattle.whole_files.specs.declared.error.WriteError.{WriteError}
 use Rattle.whole_files.specs.declared.error.WriteError.TheVariants.{NotRegular, Taken, Failed, Left}
 use Rattle.whole_files.specs.declared.file.Mode.{Mode}
 use Rattle.whole_files.specs.declared.file.Mode.TheVariants.{Masked}
-use Rattle.whole_files.specs.declared.whole.TheConstants.{SECRET_MODE}
 use Rattle.whole_files.specs.Files.{Files, Same, Puts}
+use Rattle.whole_files.specs.Modes.{secret_mode}
 use Rattle.whole_files.specs.Whole.{HasWhole, HasBegun}
 
 -- the paths of a secret and its part, and of a public file and its part
@@ -24,8 +24,8 @@ IsOldOrNew m path mode bytes n = (n path ≡ m path) ⊎ ((m path ≡ None) × H
 -- At each moment of the making of two files: each path has what it had, or the new file, whole, where
 -- nothing stood; beside each stands what stood there, or a file that is begun; and all else is the same.
 pub record IsPairing (m : Files) (kp ks key pp ps public : List ℕ) (n : Files) : Type 0 where
-  pub secret_at : IsOldOrNew m kp SECRET_MODE key n
-  pub secret_beside : (n ks ≡ m ks) ⊎ HasBegun SECRET_MODE key (n ks)
+  pub secret_at : IsOldOrNew m kp secret_mode key n
+  pub secret_beside : (n ks ≡ m ks) ⊎ HasBegun secret_mode key (n ks)
   pub public_at : IsOldOrNew m pp Masked public n
   pub public_beside : (n ps ≡ m ps) ⊎ HasBegun Masked public (n ps)
   pub others : (q : List ℕ) → q ≢ kp → q ≢ ks → q ≢ pp → q ≢ ps → n q ≡ m q
@@ -34,7 +34,7 @@ pub record IsPairing (m : Files) (kp ks key pp ps public : List ℕ) (n : Files)
 pub record IsPair (m : Files) (kp ks key pp ps public : List ℕ) (n : Files) : Type 0 where
   pub secret_free : m kp ≡ None
   pub public_free : m pp ≡ None
-  pub secret : HasWhole SECRET_MODE key (n kp)
+  pub secret : HasWhole secret_mode key (n kp)
   pub public_file : HasWhole Masked public (n pp)
   pub others : (q : List ℕ) → q ≢ kp → q ≢ pp → n q ≡ m q
 

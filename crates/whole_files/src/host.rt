@@ -9,8 +9,8 @@ use std::io::{self, ErrorKind, Write};
 use std::os::unix::fs::{MetadataExt, OpenOptionsExt, PermissionsExt};
 
 /// The files of the system, of which nothing is told. A file that is made has what the user's mask
-/// leaves of its mode, or its mode exactly, as [`Mode`] says. A folder that can't be opened to be read, or whose file system doesn't bring folders to the disk,
-/// is left to the system.
+/// leaves of its mode, or its mode exactly, as [`Mode`] says. A folder that can't be opened to be
+/// read, or whose file system doesn't bring folders to the disk, is left to the system.
 #[derive(Drop)]
 pub struct HostFiles<'r> {
     /// Why a call failed: the last one that did.

@@ -46,9 +46,11 @@ impl MemFiles {
         }
     }
 
-    /// Puts a file with these bits for its mode at a path, all of it on the disk, in place of what is there.
+    /// Puts a file with these bits for its mode at a path, instead of what stands there. All of it
+    /// is on the disk.
     pub fn put(&mut self, path: &str, kind: Kind, bits: u32, bytes: &[u8]) -> Result<(), AllocError>
-        ensures ok { OnOk result ((node : Node) × Puts (mem_files self.old) path.now (Some node) (mem_files self.new)
+        ensures ok { OnOk result ((node : Node)
+            × Puts (mem_files self.old) path.now (Some node) (mem_files self.new)
             × (node.kind ≡ kind) × (node.mode ≡ Exact bits) × (node.bytes ≡ bytes.now)) }
         ensures err { OnErr result (Same (mem_files self.old) (mem_files self.new)) }
     {

@@ -5,6 +5,7 @@ ghost use Rattle.whole_files.specs.declared.error.WriteError.TheVariants.{Failed
 ghost use Rattle.whole_files.specs.declared.error.Written.TheVariants.{Settled, Unsettled};
 ghost use Rattle.whole_files.specs.Causes.{HasCause, RoseBy};
 ghost use Rattle.whole_files.specs.Files.{Files, Removes, Same};
+ghost use Rattle.whole_files.specs.Modes.{secret_mode};
 ghost use Rattle.whole_files.specs.Whole.{Fills, FindsMode, IsFilling, IsPlacing, IsWriting, Places};
 ghost use Rattle.whole_files.specs.Whole.{IsMaking, MakesNew, TakesAway, Writes};
 
@@ -203,9 +204,10 @@ pub fn make_secret<F: FileSystem>(
 ) -> Result<Written, WriteError>
     requires apart { part.now ≢ path.now }
     requires permitted { IsTrue F.tells → (n : Files)
-        → IsMaking (F.files fs.old) path.now part.now SECRET_MODE bytes.now n → F.permits n }
+        → IsMaking (F.files fs.old) path.now part.now secret_mode bytes.now n → F.permits n }
     ensures files { IsTrue F.tells
-        → MakesNew (F.files fs.old) path.now part.now SECRET_MODE bytes.now result (F.files fs.new) }
+        → MakesNew (F.files fs.old) path.now part.now secret_mode bytes.now result
+        (F.files fs.new) }
     ensures kept { IsTrue F.tells → IfOk result (λ written. written ≡ Settled
         → IsTrue (F.is_kept fs.new path.now)) }
     ensures unsettled { IfOk result (λ written. written ≡ Unsettled
