@@ -2,3 +2,4 @@ pub mod Runs
 pub mod Rows
 pub mod Spans
 pub mod Bits
+pub mod Places

@@ -1,3 +1,4 @@
 pub mod Names
 pub mod Tiles
 pub mod Shape
+pub mod Source

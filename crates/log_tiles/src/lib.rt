@@ -10,15 +10,22 @@
 //!
 //! [`node_place`] says which hashes of which tile stand under any root over a whole run, and
 //! [`node_root`] makes it of them.
+//!
+//! [`prove_presence`] and [`prove_growth`] make proofs of the tiles that a [`TileSource`] gives. It
+//! needn't be trusted: what they hand out has passed the check against the root.
 #![tactic(auto)]
 
 mod growing;
 mod names;
 mod node;
+mod proving;
 mod shape;
+mod source;
 mod span;
 
 pub use growing::{GrowingTiles, LEVELS};
-pub use names::{Bundle, FULL, Tile};
+pub use names::{Bundle, FULL, NameError, Tile};
 pub use node::{NodePlace, node_place, node_root};
+pub use proving::{TileError, prove_growth, prove_presence};
 pub use shape::{hash_count, is_piece, last_bundle, last_tile};
+pub use source::{StoredTiles, TileSource};

@@ -1,5 +1,6 @@
 //! Names of the files of a log.
-ghost use Rattle.std.specs.Prelude.{◌≡◌, ◌+◌, ◌<◌, ◌++◌, OnOk, IfOk, string_bytes};
+ghost use Rattle.std.specs.Prelude.{◌≡◌, ◌≢◌, ◌⊎◌, ◌↔◌, ◌+◌, ◌<◌, ◌≤◌, ◌++◌};
+ghost use Rattle.std.specs.Prelude.{OnOk, IfOk, string_bytes};
 ghost use Rattle.log_tiles.specs.Names.{group_text, index_text, three_digits, width_text};
 
 use std::alloc::{AllocError, Global};
@@ -32,6 +33,28 @@ pub struct Tile {
 pub struct Bundle {
     pub index: u64,
     pub width: u32,
+}
+
+/// Why a file has no name.
+#[derive(Clone, Copy, Debug, PartialEq, Eq)]
+pub enum NameError {
+    /// The level is above 63.
+    Level,
+    /// The width is 0 or above 256.
+    Width,
+    /// Memory ran out.
+    Memory,
+}
+
+impl From<AllocError> for NameError {
+    ghost use Rattle.std.specs.Prelude.{◌≡◌};
+    ghost use Rattle.log_tiles.specs.declared.names.NameError.TheVariants.{Memory};
+
+    ghost from_gives = { λ _ e. e ≡ Memory };
+
+    fn from(_error: AllocError) -> Self {
+        NameError::Memory
+    }
 }
 
 // The character of a digit.
@@ -86,11 +109,20 @@ impl Tile {
     ghost use Rattle.log_tiles.specs.Names.{tile_path};
 
     /// Its name below the log's folder. A tile that isn't full has its width in its name.
-    pub fn path(&self, alloc: Global) -> Result<String, AllocError>
-        ensures { IfOk result (λ text. string_bytes text
+    pub fn path(&self, alloc: Global) -> Result<String, NameError>
+        ensures name { IfOk result (λ text. string_bytes text
             ≡ tile_path self.now.level self.now.index self.now.width) }
+        ensures level { (result ≡ Err NameError.Level) ↔ (63 < self.now.level) }
+        ensures width { (result ≡ Err NameError.Width)
+            ↔ ((self.now.level ≤ 63) × (self.now.width ≡ 0 ⊎ 256 < self.now.width)) }
     {
         let level = self.level;
+        if level > 63 {
+            return Err(NameError::Level);
+        }
+        if self.width == 0 || self.width > FULL {
+            return Err(NameError::Width);
+        }
         let mut text = format!(in alloc; "tile/{level}/")?;
         push_index(&mut text, self.index)?;
         push_width(&mut text, self.width)?;
@@ -102,10 +134,16 @@ impl Bundle {
     ghost use Rattle.log_tiles.specs.Names.{bundle_path};
 
     /// Its name below the log's folder. A bundle that isn't full has its width in its name.
-    pub fn path(&self, alloc: Global) -> Result<String, AllocError>
-        ensures { IfOk result (λ text. string_bytes text
+    pub fn path(&self, alloc: Global) -> Result<String, NameError>
+        ensures name { IfOk result (λ text. string_bytes text
             ≡ bundle_path self.now.index self.now.width) }
+        ensures width { (result ≡ Err NameError.Width)
+            ↔ (self.now.width ≡ 0 ⊎ 256 < self.now.width) }
+        ensures level { result ≢ Err NameError.Level }
     {
+        if self.width == 0 || self.width > FULL {
+            return Err(NameError::Width);
+        }
         let mut text = format!(in alloc; "tile/entries/")?;
         push_index(&mut text, self.index)?;
         push_width(&mut text, self.width)?;

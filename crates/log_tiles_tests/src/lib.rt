@@ -5,4 +5,6 @@
 #[cfg(test)]
 mod names;
 #[cfg(test)]
+mod stored;
+#[cfg(test)]
 mod tiles;

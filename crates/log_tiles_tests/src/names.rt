@@ -1,4 +1,4 @@
-use log_tiles::{Bundle, Tile, last_bundle, last_tile};
+use log_tiles::{Bundle, NameError, Tile, last_bundle, last_tile};
 use std::alloc::Global;
 
 fn is_tile_at(alloc: Global, level: u32, index: u64, width: u32, path: &str) -> bool {
@@ -79,4 +79,26 @@ fn is_shape_of_70000() -> bool {
 #[test]
 fn a_log_of_70000_entries_has_its_tiles(rt: HostRuntime) {
     assert!(rt; is_shape_of_70000());
+}
+
+fn has_no_name(alloc: Global, level: u32, width: u32, error: NameError) -> bool {
+    let tile = Tile {
+        level,
+        index: 0,
+        width,
+    };
+    tile.path(alloc).err() == Some(error)
+}
+
+#[test]
+fn other_levels_and_widths_have_no_name(rt: HostRuntime) {
+    let alloc = rt.alloc();
+    assert!(rt; has_no_name(alloc, 0, 0, NameError::Width));
+    assert!(rt; has_no_name(alloc, 63, 257, NameError::Width));
+    assert!(rt; has_no_name(alloc, 64, 257, NameError::Level));
+    assert!(rt; is_tile_at(alloc, 63, 0, 1, "tile/63/000.p/1"));
+    for width in [0, 257, u32::MAX] {
+        let bundle = Bundle { index: 0, width };
+        assert!(rt; bundle.path(alloc).err() == Some(NameError::Width));
+    }
 }

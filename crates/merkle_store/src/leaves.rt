@@ -1,4 +1,6 @@
 //! A store that keeps the digests alone.
+ghost use Rattle.std.specs.Prelude.{true};
+
 use crate::nodes::Nodes;
 use merkle_tree::{DIGEST_LEN, TreeHash, root_of};
 
@@ -9,6 +11,8 @@ pub struct Leaves<'a> {
 }
 
 impl<'a, H: TreeHash> Nodes<H> for Leaves<'a> {
+    ghost tells = { true };
+
     ghost digests = { λ s. s.digests.now };
 
     fn node(&self, level: u32, index: u64) -> Option<[u8; DIGEST_LEN]> {

@@ -1,25 +1,19 @@
 //! The makers of paths and proofs.
-ghost use Rattle.std.specs.Prelude.{◌≡◌, ◌+◌, ◌-◌, ◌^◌, ◌<◌, ◌≤◌, ◌++◌, List, ℕ, length, take, OnOk};
+ghost use Rattle.std.specs.Prelude.{◌≡◌, ◌+◌, ◌-◌, ◌^◌, ◌<◌, ◌≤◌, ◌++◌, List, ℕ, length, take, OnOk, IsTrue};
+ghost use Rattle.std.specs.Prelude.{IfErr};
 ghost use Rattle.merkle_tree.specs.Consistency.{consistency_proof};
 ghost use Rattle.merkle_tree.specs.Tree.{inclusion_path, path_within};
+ghost use Rattle.merkle_store.specs.Errors.{IsAsked};
 ghost use Rattle.merkle_store.specs.Nodes.{IsLevel, full_level, node_list};
 
 use crate::level::{Level, above, node_at};
-use crate::nodes::Nodes;
+use crate::nodes::{Nodes, StoreError};
 use merkle_tree::{DIGEST_LEN, TreeHash, beside};
-
-/// Why nothing was made.
-#[derive(Clone, Copy, Debug, PartialEq, Eq)]
-pub enum StoreError {
-    /// A node couldn't be read.
-    Node,
-    /// Memory ran out.
-    Memory,
-}
 
 // Puts a node at the end of `out`, if there is one.
 fn put(out: &mut Vec<[u8; DIGEST_LEN]>, node: Option<[u8; DIGEST_LEN]>) -> Result<(), StoreError>
-    ensures { OnOk result (out.new.items ≡ out.old.items ++ node_list node) }
+    ensures put { OnOk result (out.new.items ≡ out.old.items ++ node_list node) }
+    ensures memory { IfErr result (λ e. e ≡ StoreError.Memory) }
 {
     match node {
         None => Ok(()),
@@ -42,21 +36,17 @@ fn push_siblings<H: TreeHash, N: Nodes<H>>(
     requires high { from.height ≤ 64 }
     requires few { last < 2 ^ (64 - from.height) }
     requires inside { i ≤ last }
-    ensures { (l : List (List ℕ))
+    ensures path { IsTrue N.tells → (l : List (List ℕ))
         → IsLevel H.hash from.height from.whole from.rest (N.digests nodes.now) l
         → length l ≡ last + 1
         → OnOk result (out.new.items ≡ out.old.items ++ path_within H.hash 64 l i) }
+    ensures asked { IfErr result (IsAsked (length (N.digests nodes.now))) }
 {
     let (mut level, mut at, mut end) = (from, i, last);
     'each_level: while end > 0 {
-        let Some(sibling) = node_at::<H, N>(nodes, &level, beside(at)) else {
-            return Err(StoreError::Node);
-        };
+        let sibling = node_at::<H, N>(nodes, &level, beside(at))?;
         put(out, sibling)?;
-        let Some(up) = above::<H, N>(nodes, &level) else {
-            return Err(StoreError::Node);
-        };
-        level = up;
+        level = above::<H, N>(nodes, &level)?;
         at /= 2;
         end /= 2;
     }
@@ -72,8 +62,9 @@ pub fn push_path<H: TreeHash, N: Nodes<H>>(
 ) -> Result<(), StoreError>
     requires inside { i < n }
     requires within { n ≤ length (N.digests nodes.now) }
-    ensures { OnOk result (out.new.items
+    ensures path { IsTrue N.tells → OnOk result (out.new.items
         ≡ out.old.items ++ inclusion_path H.hash (take n (N.digests nodes.now)) i) }
+    ensures asked { IfErr result (IsAsked (length (N.digests nodes.now))) }
 {
     let leaves = Level {
         height: 0,
@@ -94,8 +85,9 @@ pub fn push_proof<H: TreeHash, N: Nodes<H>>(
     requires some { 0 < m }
     requires more { m ≤ n }
     requires within { n ≤ length (N.digests nodes.now) }
-    ensures { OnOk result (out.new.items
+    ensures proof { IsTrue N.tells → OnOk result (out.new.items
         ≡ out.old.items ++ consistency_proof H.hash (take n (N.digests nodes.now)) m) }
+    ensures asked { IfErr result (IsAsked (length (N.digests nodes.now))) }
 {
     if m == n {
         return Ok(());
@@ -107,17 +99,12 @@ pub fn push_proof<H: TreeHash, N: Nodes<H>>(
     };
     let (mut at, mut end) = (m - 1, n - 1);
     'each_level: while at % 2 == 1 {
-        let Some(up) = above::<H, N>(nodes, &level) else {
-            return Err(StoreError::Node);
-        };
-        level = up;
+        level = above::<H, N>(nodes, &level)?;
         at /= 2;
         end /= 2;
     }
     if at != 0 {
-        let Some(seed) = node_at::<H, N>(nodes, &level, at) else {
-            return Err(StoreError::Node);
-        };
+        let seed = node_at::<H, N>(nodes, &level, at)?;
         put(out, seed)?;
     }
     push_siblings::<H, N>(nodes, out, level, at, end)

@@ -9,12 +9,12 @@ returns-then-level-eq0-clause-within g c =
     rise_within g.H.TreeHash.hash level.height level.whole (g.N.Nodes.digests c.args.nodes.now) c.requires.within
 
 pub returns-then-level-eq0-clause-nodes : goal.returns-then-level-eq0-clause-nodes
-returns-then-level-eq0-clause-nodes g c = λ l is.
+returns-then-level-eq0-clause-nodes g c = λ tells l is.
     let level = c.args.level.now in
     rise_even g.H.TreeHash.hash level.height level.whole level.rest (g.N.Nodes.digests c.args.nodes.now) l c.if-level-eq0.true is
 
-pub node-requires : goal.node-requires
-node-requires g c = inside_full g.H.TreeHash.hash c.args.level.now.height (c.args.level.now.whole - 1) (g.N.Nodes.digests c.args.nodes.now) (omega (arith, c.requires.within))
+pub read-requires : goal.read-requires
+read-requires g c = inside_full g.H.TreeHash.hash c.args.level.now.height (c.args.level.now.whole - 1) (g.N.Nodes.digests c.args.nodes.now) (omega (arith, c.requires.within))
 
 pub returns-in-Some-clause-within : goal.returns-in-Some-clause-within
 returns-in-Some-clause-within g c =
@@ -22,11 +22,11 @@ returns-in-Some-clause-within g c =
     rise_within g.H.TreeHash.hash level.height level.whole (g.N.Nodes.digests c.args.nodes.now) c.requires.within
 
 pub returns-in-Some-clause-nodes : goal.returns-in-Some-clause-nodes
-returns-in-Some-clause-nodes g c = λ l is.
+returns-in-Some-clause-nodes g c = λ tells l is.
     let level = c.args.level.now in
     let q = g.N.Nodes.digests c.args.nodes.now in
-    let rest : Some c.node-in-Some.result ≡ joined g.H.TreeHash.hash (run_root g.H.TreeHash.hash level.height (level.whole - 1) q) level.rest
-    = rw (c.in-Some.is, c.node-in-Some.ensures, c.in_ok-last.ensures) refl in
+    let rest : Some c.node.result ≡ joined g.H.TreeHash.hash (run_root g.H.TreeHash.hash level.height (level.whole - 1) q) level.rest
+    = rw (c.in-Some.is, c.node.ensures, c.in_ok-last.ensures.root tells) refl in
     rw rest (rise_odd g.H.TreeHash.hash level.height level.whole level.rest q l (omega (arith, c.if-level-eq0.false)) is)
 
 pub returns-in-None-clause-within : goal.returns-in-None-clause-within
@@ -35,9 +35,9 @@ returns-in-None-clause-within g c =
     rise_within g.H.TreeHash.hash level.height level.whole (g.N.Nodes.digests c.args.nodes.now) c.requires.within
 
 pub returns-in-None-clause-nodes : goal.returns-in-None-clause-nodes
-returns-in-None-clause-nodes g c = λ l is.
+returns-in-None-clause-nodes g c = λ tells l is.
     let level = c.args.level.now in
     let q = g.N.Nodes.digests c.args.nodes.now in
     let rest : Some c.in_ok-last.last ≡ joined g.H.TreeHash.hash (run_root g.H.TreeHash.hash level.height (level.whole - 1) q) level.rest
-    = rw (c.in-None.is, c.in_ok-last.ensures) refl in
+    = rw (c.in-None.is, c.in_ok-last.ensures.root tells) refl in
     rw rest (rise_odd g.H.TreeHash.hash level.height level.whole level.rest q l (omega (arith, c.if-level-eq0.false)) is)

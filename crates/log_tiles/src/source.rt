@@ -1,0 +1,73 @@
+//! Tiles that needn't be trusted.
+ghost use Rattle.std.specs.Prelude.{◌≡◌, ◌+◌, ◌*◌, ◌<◌, ◌≤◌};
+ghost use Rattle.log_tiles.specs.Shape.{IsPieceOf};
+ghost use Rattle.log_tiles.specs.Tiles.{hash_count as spec_hash_count};
+
+use crate::names::{FULL, Tile};
+use crate::node::{NodePlace, node_place, node_root};
+use crate::shape::hash_count;
+use merkle_store::Nodes;
+use merkle_tree::{DIGEST_LEN, TreeHash};
+
+/// Where tiles are read, as the files of a folder or those of a server. Nothing is believed of what
+/// it gives.
+pub trait TileSource {
+    /// Puts the bytes of a tile in `out`, which has 32 for each of its hashes. False where there is
+    /// no such tile, or where it has more bytes or fewer.
+    fn read(&self, tile: Tile, out: &mut [u8]) -> bool;
+}
+
+/// The tiles of a log of `size` entries, as a store of nodes that isn't believed. Each node is made
+/// of one tile, which is read into 8 KiB and not kept.
+#[derive(Drop)]
+pub struct StoredTiles<'a, S: TileSource> {
+    pub source: &'a S,
+    pub size: u64,
+}
+
+/// The tile of a log of `size` entries that has the hashes at a place.
+pub(crate) fn tile_at(place: &NodePlace, size: u64) -> Tile
+    requires level { place.now.level < 8 }
+    requires some { 0 < place.now.len }
+    requires fits { place.now.start + place.now.len ≤ 256 }
+    requires inside { 256 * place.now.index + (place.now.start + place.now.len)
+        ≤ spec_hash_count place.now.level size }
+    ensures level { result.level ≡ place.now.level }
+    ensures index { result.index ≡ place.now.index }
+    ensures piece { IsPieceOf (spec_hash_count result.level size) result.index result.width }
+    ensures within { place.now.start + place.now.len ≤ result.width }
+    ensures width { result.width ≤ 256 }
+{
+    let count = hash_count(place.level, size);
+    let width = if place.index < count / 256 {
+        FULL
+    } else {
+        (count % 256) as u32
+    };
+    Tile {
+        level: place.level,
+        index: place.index,
+        width,
+    }
+}
+
+impl<'a, H: TreeHash, S: TileSource> Nodes<H> for StoredTiles<'a, S> {
+    ghost use Rattle.std.specs.Prelude.{false, [], replicate};
+
+    ghost tells = { false };
+
+    ghost digests = { λ s. replicate s.size [] };
+
+    fn node(&self, level: u32, index: u64) -> Option<[u8; DIGEST_LEN]> {
+        let size = self.size;
+        let place = node_place(level, index);
+        let tile = tile_at(&place, size);
+        let mut hashes = [[0; DIGEST_LEN]; FULL as usize];
+        let bytes = hashes[..tile.width as usize].as_flattened_mut();
+        if !self.source.read(tile, bytes) {
+            return None;
+        }
+        let under = &hashes[place.start..place.start + place.len];
+        Some(node_root::<H>(level, index, under))
+    }
+}
