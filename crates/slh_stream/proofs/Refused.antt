@@ -41,3 +41,17 @@ handed_on (Err x) refusal e is_e same = cc (is_e, same)
 -- what is refused has a cause
 pub never_none : {E : Type 0} (refusal : Option E) (e : E) → refusal ≡ Some e → refusal ≡ None → false ≡ true
 never_none refusal e is_e none = cc (is_e, none)
+
+-- where neither is refused for the first message, the second may be
+pub second_refused : {E : Type 0} (a c m r : Option E) (e : E) → first_refusal (a ∷ c ∷ None ∷ []) ≡ None → m ≡ None
+    → r ≡ Some e → first_refusal (first_refusal (a ∷ c ∷ m ∷ []) ∷ r ∷ []) ≡ Some e
+second_refused None None m r e none no_m is_r = rw (no_m, is_r) refl
+second_refused (Some x) c m r e none no_m is_r = cc
+second_refused None (Some x) m r e none no_m is_r = cc
+
+-- nothing is refused
+pub none_refused : {E : Type 0} (a c m r : Option E) → first_refusal (a ∷ c ∷ None ∷ []) ≡ None → m ≡ None → r ≡ None
+    → first_refusal (first_refusal (a ∷ c ∷ m ∷ []) ∷ r ∷ []) ≡ None
+none_refused None None m r none no_m no_r = rw (no_m, no_r) refl
+none_refused (Some x) c m r none no_m no_r = cc
+none_refused None (Some x) m r none no_m no_r = cc

@@ -4,11 +4,14 @@ use Rattle.std.specs.Prelude.{if◌then◌else◌}
 use Rattle.std.specs.Str.{bytes_eq}
 use Rattle.slh_core.specs.Bytes.{part}
 use Rattle.slh_core.specs.Parameters.{Scheme}
+use Rattle.slh_dsa.specs.Calls.{sign_input_refusal}
+use Rattle.slh_dsa.specs.declared.error.Error.{Error}
+use Rattle.slh_dsa.specs.declared.error.Error.TheVariants.{MessageTooLong}
 use Rattle.slh_stream.specs.declared.pass_error.PassError.{PassError}
 use Rattle.slh_stream.specs.declared.pass_error.PassError.TheVariants.{Length, Changed}
 use Rattle.slh_trees.specs.Checking.{signature_size}
 use Rattle.slh_frames.specs.Frames.{frame}
-use Rattle.slh_trees.specs.Refusals.{first_refusal, length_refusal}
+use Rattle.slh_trees.specs.Refusals.{first_refusal, length_refusal, message_refusal}
 
 -- The first pass stands for a signing key, a randomizer, or none, a context and a message: PRF_msg
 -- was begun for the key's PRF key, of n bytes, and has absorbed the frame of the message.
@@ -41,3 +44,9 @@ abbrev pub pass_refusal : Scheme → List ℕ → Option (List ℕ) → List ℕ
 pass_refusal Z key opt_rand message rand len = first_refusal
     (length_refusal Length (signature_size Z) len
     ∷ (if bytes_eq (randomizer_for Z key opt_rand message) rand then None else Some Changed) ∷ [])
+
+-- why two passes come to no end: the first is refused for what it is given, or the second for its
+-- message
+abbrev pub passes_refusal : Scheme → List ℕ → Option (List ℕ) → List ℕ → List ℕ → Option Error
+passes_refusal Z context opt_rand before message = first_refusal
+    (sign_input_refusal Z context opt_rand before ∷ message_refusal MessageTooLong message ∷ [])

@@ -3,7 +3,7 @@ ghost use Rattle.std.specs.Prelude.{◌≡◌, ◌≢◌, ◌↔◌, ◌++◌, l
 ghost use Rattle.std.specs.Option.{option_copied};
 ghost use Rattle.slh_dsa.specs.Calls.{hash_verify_error};
 ghost use Rattle.slh_frames.specs.Frames.{frame};
-ghost use Rattle.slh_stream.specs.Passes.{pass_refusal, randomizer_for};
+ghost use Rattle.slh_stream.specs.Passes.{pass_refusal, passes_refusal, randomizer_for};
 ghost use Rattle.slh_trees.specs.Signing.{signature_of};
 ghost use Rattle.slh_trees.specs.Refusals.{RefusedExactly};
 
@@ -50,6 +50,8 @@ pub fn sign_two<P: ParameterSet + MessageSuite>(
         let rand = randomizer_for P.scheme key.now opt_rand (frame ctx.now before.now) in
         IfOk result (λ is_signed. IsTrue is_signed
         ↔ (pass_refusal P.scheme key.now opt_rand message rand (length out.old) ≡ None)) }
+    ensures refusal { let opt_rand = option_copied opt_rand.entry in RefusedExactly result
+        (passes_refusal P.scheme ctx.now opt_rand before.now (first.now ++ second.now)) }
     ensures same { result ≢ Ok true → out.new ≡ out.old }
 {
     let mut pass = FirstPass::<P>::new(key, ctx, opt_rand)?;
