@@ -1,5 +1,5 @@
 # Completions of slh for bash: source this file, or put it into a folder that bash-completion reads.
-# Written by docs/draw_words from the tables of words in crates/slh/src: edit those.
+# Written by docs/draw_words from the tables of words in crates/slh_words/src: edit those.
 
 _slh() {
     local word=${COMP_WORDS[COMP_CWORD]} previous=${COMP_WORDS[COMP_CWORD - 1]}

@@ -1,5 +1,5 @@
 # Completions of slh for fish: put this file into a folder of fish_complete_path.
-# Written by docs/draw_words from the tables of words in crates/slh/src: edit those.
+# Written by docs/draw_words from the tables of words in crates/slh_words/src: edit those.
 
 # Whether the words behind slh, up to the cursor, are these.
 function __slh_are

@@ -1,6 +1,6 @@
 #compdef slh
 # Completions of slh for zsh: put this file, as _slh, into a folder of fpath.
-# Written by docs/draw_words from the tables of words in crates/slh/src: edit those.
+# Written by docs/draw_words from the tables of words in crates/slh_words/src: edit those.
 
 _slh_set() {
     local -a values=(

@@ -1,8 +1,8 @@
 //! `slh audit` and `slh check`.
 use crate::arguments::{Claim, check_inputs, own_claim, required, tell};
-use crate::failure::Failure;
 use clap::ArgMatches;
 use slh_files::{Outcome, evidence_of};
+use slh_paths::{Failure, outputs};
 use slh_run::{ByteString, Error, Evidence, Verdict, push_evidence};
 
 /// Tells whether the holder of a key made a signature that the key accepts.
@@ -27,7 +27,7 @@ fn tell_foreign(rt: &HostRuntime, evidence: Evidence) -> Result<Outcome, Failure
     line.push_slice(b" ")?;
     push_evidence(&mut line, evidence)?;
     line.push_slice(b"\n")?;
-    match crate::outputs::print(rt, line.as_slice()) {
+    match outputs::print(rt, line.as_slice()) {
         Ok(()) => Ok(outcome),
         Err(error) => Err(Failure::Output(error)),
     }

@@ -1,9 +1,8 @@
 //! `slh keygen` and `slh public`.
-use crate::arguments::{check_output, random, required, set_of, signing_key};
-use crate::failure::Failure;
-use crate::{files, outputs};
+use crate::arguments::{check_output, required, set_of, signing_key};
 use clap::ArgMatches;
 use slh_files::{Key, Kind, Outcome, encode_key, made_key, verifying_key};
+use slh_paths::{Failure, files, outputs, random};
 use slh_run::ByteString;
 use slh_sets::Set;
 

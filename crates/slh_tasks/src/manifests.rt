@@ -1,53 +1,18 @@
 //! `slh manifest`: one signature for the files of a folder.
 use crate::arguments::{Randomness, check_inputs, check_output, required, signing_key, tell};
 use crate::chains::acting_key;
-use crate::failure::Failure;
-use crate::folder::{Folder, Found, names_below};
-use crate::shown::shown;
-use crate::{files, outputs};
 use clap::ArgMatches;
-use slh_dsa::{ParameterSet, VerifyingKey};
+use slh_command::{check_manifest, entry_name, first_unnamed, seal_manifest};
 use slh_files::Outcome;
-use slh_line::{signing_key as signing_key_of, verifying_key as verifying_key_of};
-use slh_manifest::{BuildError, Builder, CheckError, MAX_ENTRIES, Manifest};
-use slh_sets::{OnSet, SetSuite};
+use slh_manifest::{BuildError, Builder, CheckError, MAX_ENTRIES};
+use slh_paths::folder::{Folder, Found, names_below};
+use slh_paths::shown::shown;
+use slh_paths::{Failure, files, outputs};
 use std::alloc::{AllocError, Global};
 use std::{fs, io};
 use whole_files::is_part;
 
 const UNREADABLE: &str = "it can't be read";
-
-const NO_NAME: &[u8] = b"";
-
-// The entries that are to be signed.
-#[derive(Drop)]
-struct Sealing<'s> {
-    alloc: Global,
-    key: &'s [u8],
-    random: Option<&'s [u8]>,
-    entries: Builder,
-}
-
-impl<'s> OnSet for Sealing<'s> {
-    ghost use Rattle.std.specs.Prelude.{⊤};
-
-    type Out = Result<Vec<u8>, BuildError>;
-
-    ghost gives = { λ _ _ _ _. ⊤ };
-
-    fn on<P: SetSuite>(self) -> Result<Vec<u8>, BuildError> {
-        let Sealing {
-            alloc,
-            key,
-            random,
-            entries,
-        } = self;
-        match signing_key_of::<P>(key) {
-            Ok(key) => entries.seal(alloc, &key, random),
-            Err(_) => Err(BuildError::Memory),
-        }
-    }
-}
 
 fn build_text(error: BuildError) -> &'static str {
     match error {
@@ -187,13 +152,8 @@ fn sealed<'a>(
     let key = signing_key(rt, words)?;
     let entries = entries_below(rt, path, output)?;
     let randomness = Randomness::new(rt, words)?;
-    let manifest = key.set.run(Sealing {
-        alloc: rt.alloc(),
-        key: key.bytes.as_slice(),
-        random: randomness.of_set(key.set),
-        entries,
-    });
-    match manifest {
+    let random = randomness.of_set(key.set);
+    match seal_manifest(rt.alloc(), key.set, key.bytes.as_slice(), entries, random) {
         Ok(manifest) => Ok(manifest),
         Err(error) => Err(Failure::Told(path, build_text(error))),
     }
@@ -208,81 +168,7 @@ fn entries_below<'a>(
     entries_of(rt, path, &names)
 }
 
-// A manifest over a folder, and what stands below that.
-#[derive(Drop)]
-struct Checking<'s> {
-    key: &'s [u8],
-    manifest: &'s [u8],
-    folder: Folder<'s>,
-    others: &'s [String],
-}
-
-impl<'s> OnSet for Checking<'s> {
-    ghost use Rattle.std.specs.Prelude.{⊤};
-
-    type Out = (Finding<'s>, Folder<'s>);
-
-    ghost gives = { λ _ _ _ _. ⊤ };
-
-    fn on<P: SetSuite>(self) -> (Finding<'s>, Folder<'s>) {
-        let Checking {
-            key,
-            manifest,
-            mut folder,
-            others,
-        } = self;
-        let finding = match verifying_key_of::<P>(key) {
-            Ok(key) => checked_over(&key, manifest, &mut folder, others),
-            Err(_) => Finding::Refused(CheckError::Form, NO_NAME),
-        };
-        (finding, folder)
-    }
-}
-
-// What is answered of a manifest over a folder.
-#[derive(Drop)]
-enum Finding<'m> {
-    Accepted,
-    // Why not, and where that speaks of an entry, the entry's name.
-    Refused(CheckError, &'m [u8]),
-    // All is as the manifest says, and this stands below the folder too.
-    Unnamed(&'m [u8]),
-}
-
-fn checked_over<'m, P: ParameterSet>(
-    key: &VerifyingKey<P>,
-    manifest: &'m [u8],
-    folder: &mut Folder<'_>,
-    others: &'m [String],
-) -> Finding<'m> {
-    let manifest = match Manifest::open(key, manifest) {
-        Ok(manifest) => manifest,
-        Err(error) => return Finding::Refused(error, NO_NAME),
-    };
-    let Err(error) = manifest.check(folder) else {
-        return unnamed_in(&manifest, others);
-    };
-    let entry = match error {
-        CheckError::Missing(i) | CheckError::Differs(i) => manifest.entry(i as usize),
-        _ => None,
-    };
-    match entry {
-        Some(entry) => Finding::Refused(error, entry.name),
-        None => Finding::Refused(error, NO_NAME),
-    }
-}
-
-// The first of some names that a manifest hasn't.
-fn unnamed_in<'m>(manifest: &Manifest<'m>, others: &'m [String]) -> Finding<'m> {
-    for name in others {
-        if manifest.find(name.as_bytes()).is_none() {
-            return Finding::Unnamed(name.as_bytes());
-        }
-    }
-    Finding::Accepted
-}
-
-// What stands below a folder and is no input of the command, where the words ask for that.
+// What stands below a folder and isn't named as an input, where the words ask for that.
 fn others_below<'a>(
     rt: &HostRuntime,
     words: &ArgMatches<'a>,
@@ -292,25 +178,31 @@ fn others_below<'a>(
     if !words.get_flag("strict") {
         return Ok(others);
     }
+    let folder = match files::folder_place(rt, path) {
+        Ok(folder) => folder,
+        Err(error) => return Err(Failure::File(path, error)),
+    };
+    let named = named_places(rt, words)?;
     for name in found_below(rt, path, Found::All)? {
-        let below = format!(in rt.alloc(); "{path}/{name}")?;
-        if !is_named(rt, words, below.as_str()) {
+        let place = format!(in rt.alloc(); "{folder}/{name}")?;
+        if !named.contains(&place) {
             others.push(name).map_err(AllocError::from)?;
         }
     }
     Ok(others)
 }
 
-// Whether the words name a file as the manifest, the chain or the key.
-fn is_named(rt: &HostRuntime, words: &ArgMatches<'_>, path: &str) -> bool {
+// Where the files stand that the words name as the manifest, the chain and the key.
+fn named_places(rt: &HostRuntime, words: &ArgMatches<'_>) -> Result<Vec<String>, AllocError> {
+    let mut places = Vec::new(rt.alloc());
     for name in ["manifest", "chain", "key"] {
         if let Some(input) = words.get_str(name)
-            && files::are_one(rt, input, path)
+            && let Some(place) = files::place_of(rt, input)
         {
-            return true;
+            places.push(place)?;
         }
     }
-    false
+    Ok(places)
 }
 
 /// Tells whether a folder has the files of a manifest.
@@ -323,34 +215,34 @@ pub fn check<'a>(rt: &HostRuntime, words: &ArgMatches<'a>) -> Result<Outcome, Fa
     let path = required(words, "manifest")?;
     let manifest = files::read_limited(rt, path)?;
     let others = others_below(rt, words, below)?;
-    let (finding, folder) = key.set.run(Checking {
-        key: key.bytes.as_slice(),
-        manifest: manifest.as_slice(),
-        folder: Folder::new(rt, below),
-        others: &others,
-    });
-    tell_checked(rt, below, path, finding, folder)
+    let (key_bytes, folder) = (key.bytes.as_slice(), Folder::new(rt, below));
+    let checked = check_manifest(key.set, key_bytes, manifest.as_slice(), folder);
+    match checked.answer {
+        Ok(()) => tell_unnamed(rt, first_unnamed(manifest.as_slice(), &others)),
+        Err(CheckError::Form) => Err(Failure::Told(path, "not a manifest of the key's set")),
+        Err(CheckError::Fault) => Err(fault_failure(rt.alloc(), below, checked.store)?),
+        Err(error) => tell_refused(rt, error, entry_name(manifest.as_slice(), error)),
+    }
 }
 
-// Tells what came of a check of the manifest at a path over a folder.
-fn tell_checked<'a>(
+// Tells that each file is as the manifest says, or what it doesn't name.
+fn tell_unnamed(rt: &HostRuntime, name: Option<&[u8]>) -> Result<Outcome, Failure<'static>> {
+    match name {
+        Some(name) => tell_name(rt, Outcome::Unnamed, name),
+        None => tell(rt, Outcome::Accepted),
+    }
+}
+
+// Tells which entry isn't right, or that the signature isn't.
+fn tell_refused(
     rt: &HostRuntime,
-    below: &'a str,
-    path: &'a str,
-    finding: Finding<'_>,
-    folder: Folder<'_>,
-) -> Result<Outcome, Failure<'a>> {
-    let (error, name) = match finding {
-        Finding::Accepted => return tell(rt, Outcome::Accepted),
-        Finding::Unnamed(name) => return tell_name(rt, Outcome::Unnamed, name),
-        Finding::Refused(error, name) => (error, name),
-    };
+    error: CheckError,
+    name: &[u8],
+) -> Result<Outcome, Failure<'static>> {
     match error {
-        CheckError::Invalid => tell(rt, Outcome::Invalid),
         CheckError::Missing(_) => tell_name(rt, Outcome::Missing, name),
         CheckError::Differs(_) => tell_name(rt, Outcome::Differs, name),
-        CheckError::Form => Err(Failure::Told(path, "not a manifest of the key's set")),
-        CheckError::Fault => Err(fault_failure(rt.alloc(), below, folder)?),
+        _ => tell(rt, Outcome::Invalid),
     }
 }
 

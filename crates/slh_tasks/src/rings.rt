@@ -1,19 +1,15 @@
 //! `slh ring`: the keys that one master secret gives.
-use crate::arguments::{check_inputs, check_output, random, required, set_of};
-use crate::failure::Failure;
+use crate::arguments::{check_inputs, check_output, required, set_of};
 use crate::keys::write_pair;
-use crate::{files, outputs};
 use clap::ArgMatches;
 use line_serve::push_hex_line;
-use slh_dsa::ParameterSet;
+use slh_command::{MAX_MASTER, RecordError, key_at, record_of, restored_paths};
 use slh_files::{Key, Outcome, digits_of};
-use slh_ring::{Path, RestoreError, Ring, RingError, derive};
+use slh_paths::{Failure, files, outputs, random};
+use slh_ring::{Path, RestoreError, RingError};
 use slh_run::ByteString;
-use slh_sets::{OnSet, Set, SetSuite};
+use slh_sets::Set;
 use std::alloc::{AllocError, Global};
-
-/// The most bytes of a master.
-const MAX_MASTER: usize = 1 << 60;
 
 // The master of a file, which has it in hexadecimal.
 fn master<'a>(rt: &HostRuntime, words: &ArgMatches<'a>) -> Result<ByteString, Failure<'a>> {
@@ -37,86 +33,36 @@ pub fn make_master<'a>(rt: &HostRuntime, words: &ArgMatches<'a>) -> Result<Outco
     Ok(Outcome::Done)
 }
 
-// The key at a path.
-#[derive(Drop)]
-struct Derivation<'m, 'p> {
-    alloc: Global,
-    master: &'m [u8],
-    path: &'p Path,
-}
-
-impl<'m, 'p> OnSet for Derivation<'m, 'p> {
-    ghost use Rattle.std.specs.Prelude.{⊤};
-
-    type Out = Result<ByteString, AllocError>;
-
-    ghost gives = { λ _ _ _ _. ⊤ };
-
-    fn on<P: SetSuite>(self) -> Result<ByteString, AllocError> {
-        if self.master.len() > MAX_MASTER {
-            return Err(AllocError);
-        }
-        let key = derive::<P>(self.master, self.path);
-        ByteString::from_slice(self.alloc, &key.to_vec(self.alloc)?)
-    }
-}
-
 /// Makes the key at a path again, and writes it as `keygen` does.
 pub fn key<'a>(rt: &HostRuntime, words: &ArgMatches<'a>) -> Result<Outcome, Failure<'a>> {
     let text = required(words, "path")?;
     let Some(path) = Path::from_text(text.as_bytes()) else {
         return Err(Failure::Path(text));
     };
-    let key = key_at(rt, words, &path)?;
+    let key = derived(rt, words, &path)?;
     write_pair(rt, required(words, "name")?, &key)
 }
 
-fn key_at<'a>(rt: &HostRuntime, words: &ArgMatches<'a>, path: &Path) -> Result<Key, Failure<'a>> {
+fn derived<'a>(rt: &HostRuntime, words: &ArgMatches<'a>, path: &Path) -> Result<Key, Failure<'a>> {
     let set = set_of(words)?;
     let master = master(rt, words)?;
-    let bytes = set.run(Derivation {
-        alloc: rt.alloc(),
-        master: master.as_slice(),
-        path,
-    })?;
+    let bytes = key_at(rt.alloc(), set, master.as_slice(), path)?;
     Ok(Key { set, bytes })
 }
 
-// The record of the ring of some paths.
-#[derive(Drop)]
-struct Recording<'m, 's, 'a> {
-    alloc: Global,
-    master: &'m [u8],
-    paths: &'s [&'a str],
-}
-
-impl<'m, 's, 'a> OnSet for Recording<'m, 's, 'a> {
-    ghost use Rattle.std.specs.Prelude.{⊤};
-
-    type Out = Result<Vec<u8>, Failure<'a>>;
-
-    ghost gives = { λ _ _ _ _. ⊤ };
-
-    fn on<P: SetSuite>(self) -> Result<Vec<u8>, Failure<'a>> {
-        if self.master.len() > MAX_MASTER {
-            return Err(Failure::Memory);
-        }
-        let ring = ring_of::<P>(self.alloc, self.paths)?;
-        Ok(ring.to_record(self.alloc, self.master)?)
+// Why no record is made of the paths of these words.
+fn record_failure<'a>(texts: &[&'a str], error: RecordError) -> Failure<'a> {
+    match error {
+        RecordError::Text(i) => match texts.get(i) {
+            Some(text) => Failure::Path(*text),
+            None => Failure::Command,
+        },
+        RecordError::Ring(i, error) => match texts.get(i) {
+            Some(text) => ring_failure(*text, error),
+            None => Failure::Command,
+        },
+        RecordError::Memory => Failure::Memory,
     }
-}
-
-fn ring_of<'a, P: ParameterSet>(alloc: Global, paths: &[&'a str]) -> Result<Ring<P>, Failure<'a>> {
-    let mut ring = Ring::new(alloc);
-    for text in paths {
-        let Some(path) = Path::from_text(text.as_bytes()) else {
-            return Err(Failure::Path(*text));
-        };
-        if let Err(error) = ring.add(path) {
-            return Err(ring_failure(*text, error));
-        }
-    }
-    Ok(ring)
 }
 
 fn ring_failure<'a>(text: &'a str, error: RingError) -> Failure<'a> {
@@ -136,12 +82,10 @@ pub fn record<'a>(rt: &HostRuntime, words: &ArgMatches<'a>) -> Result<Outcome, F
     check_output(rt, words, &["master"], output)?;
     let set = set_of(words)?;
     let master = master(rt, words)?;
-    let record = set.run(Recording {
-        alloc: rt.alloc(),
-        master: master.as_slice(),
-        paths,
-    })?;
-    put_record(rt, output, set, &record)
+    match record_of(rt.alloc(), set, master.as_slice(), paths) {
+        Ok(record) => put_record(rt, output, set, &record),
+        Err(error) => Err(record_failure(paths, error)),
+    }
 }
 
 fn put_record<'a>(
@@ -154,45 +98,6 @@ fn put_record<'a>(
     push_hex_line(&mut line, b" ", record)?;
     outputs::put(rt, output, line.as_slice())?;
     Ok(Outcome::Done)
-}
-
-// A record that is to give its ring again.
-#[derive(Drop)]
-struct Restoring<'s> {
-    alloc: Global,
-    master: &'s [u8],
-    record: &'s [u8],
-}
-
-impl<'s> OnSet for Restoring<'s> {
-    ghost use Rattle.std.specs.Prelude.{⊤};
-
-    type Out = Result<ByteString, RestoreError>;
-
-    ghost gives = { λ _ _ _ _. ⊤ };
-
-    fn on<P: SetSuite>(self) -> Result<ByteString, RestoreError> {
-        if self.master.len() > MAX_MASTER {
-            return Err(RestoreError::Memory);
-        }
-        let ring = Ring::<P>::restore(self.alloc, self.master, self.record)?;
-        match paths_text(self.alloc, &ring) {
-            Ok(text) => Ok(text),
-            Err(_) => Err(RestoreError::Memory),
-        }
-    }
-}
-
-// The paths of a ring, a line for each.
-fn paths_text<P: ParameterSet>(alloc: Global, ring: &Ring<P>) -> Result<ByteString, AllocError> {
-    let mut text = ByteString::new(alloc);
-    for i in 0..ring.len() {
-        if let Some(path) = ring.get(i) {
-            path.push_to(&mut text)?;
-            text.push_slice(b"\n")?;
-        }
-    }
-    Ok(text)
 }
 
 // The set and the record of a line `SET RECORD`.
@@ -215,12 +120,7 @@ pub fn restore<'a>(rt: &HostRuntime, words: &ArgMatches<'a>) -> Result<Outcome, 
     let path = required(words, "file")?;
     let master = master(rt, words)?;
     let (set, record) = record_at(rt, path)?;
-    let restored = set.run(Restoring {
-        alloc: rt.alloc(),
-        master: master.as_slice(),
-        record: record.as_slice(),
-    });
-    match restored {
+    match restored_paths(rt.alloc(), set, master.as_slice(), record.as_slice()) {
         Ok(text) => outputs::put(rt, files::STANDARD, text.as_slice())?,
         Err(error) => return Err(restore_failure(path, error)),
     }

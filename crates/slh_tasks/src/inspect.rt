@@ -1,13 +1,12 @@
 //! `slh inspect`.
 use crate::arguments::required;
-use crate::failure::Failure;
-use crate::{files, outputs};
 use clap::ArgMatches;
 use line_serve::push_hex;
 use slh_files::{
     Key, KeyFileError, Kind, Outcome, digits_of, has_own_root, read_key, set_of_signature,
     verifying_key,
 };
+use slh_paths::{Failure, files, outputs};
 use slh_run::ByteString;
 use slh_sets::Set;
 

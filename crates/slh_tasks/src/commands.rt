@@ -1,12 +1,12 @@
 //! The one place that knows every command.
 use crate::audits::{audit, check};
-use crate::failure::Failure;
 use crate::inspect::inspect;
 use crate::keys::{keygen, public};
 use crate::signatures::{sign, verify};
 use crate::{batches, chains, manifests, rings};
 use clap::ArgMatches;
 use slh_files::Outcome;
+use slh_paths::Failure;
 
 /// Does what the words ask for.
 pub fn outcome_of<'a>(rt: &HostRuntime, matches: &ArgMatches<'a>) -> Result<Outcome, Failure<'a>> {

@@ -2,42 +2,37 @@
 use crate::arguments::{
     Randomness, check_inputs, check_output, required, signing_key, tell, verifying_key,
 };
-use crate::failure::Failure;
-use crate::files::{self, FileId};
-use crate::outputs;
 use clap::ArgMatches;
-use slh_batch::{Batch, BatchError, ReceiptError, Sealed, accept};
-use slh_dsa::ParameterSet;
+use slh_batch::{Batch, BatchError, ReceiptError};
+use slh_command::{Receipts, SealError, accept_receipt, seal_batch};
 use slh_files::Outcome;
-use slh_line::{signing_key as signing_key_of, verifying_key as verifying_key_of};
-use slh_sets::{OnSet, SetSuite};
+use slh_paths::files::{self, FileId};
+use slh_paths::{Failure, outputs};
 use std::alloc::AllocError;
 
-// The files of a batch that is to be signed.
+// The receipts of files, each of which goes beside its file.
 #[derive(Drop)]
-struct Sealing<'k, 's, 'a> {
+struct Beside<'s, 'a> {
     rt: &'s HostRuntime,
-    key: &'k [u8],
-    random: Option<&'k [u8]>,
     paths: &'s [&'a str],
+    // how many were written
+    count: usize,
 }
 
-impl<'k, 's, 'a> OnSet for Sealing<'k, 's, 'a> {
-    ghost use Rattle.std.specs.Prelude.{⊤};
+impl<'s, 'a> Receipts for Beside<'s, 'a> {
+    ghost use Rattle.std.specs.Prelude.{None};
 
-    type Out = Result<(), Failure<'a>>;
+    type Error = Failure<'a>;
 
-    ghost gives = { λ _ _ _ _. ⊤ };
+    ghost taken = { λ _. None };
 
-    fn on<P: SetSuite>(self) -> Result<(), Failure<'a>> {
-        let Ok(key) = signing_key_of::<P>(self.key) else {
-            return Err(Failure::Told("--key", "not a key of its set"));
+    fn take(&mut self, receipt: &[u8]) -> Result<(), Failure<'a>> {
+        let Some(path) = self.paths.get(self.count) else {
+            return Err(Failure::Command);
         };
-        let batch = batch_of(self.rt, self.paths)?;
-        match batch.seal(self.rt.alloc(), &key, self.random) {
-            Ok(sealed) => write_receipts(self.rt, &sealed, self.paths),
-            Err(error) => Err(batch_failure("the batch", error)),
-        }
+        outputs::put_beside(self.rt, *path, ".receipt", receipt)?;
+        self.count = self.count.saturating_add(1);
+        Ok(())
     }
 }
 
@@ -97,24 +92,6 @@ fn check_names<'a>(
     Ok(())
 }
 
-// Writes FILE.receipt for each file.
-fn write_receipts<'a, P: ParameterSet>(
-    rt: &HostRuntime,
-    sealed: &Sealed<P>,
-    paths: &[&'a str],
-) -> Result<(), Failure<'a>> {
-    let mut i = 0u32;
-    for path in paths {
-        let receipt = match sealed.receipt(rt.alloc(), i) {
-            Ok(receipt) => receipt,
-            Err(error) => return Err(batch_failure(*path, error)),
-        };
-        outputs::put_beside(rt, *path, ".receipt", &receipt)?;
-        i = i.saturating_add(1);
-    }
-    Ok(())
-}
-
 /// Signs files under one signature.
 pub fn sign<'s, 'a>(
     rt: &'s HostRuntime,
@@ -126,36 +103,17 @@ pub fn sign<'s, 'a>(
     check_names(rt, words, paths)?;
     let key = signing_key(rt, words)?;
     let randomness = Randomness::new(rt, words)?;
-    let random = randomness.of_set(key.set);
-    key.set.run(Sealing {
+    let batch = batch_of(rt, paths)?;
+    let (key_bytes, random) = (key.bytes.as_slice(), randomness.of_set(key.set));
+    let receipts = Beside {
         rt,
-        key: key.bytes.as_slice(),
-        random,
         paths,
-    })?;
-    Ok(Outcome::Done)
-}
-
-// The receipt of a file.
-#[derive(Drop)]
-struct Accepting<'s> {
-    key: &'s [u8],
-    message: &'s [u8],
-    receipt: &'s [u8],
-}
-
-impl<'s> OnSet for Accepting<'s> {
-    ghost use Rattle.std.specs.Prelude.{⊤};
-
-    type Out = Result<(), ReceiptError>;
-
-    ghost gives = { λ _ _ _ _. ⊤ };
-
-    fn on<P: SetSuite>(self) -> Result<(), ReceiptError> {
-        let Ok(key) = verifying_key_of::<P>(self.key) else {
-            return Err(ReceiptError::Form);
-        };
-        accept(&key, self.message, self.receipt)
+        count: 0,
+    };
+    match seal_batch(rt.alloc(), key.set, key_bytes, batch, random, receipts) {
+        Ok(_) => Ok(Outcome::Done),
+        Err(SealError::Batch(error)) => Err(batch_failure("the batch", error)),
+        Err(SealError::Receipts(failure)) => Err(failure),
     }
 }
 
@@ -166,11 +124,8 @@ pub fn verify<'a>(rt: &HostRuntime, words: &ArgMatches<'a>) -> Result<Outcome, F
     let (path, file) = (required(words, "receipt")?, required(words, "file")?);
     let receipt = files::read_limited(rt, path)?;
     let message = files::read(rt, file)?;
-    let accepted = key.set.run(Accepting {
-        key: key.bytes.as_slice(),
-        message: message.as_slice(),
-        receipt: receipt.as_slice(),
-    });
+    let key_bytes = key.bytes.as_slice();
+    let accepted = accept_receipt(key.set, key_bytes, message.as_slice(), receipt.as_slice());
     tell_accepted(rt, path, file, accepted)
 }
 

@@ -1,13 +1,11 @@
 //! What the words of a command stand for.
-use crate::failure::Failure;
-use crate::files;
 use clap::ArgMatches;
 use slh_files::{
     Key, Kind, Message, Outcome, digits_of, read_key, read_signature, read_signing_key,
 };
+use slh_paths::{Failure, files, random};
 use slh_run::{ByteString, Mode};
 use slh_sets::Set;
-use std::random::RandomSource;
 
 /// What is put behind the name of a file for the name of its signature.
 pub const SIGNATURE_END: &str = ".sig";
@@ -227,15 +225,6 @@ impl Randomness {
             Some(bytes) => Some(&bytes[..set.n()]),
             None => None,
         }
-    }
-}
-
-/// So many bytes of the system's random source.
-pub fn random<const N: usize>(rt: &HostRuntime) -> Result<[u8; N], Failure<'static>> {
-    let mut bytes = [0; N];
-    match rt.fill_bytes(&mut bytes) {
-        Ok(()) => Ok(bytes),
-        Err(error) => Err(Failure::Random(error)),
     }
 }
 

@@ -1,9 +1,9 @@
 //! Outputs: each file is written whole or not at all, and no secret is replaced.
 ghost use Rattle.std.specs.Prelude.{◌≢◌, IfOk, string_bytes};
 
-use crate::arguments::random;
 use crate::failure::Failure;
 use crate::files::{STANDARD, read_front};
+use crate::randomness::random;
 use crate::secrets::{FRONT, holds_secret};
 use std::fs::{self, OpenFile, OpenOptions};
 use std::io::{self, ErrorKind, Write};

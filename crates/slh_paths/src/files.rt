@@ -165,3 +165,27 @@ pub fn are_one(rt: &HostRuntime, path: &str, other: &str) -> bool {
         _ => false,
     }
 }
+
+/// Where a folder stands, whatever path leads to it. A slash and a name behind it are the place of
+/// what has that name there.
+pub fn folder_place(rt: &HostRuntime, path: &str) -> io::Result<String> {
+    let end = fs::canonicalize(rt, path)?;
+    let place = end.as_str();
+    let place = place.strip_suffix('/').unwrap_or(place);
+    Ok(String::from_str(rt.alloc(), place)?)
+}
+
+/// Where a file stands itself: the last part of its path is not followed, so two names of one file
+/// are two places. There is none for `-`, or where the folder can't be found.
+pub fn place_of(rt: &HostRuntime, path: &str) -> Option<String> {
+    if path == STANDARD {
+        return None;
+    }
+    let (folder, name) = match path.rsplit_once('/') {
+        Some(("", name)) => ("/", name),
+        Some(parts) => parts,
+        None => (".", path),
+    };
+    let folder = folder_place(rt, folder).ok()?;
+    format!(in rt.alloc(); "{folder}/{name}").ok()
+}

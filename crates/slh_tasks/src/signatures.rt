@@ -3,11 +3,10 @@ use crate::arguments::{
     Randomness, SIGNATURE_END, check_inputs, check_output, context, message, mode, required,
     signature, signing_key, tell, verifying_key,
 };
-use crate::failure::Failure;
-use crate::files::{self, FromStart, Reader};
-use crate::outputs;
 use clap::ArgMatches;
 use slh_files::{Key, Message, Outcome, SignError};
+use slh_paths::files::{self, FromStart, Reader};
+use slh_paths::{Failure, outputs};
 use slh_readers::{ReadError, sign_digest, sign_twice};
 use slh_run::{ByteString, Mode};
 use std::fs::File;

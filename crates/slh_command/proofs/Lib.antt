@@ -1,0 +1,4 @@
+mod Adds
+mod Checks
+mod Taken
+mod Texts

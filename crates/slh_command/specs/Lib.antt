@@ -1,0 +1,5 @@
+pub mod Batches
+pub mod Chains
+pub mod Manifests
+pub mod Receipts
+pub mod Rings

@@ -1,0 +1,18 @@
+//! What the command `slh` has at paths: its inputs, its outputs, the files below a folder, and what
+//! it tells of one that can't be read or written.
+//!
+//! An input is read whole or in pieces ([`files`]), an output is written whole or not at all and
+//! never in the place of a secret ([`outputs`]), and the files below a folder are a store that
+//! follows no link ([`folder`]).
+#![tactic(auto)]
+
+mod failure;
+pub mod files;
+pub mod folder;
+pub mod outputs;
+mod randomness;
+mod secrets;
+pub mod shown;
+
+pub use failure::Failure;
+pub use randomness::random;

@@ -1,0 +1,46 @@
+//! From the words of the command line to the program's status.
+use crate::commands::outcome_of;
+use slh_paths::Failure;
+use slh_words::command;
+use std::env;
+
+/// The status for everything but an outcome.
+const FAILED: u8 = 2;
+
+/// Does what the words of the command line ask for. The result is the program's status; of what
+/// failed the cause goes to standard error.
+pub fn status(rt: &HostRuntime) -> u8 {
+    match answer(rt) {
+        Ok(status) => status,
+        Err(failure) => told(rt, failure),
+    }
+}
+
+// Tells why a command failed.
+fn told(rt: &HostRuntime, failure: Failure<'_>) -> u8 {
+    let _ = eprintln!(rt; "slh: {failure}");
+    FAILED
+}
+
+// Reads the words and does what they ask for.
+fn answer(rt: &HostRuntime) -> Result<u8, Failure<'static>> {
+    let words: Vec<String> = match env::args(rt) {
+        Ok(words) => words.collect(rt.alloc())?,
+        Err(error) => return Err(Failure::Words(error)),
+    };
+    let command = command(rt.alloc())?;
+    let matches = match command.try_get_matches_from(words.as_slice()) {
+        Ok(matches) => matches,
+        Err(error) => {
+            let status = error.exit_code() as u8;
+            return match error.print(rt) {
+                Ok(()) => Ok(status),
+                Err(error) => Err(Failure::Output(error)),
+            };
+        }
+    };
+    match outcome_of(rt, &matches) {
+        Ok(outcome) => Ok(outcome.status()),
+        Err(failure) => Ok(told(rt, failure)),
+    }
+}
