@@ -11,45 +11,11 @@ use Rattle.std.proofs.lemmas.Bool.Decides.{nat_tests}
 use Rattle.std.proofs.lemmas.List.{length-map}
 use Rattle.std.proofs.lemmas.List.Elements.{All-cons, All-from_recursion, All-head, All-nil, All-tail}
 use Rattle.std.proofs.lemmas.List.Splits.{slice_split_at, slice_split_none}
+use Rattle.line_serve.proofs.NumbersBack.{AreDigits, decimal_digits, number_back}
 use Rattle.line_serve.specs.Decimals.{is_digit, number_value, read_digits}
 use Rattle.line_serve.specs.Fields.{for_some}
 use Rattle.slh_ring.specs.Paths.{IsPath}
 use Rattle.slh_ring.specs.PathTexts.{all_numbers, is_dot, path_parts, path_text, path_value, slash}
-
--- digits, and the number that they go on to
-abbrev AreDigits : List ℕ → Type 0
-AreDigits ds = AllByRecursion (λ c. IsInRange 48 57 c) ds
-
-abbrev read_on : ℕ → List ℕ → ℕ
-read_on n [] = n
-read_on n (c ∷ cs) = read_on (n * 10 + (c - 48)) cs
-
-own : IsNumeralModel AreDigits (read_on 0)
-own = numerals_by_fold _ (search rules) read_on (search rules)
-
-read_grows : (n : ℕ) (ds : List ℕ) → n ≤ read_on n ds
-read_grows n [] = omega arith
-read_grows n (c ∷ cs) = omega (arith, read_grows (n * 10 + (c - 48)) cs)
-
-digit_true : (c : ℕ) → IsInRange 48 57 c → is_digit c ≡ true
-digit_true c is = grind (arith, nat_tests)
-
-digits_read : (limit n : ℕ) (ds : List ℕ) → AreDigits ds → read_on n ds < limit → read_digits limit n ds ≡ Some (read_on n ds)
-digits_read limit n [] are small = refl
-digits_read limit n (c ∷ cs) are small =
-    let next = n * 10 + (c - 48) in
-    let here : next < limit = omega (arith, small, read_grows next cs) in
-    rw (digit_true c are.0, lt-ltb _ _ here) (digits_read limit next cs are.1 small)
-
--- a number is read back from its digits
-pub number_back : (n : ℕ) → n < 2 ^ 32 → number_value (decimal n) ≡ Some n
-number_back n small =
-    let long : n < 2 ^ 64 = omega arith in
-    let some : 1 ≤ length (decimal n) = decimal_nonempty n long in
-    let few : length (decimal n) ≤ 10 = length-decimal-le 10 n (omega arith) (omega arith) long in
-    let value : read_on 0 (decimal n) ≡ n = digits_value-decimal own n long in
-    rw (le-leb 1 (length (decimal n)) some, le-leb (length (decimal n)) 10 few)
-    (digits_read (2 ^ 32) 0 (decimal n) (digits_decimal own n long) (rw value small) ∙ ap Some value)
 
 -- no slash stands among digits
 not_slash : (c : ℕ) → IsInRange 48 57 c → (c == slash) ≡ false
@@ -60,7 +26,7 @@ no_slashes [] are = tt
 no_slashes (c ∷ cs) are = (not_slash c are.0, no_slashes cs are.1)
 
 no_slash : (n : ℕ) → n < 2 ^ 32 → All (λ c. (c == slash) ≡ false) (decimal n)
-no_slash n small = All-from_recursion _ (decimal n) (no_slashes (decimal n) (digits_decimal own n (omega arith)))
+no_slash n small = All-from_recursion _ (decimal n) (no_slashes (decimal n) (decimal_digits n (omega arith)))
 
 abbrev pub Small : ℕ → Type 0
 Small x = x < 2 ^ 32
@@ -90,7 +56,7 @@ text_back [] is = refl
 text_back (x ∷ xs) is =
     let long : x < 2 ^ 64 = omega (arith, All-head Small x xs is.numbers) in
     let text = path_text (x ∷ xs) in
-    let dotless : is_dot text ≡ false = not_dot text (first_digit (decimal x) _ (digits_decimal own x long) (decimal_nonempty x long)) in
+    let dotless : is_dot text ≡ false = not_dot text (first_digit (decimal x) _ (decimal_digits x long) (decimal_nonempty x long)) in
     let few : length (map decimal (x ∷ xs)) ≤ 8 = rw (length-map (x ∷ xs) decimal) is.count in
     rw (dotless, parts_back x xs is.numbers, le-leb (length (map decimal (x ∷ xs))) 8 few) (numbers_back (x ∷ xs) is.numbers)
 

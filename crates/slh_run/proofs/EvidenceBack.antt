@@ -9,46 +9,13 @@ use Rattle.std.proofs.lemmas.Bool.{and_parts, le-leb, leb-true, lt-ltb}
 use Rattle.std.proofs.lemmas.Bool.Decides.{nat_tests}
 use Rattle.std.proofs.lemmas.List.Elements.{All-from_recursion}
 use Rattle.std.proofs.lemmas.List.Splits.{slice_split_at, slice_split_none}
+use Rattle.line_serve.proofs.NumbersBack.{AreDigits, decimal_digits, number_back}
 use Rattle.line_serve.specs.Decimals.{is_digit, number_value, read_digits}
 use Rattle.line_serve.specs.Fields.{fields, space}
 use Rattle.slh_run.specs.EvidenceNumbers.{HasNumbers}
 use Rattle.slh_run.specs.EvidenceWords.{evidence_in, evidence_text, spaced}
 use Rattle.slh_audit.specs.declared.evidence.Evidence.{Evidence}
 use Rattle.slh_audit.specs.declared.evidence.Evidence.TheVariants.{ForsNode, ForsRoots, ChainStep, Leaf, TreeNode, Early}
-
--- digits, and the number that they go on to
-abbrev AreDigits : List ℕ → Type 0
-AreDigits ds = AllByRecursion (λ c. IsInRange 48 57 c) ds
-
-abbrev read_on : ℕ → List ℕ → ℕ
-read_on n [] = n
-read_on n (c ∷ cs) = read_on (n * 10 + (c - 48)) cs
-
-own : IsNumeralModel AreDigits (read_on 0)
-own = numerals_by_fold _ (search rules) read_on (search rules)
-
-read_grows : (n : ℕ) (ds : List ℕ) → n ≤ read_on n ds
-read_grows n [] = omega arith
-read_grows n (c ∷ cs) = omega (arith, read_grows (n * 10 + (c - 48)) cs)
-
-digit_true : (c : ℕ) → IsInRange 48 57 c → is_digit c ≡ true
-digit_true c is = grind (arith, nat_tests)
-
-digits_read : (limit n : ℕ) (ds : List ℕ) → AreDigits ds → read_on n ds < limit → read_digits limit n ds ≡ Some (read_on n ds)
-digits_read limit n [] are small = refl
-digits_read limit n (c ∷ cs) are small =
-    let next = n * 10 + (c - 48) in
-    let here : next < limit = omega (arith, small, read_grows next cs) in
-    rw (digit_true c are.0, lt-ltb _ _ here) (digits_read limit next cs are.1 small)
-
-number_back : (n : ℕ) → n < 2 ^ 32 → number_value (decimal n) ≡ Some n
-number_back n small =
-    let long : n < 2 ^ 64 = omega arith in
-    let some : 1 ≤ length (decimal n) = decimal_nonempty n long in
-    let few : length (decimal n) ≤ 10 = length-decimal-le 10 n (omega arith) (omega arith) long in
-    let value : read_on 0 (decimal n) ≡ n = digits_value-decimal own n long in
-    rw (le-leb 1 (length (decimal n)) some, le-leb (length (decimal n)) 10 few)
-    (digits_read (2 ^ 32) 0 (decimal n) (digits_decimal own n long) (rw value small) ∙ ap Some value)
 
 -- words: bytes that are no blanks, the least of which is the dash
 abbrev all_visible : List ℕ → Bool
@@ -64,7 +31,7 @@ digits_visible [] are = tt
 digits_visible (c ∷ cs) are = (omega (arith, are.0.0), digits_visible cs are.1)
 
 number_word : (n : ℕ) → n < 2 ^ 32 → IsWord (decimal n)
-number_word n small = record { some = decimal_nonempty n (omega arith); visible = digits_visible (decimal n) (digits_decimal own n (omega arith)) }
+number_word n small = record { some = decimal_nonempty n (omega arith); visible = digits_visible (decimal n) (decimal_digits n (omega arith)) }
 
 no_space : (c : ℕ) → 45 ≤ c → (c == space) ≡ false
 no_space c high = grind (arith, nat_tests)
