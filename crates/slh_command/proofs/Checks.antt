@@ -26,7 +26,7 @@ own_by false refusal is = grind arith
 
 -- bytes that are no key of the set
 pub checked_by_none : (Z : Scheme) (key manifest : List ℕ) (store : Option Files) (before after : ℕ) (e : Error)
-    → verifying_key_refusal Z key ≡ Some e → IsChecked {Unit {0}} Z key manifest store before after (Err Form)
+    → verifying_key_refusal Z key ≡ Some e → IsChecked {T = Unit {0}} Z key manifest store before after (Err Form)
 checked_by_none Z key manifest store before after e is = record {
   form = refused_as _ Form Form (form_by _ e (manifest_refusal Z key manifest) is);
   invalid = refused_as _ Form Invalid (form_by _ e (manifest_refusal Z key manifest) is);

@@ -105,7 +105,7 @@ struct Checking<'a, T> {
 // Checks a manifest over a store by the bytes of a key.
 fn check_by<P: ParameterSet, T: Store>(key: &[u8], manifest: &[u8], store: T) -> Checked<T>
     ensures { IsChecked P.scheme key.now manifest.now (T.files store) (T.faults store)
-        result.answer (T.faults result.store) }
+        (T.faults result.store) result.answer }
 {
     let Ok(key) = VerifyingKey::<P>::try_from(key) else {
         return Checked {
@@ -122,7 +122,7 @@ impl<'a, T: Store + Drop> OnSet for Checking<'a, T> {
     type Out = Checked<T>;
 
     ghost gives = { λ c Z _ result. IsChecked Z c.key.now c.manifest.now (T.files c.store)
-        (T.faults c.store) result.answer (T.faults result.store) };
+        (T.faults c.store) (T.faults result.store) result.answer };
 
     fn on<P: SetSuite>(self) -> Checked<T> {
         let Checking {
@@ -144,7 +144,7 @@ pub fn check_manifest<T: Store + Drop>(
     store: T,
 ) -> Checked<T>
     ensures { IsChecked (scheme_for set) key.now manifest.now (T.files store) (T.faults store)
-        result.answer (T.faults result.store) }
+        (T.faults result.store) result.answer }
 {
     set.run(Checking {
         key,
