@@ -3,7 +3,8 @@
 //! `rate COUNT` adds so many entries of 100 bytes, and writes a line after each step;
 //! `examples/log_rates` takes the times between them. `tiles COUNT` writes the tiles of the logs of
 //! 1 to so many entries, a line for each last tile of a level. `prove FOLDER OLDSIZE OLDROOT SIZE
-//! ROOT` makes proofs of the tiles in a folder. `examples/log_both_ways` reads what these two write.
+//! ROOT` makes proofs of the tiles in a folder. `examples/log_both_ways` reads what these two
+//! write.
 #![tactic(auto)]
 
 mod proofs;

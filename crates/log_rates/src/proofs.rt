@@ -43,8 +43,8 @@ fn write_proof(rt: &HostRuntime, proof: Result<Vec<[u8; 32]>, TileError>) -> Opt
     }
 }
 
-/// Writes the path of the last entry of the old log in the log, and the proof that the log grew from
-/// the old one, or why there is none.
+/// Writes the path of the last entry of the old log in the log, and the proof that the log grew
+/// from the old one, or why there is none.
 pub(crate) fn write_proofs(
     rt: &HostRuntime,
     folder: &[u8],
