@@ -3,3 +3,4 @@ pub mod Rows
 pub mod Spans
 pub mod Bits
 pub mod Places
+pub mod Reading

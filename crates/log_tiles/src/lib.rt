@@ -5,6 +5,8 @@
 //! of a level may have fewer. [`last_tile`] and [`is_piece`] say which tiles a log of so many
 //! entries has, [`Tile::path`] and [`Bundle::path`] what their files are called.
 //!
+//! [`push_entry`] puts an entry into the bytes of a bundle, and [`Entries`] reads them.
+//!
 //! [`GrowingTiles`] adds digests one at a time, keeps the last tile of each level, 64 KiB in all,
 //! and says which tiles became full. The root over all digests is made of them.
 //!
@@ -15,7 +17,9 @@
 //! needn't be trusted: what they hand out has passed the check against the root.
 #![tactic(auto)]
 
+mod entries;
 mod growing;
+pub mod laws;
 mod names;
 mod node;
 mod proving;
@@ -23,6 +27,7 @@ mod shape;
 mod source;
 mod span;
 
+pub use entries::{BundleError, Entries, EntryError, MAX_ENTRY_LEN, push_entry};
 pub use growing::{GrowingTiles, LEVELS};
 pub use names::{Bundle, FULL, NameError, Tile};
 pub use node::{NodePlace, node_place, node_root};

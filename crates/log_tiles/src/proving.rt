@@ -52,9 +52,9 @@ fn tile_error(error: ProveError, size: u64) -> TileError
 }
 
 /// The path of the entry at `index` of the log of `size` entries. It has passed
-/// [`merkle_tree::check_inclusion`] from the entry's digest to the root, which comes from elsewhere,
-/// so the source needn't be trusted. Reads at most two tiles for each time that `size` can be
-/// halved, and holds one of them.
+/// [`merkle_tree::check_inclusion`] from the entry's digest to the root, which comes from
+/// elsewhere, so the source needn't be trusted. Reads at most two tiles for each time that `size`
+/// can be halved, and holds one of them.
 pub fn prove_presence<H: TreeHash, S: TileSource>(
     source: &S,
     index: u64,

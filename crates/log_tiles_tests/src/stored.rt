@@ -96,8 +96,7 @@ fn with_log(alloc: Global, before: &[u8; 32], size: u64) -> Option<[u8; 32]>
     let mut all = *before;
     for i in [0, size / 2, size - 1] {
         let leaf = leaves.get(i as usize)?;
-        let path =
-            prove_presence::<Sha256, Made<'_>>(&tiles, i, size, leaf, &root, alloc).ok()?;
+        let path = prove_presence::<Sha256, Made<'_>>(&tiles, i, size, leaf, &root, alloc).ok()?;
         all = with_proof(&all, &path);
     }
     for m in [1, size / 2 + 1, size] {
@@ -162,10 +161,12 @@ fn a_tile_that_is_missing_is_named(rt: HostRuntime) {
 fn is_out_of_range(alloc: Global, old_size: u64, size: u64, index: u64) -> bool {
     let tiles = tiles_over(&[]);
     let none = [0; 32];
-    let growth =
-        prove_growth::<Sha256, Made<'_>>(&tiles, old_size, size, &none, &none, alloc).err();
-    let presence =
-        prove_presence::<Sha256, Made<'_>>(&tiles, index, size, &none, &none, alloc).err();
+    let growth = prove_growth::<Sha256, Made<'_>>(
+        &tiles, old_size, size, &none, &none, alloc,
+    ).err();
+    let presence = prove_presence::<Sha256, Made<'_>>(
+        &tiles, index, size, &none, &none, alloc,
+    ).err();
     growth == Some(TileError::Range) && presence == Some(TileError::Range)
 }
 
@@ -246,7 +247,16 @@ fn are_read(alloc: Global, index: u64, size: u64, most: u32) -> bool {
 #[test]
 fn a_proof_in_10_9_entries_reads_at_most_60_tiles(rt: HostRuntime) {
     let alloc = rt.alloc();
-    for index in [0, 1, 255, 256, 536_870_911, 536_870_912, 999_999_998, 999_999_999] {
+    for index in [
+        0,
+        1,
+        255,
+        256,
+        536_870_911,
+        536_870_912,
+        999_999_998,
+        999_999_999,
+    ] {
         assert!(rt; are_read(alloc, index, 1_000_000_000, 60));
     }
 }
