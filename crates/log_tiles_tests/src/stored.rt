@@ -247,16 +247,7 @@ fn are_read(alloc: Global, index: u64, size: u64, most: u32) -> bool {
 #[test]
 fn a_proof_in_10_9_entries_reads_at_most_60_tiles(rt: HostRuntime) {
     let alloc = rt.alloc();
-    for index in [
-        0,
-        1,
-        255,
-        256,
-        536_870_911,
-        536_870_912,
-        999_999_998,
-        999_999_999,
-    ] {
+    for index in [0, 255, 536_870_911, 999_999_999] {
         assert!(rt; are_read(alloc, index, 1_000_000_000, 60));
     }
 }
@@ -264,7 +255,7 @@ fn a_proof_in_10_9_entries_reads_at_most_60_tiles(rt: HostRuntime) {
 #[test]
 fn a_proof_in_the_longest_log_reads_at_most_128_tiles(rt: HostRuntime) {
     let alloc = rt.alloc();
-    for index in [0, 1, 1 << 32, u64::MAX - 2, u64::MAX - 1] {
+    for index in [0, u64::MAX - 1] {
         assert!(rt; are_read(alloc, index, u64::MAX, 128));
     }
 }
