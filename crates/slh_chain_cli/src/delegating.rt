@@ -1,6 +1,6 @@
 //! `SET delegate KEY NAME DEPTH VK RAND` gives a link.
-ghost use Rattle.std.specs.Prelude.{◌≡◌, ◌⊎◌, Ok, Err};
-ghost use Rattle.std.specs.Option.{option_copied};
+ghost use Rattle.std.specs.Prelude.{◌≡◌, ◌≤◌, ◌⊎◌, Ok, Err, IfOk, length};
+ghost use Rattle.std.specs.Option.{option_copied, ForSome};
 ghost use Rattle.line_serve.specs.Fields.{contents};
 ghost use Rattle.slh_chain_cli.specs.Replies.{delegate_answer, depth_at as spec_depth_at};
 ghost use Rattle.slh_chain_cli.specs.Replies.{delegate_request as spec_delegate_request};
@@ -17,7 +17,8 @@ use std::alloc::Global;
 
 // The depth that a field stands for. `Fields`: it stands for none.
 fn depth_at(fields: &[&[u8]], i: usize) -> Result<u8, LineError>
-    ensures { result ≡ spec_depth_at (contents fields.now) i }
+    ensures value { result ≡ spec_depth_at (contents fields.now) i }
+    ensures most { IfOk result (λ depth. depth ≤ 15) }
 {
     match decimal_value(field_at(fields, i), 10, 15) {
         Some(depth) => Ok(depth as u8),
@@ -35,6 +36,8 @@ fn delegate_text<P: ParameterSet>(
     subject: &VerifyingKey<P>,
     opt_rand: Option<&[u8]>,
 ) -> Result<ByteString, LineError>
+    requires depth { depth ≤ 15 }
+    requires opt_rand { ForSome (option_copied opt_rand) (λ bytes. length bytes ≡ P.N.USIZE) }
     ensures { let opt_rand = option_copied opt_rand.entry in
         (result ≡ Ok (spec_delegate_text P.scheme key.now name.now depth subject.now opt_rand))
         ⊎ (result ≡ Err Memory) }
@@ -46,7 +49,8 @@ fn delegate_text<P: ParameterSet>(
             Ok(text)
         }
         Err(LinkError::Name) => Ok(ByteString::from_slice(alloc, b"error name\n")?),
-        Err(_) => Err(LineError::Memory),
+        Err(LinkError::Depth | LinkError::Randomizer) => unreachable!(),
+        Err(LinkError::Memory) => Err(LineError::Memory),
     }
 }
 
@@ -59,6 +63,7 @@ fn delegate_request<P: ParameterSet>(
     subject: &[u8],
     opt_rand: Option<ByteString>,
 ) -> Result<ByteString, LineError>
+    requires { depth ≤ 15 }
     ensures { (result ≡ spec_delegate_request P.scheme key.now name.now depth subject.now opt_rand)
         ⊎ (result ≡ Err Memory) }
 {

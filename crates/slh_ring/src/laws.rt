@@ -52,9 +52,9 @@ pub fn records_are_restored()
         → restore_answer Z name master bytes ≡ Err Form }
 {}
 
-/// After any adds to an empty ring, memory never wanting, the ring is the set of the accepted paths
-/// in order; and one add more puts one path to those that are there. Two paths are one exactly
-/// where they are the same list.
+/// After any adds to an empty ring, where memory never is wanting, the ring is the set of the
+/// accepted paths in order; and one more add puts one more path among those that are there. Two
+/// paths are one exactly where they are the same list.
 pub fn adds_make_the_set()
     ensures ring { (adds : List (List ℕ)) → All IsPath adds → IsRing (after_adds [] adds) }
     ensures members { (adds : List (List ℕ)) (q : List ℕ)
@@ -65,8 +65,8 @@ pub fn adds_make_the_set()
     ensures same { (p q : List ℕ) → IsTrue (same_path p q) ↔ (p ≡ q) }
 {}
 
-/// The same by what calls of `add` answered, whether memory was wanting or not: after any calls to
-/// an empty ring it is the set of the paths of those that answered Ok, in order.
+/// The same by what the calls of `add` answered, whether or not memory was wanting: after any calls
+/// on an empty ring it is the set of the paths of those that answered Ok, in order.
 pub fn calls_make_the_set()
     ensures ring { (calls : List Call) (new : List (List ℕ))
         → All (λ call. IsPath call.path) calls

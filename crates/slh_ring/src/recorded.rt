@@ -13,7 +13,7 @@ use crate::entry::entry_of;
 use crate::path::Path;
 use crate::records::{MARK, read_record};
 use slh_dsa::{ParameterSet, SigningKey};
-use std::marker::Model;
+use std::marker::{Model, PhantomData};
 
 /// The name of the parameter set that a record says it is of. `None`: the bytes don't begin as a
 /// record does. What follows the name isn't looked at.
@@ -30,15 +30,16 @@ pub fn recorded_set(bytes: &[u8]) -> Option<&[u8]>
     Some(&bytes[6..end])
 }
 
-/// A record that was read without a master: the paths and the 8 bytes that stand there, by
-/// whomever. Clauses see it as the list of its entries.
+/// A record of a parameter set that was read without a master: the paths and the 8 bytes that stand
+/// there, by whomever. Clauses see it as the list of its entries.
 #[derive(Drop)]
-pub struct Record<'a> {
+pub struct Record<'a, P: ParameterSet> {
     count: usize,
     entries: &'a [u8],
+    set: PhantomData<P>,
 }
 
-impl<'a> Model for Record<'a> {
+impl<'a, P: ParameterSet> Model for Record<'a, P> {
     ghost use Rattle.std.specs.Prelude.{◌≡◌, ◌≤◌, List, None, true};
     ghost use Rattle.slh_ring.specs.Records.{Entry, are_entries, entries_in};
 
@@ -63,10 +64,10 @@ fn entries_from(count: usize, bytes: &[u8], i: usize) -> &[u8]
     rest
 }
 
-impl<'a> Record<'a> {
-    /// Reads the record of paths of a set. `None`: the bytes haven't the form of one. Takes no
+impl<'a, P: ParameterSet> Record<'a, P> {
+    /// Reads the record of paths of the set. `None`: the bytes haven't the form of one. Takes no
     /// memory and makes no key.
-    pub fn read<P: ParameterSet>(bytes: &'a [u8]) -> Option<Self>
+    pub fn read(bytes: &'a [u8]) -> Option<Self>
         ensures form { is_some result ≡ has_form P.set_name bytes.now }
         ensures entries { IfSome result (λ read. read ≡ recorded P.set_name bytes.now) }
     {
@@ -74,6 +75,7 @@ impl<'a> Record<'a> {
         Some(Record {
             count: body.count,
             entries: body.entries,
+            set: PhantomData,
         })
     }
 
@@ -86,7 +88,7 @@ impl<'a> Record<'a> {
     }
 
     /// The entry at an index from 0, in the order of the paths. `None`: there are not so many.
-    pub fn entry(&self, i: usize) -> Option<RecordEntry<'a>>
+    pub fn entry(&self, i: usize) -> Option<RecordEntry<'a, P>>
         ensures { result ≡ slice_get self.now i }
     {
         if i >= self.count {
@@ -96,18 +98,21 @@ impl<'a> Record<'a> {
         Some(RecordEntry {
             path: entry.path,
             tag: entry.tag,
+            set: PhantomData,
         })
     }
 }
 
-/// An entry of a record: a path, and 8 bytes that tell its key. Clauses see it as these two.
+/// An entry of a record of a parameter set: a path, and the 8 bytes that stand there for its key.
+/// Clauses see it as these two.
 #[derive(Drop)]
-pub struct RecordEntry<'a> {
+pub struct RecordEntry<'a, P: ParameterSet> {
     path: Path,
     tag: &'a [u8],
+    set: PhantomData<P>,
 }
 
-impl<'a> Model for RecordEntry<'a> {
+impl<'a, P: ParameterSet> Model for RecordEntry<'a, P> {
     ghost use Rattle.slh_ring.specs.Records.{Entry};
 
     ghost Value = { Entry };
@@ -115,7 +120,7 @@ impl<'a> Model for RecordEntry<'a> {
     ghost view = { λ e. record { path = e.path; tag = e.tag.now } };
 }
 
-impl RecordEntry<'_> {
+impl<P: ParameterSet> RecordEntry<'_, P> {
     /// The path.
     pub fn path(&self) -> &Path
         ensures { result.now ≡ self.now.path }
@@ -123,7 +128,9 @@ impl RecordEntry<'_> {
         &self.path
     }
 
-    /// The 8 bytes: the first of the SHA-256 of the verifying key at the path.
+    /// The 8 bytes that stand there. In a record that [`Ring::to_record`](crate::Ring::to_record)
+    /// made they are the first of the SHA-256 of the verifying key at the path; of any other record
+    /// [`key`](Self::key) shows under a master whether they are.
     pub fn tag(&self) -> &[u8]
         ensures { result.now ≡ self.now.tag }
     {
@@ -134,7 +141,7 @@ impl RecordEntry<'_> {
     /// isn't the recorded one. Takes no memory. One after another these are the keys that
     /// [`Ring::restore`](crate::Ring::restore) makes and doesn't hand out.
     #[tactic(auto, unfolding(crate::specs::Keys::key_tag))]
-    pub fn key<P: ParameterSet>(&self, master: &[u8]) -> Option<SigningKey<P>>
+    pub fn key(&self, master: &[u8]) -> Option<SigningKey<P>>
         requires { length master.now ≤ 2 ^ 60 }
         ensures own { is_some result ≡ bytes_eq self.now.tag
             (key_tag P.scheme P.set_name master.now self.now.path) }

@@ -52,6 +52,7 @@ impl<P: ParameterSet> Ring<P> {
         ensures refusal { RefusedOrNoMemory Memory result (add_refusal self.old path) }
         ensures added { OnOk result (self.new ≡ with_path self.old path) }
         ensures same { OnErr result (self.new ≡ self.old) }
+        ensures one { length self.new ≤ length self.old + 1 }
     {
         if self.paths.contains(&path) {
             return Err(RingError::Present);

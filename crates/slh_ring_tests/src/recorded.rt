@@ -3,6 +3,7 @@ use crate::derived_keys::is_derived;
 use crate::toys::{empty, key_of, read, record_of, takes_first};
 use slh_dsa::Sha2_128f;
 use slh_ring::{Path, Record, RecordEntry, recorded_set};
+use slh_trees::toy::Toy;
 use std::alloc::Global;
 
 // The record of the path 0 under the master 00, as `records` has it.
@@ -29,15 +30,19 @@ fn a_record_says_its_set(rt: HostRuntime) {
 }
 
 // Whether an entry has these numbers and 8 bytes.
-fn is_entry(entry: Option<RecordEntry<'_>>, numbers: &[u32], tag: &[u8]) -> bool {
+fn is_entry(entry: Option<RecordEntry<'_, Sha2_128f>>, numbers: &[u32], tag: &[u8]) -> bool {
     match entry {
         Some(entry) => entry.path().as_slice() == numbers && entry.tag() == tag,
         None => false,
     }
 }
 
+fn read_worked(bytes: &[u8]) -> Option<Record<'_, Sha2_128f>> {
+    Record::read(bytes)
+}
+
 fn reads_the_worked_one() -> bool {
-    match Record::read::<Sha2_128f>(WORKED) {
+    match read_worked(WORKED) {
         Some(record) => {
             record.len() == 1
                 && is_entry(record.entry(0), &[0], b"\x4a\x2b\xa0\xb1\x64\x59\xa7\xb9")
@@ -52,13 +57,13 @@ fn reads_the_worked_one() -> bool {
 fn the_record_of_other_programs_is_read_without_its_master(rt: HostRuntime) {
     assert!(rt; reads_the_worked_one());
     assert!(rt; read(WORKED).is_none());
-    assert!(rt; Record::read::<Sha2_128f>(&WORKED[..37]).is_none());
+    assert!(rt; read_worked(&WORKED[..37]).is_none());
 }
 
 // Whether the key of the entry is handed out under a master of one byte.
 fn gives_its_key(master: u8) -> Option<bool> {
-    let entry = Record::read::<Sha2_128f>(WORKED)?.entry(0)?;
-    let key = entry.key::<Sha2_128f>(&[master])?;
+    let entry = read_worked(WORKED)?.entry(0)?;
+    let key = entry.key(&[master])?;
     Some(is_derived(&key, &[master], &Path::from_slice(&[0])?))
 }
 
@@ -69,13 +74,13 @@ fn a_key_is_handed_out_under_its_master_alone(rt: HostRuntime) {
 }
 
 // Whether entry number i of a record is of the path i, and gives the key of it under the master 00.
-fn is_of_its_number(record: &Record<'_>, i: u32) -> Option<bool> {
+fn is_of_its_number(record: &Record<'_, Toy>, i: u32) -> Option<bool> {
     let entry = record.entry(i as usize)?;
     let key = key_of(&entry, &[0])?;
     Some(entry.path().as_slice() == [i].as_slice() && is_derived(&key, &[0], entry.path()))
 }
 
-fn are_of_their_numbers(record: &Record<'_>, count: u32) -> bool {
+fn are_of_their_numbers(record: &Record<'_, Toy>, count: u32) -> bool {
     for i in 0..count {
         if is_of_its_number(record, i) != Some(true) {
             return false;

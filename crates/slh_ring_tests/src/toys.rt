@@ -76,11 +76,11 @@ pub(crate) fn remove(ring: &mut Ring<Toy>, number: u32) -> bool {
     ring.remove(&Path::from_slice(&[number]).unwrap())
 }
 
-pub(crate) fn read(bytes: &[u8]) -> Option<Record<'_>> {
-    Record::read::<Toy>(bytes)
+pub(crate) fn read(bytes: &[u8]) -> Option<Record<'_, Toy>> {
+    Record::read(bytes)
 }
 
-pub(crate) fn key_of(entry: &RecordEntry<'_>, master: &[u8]) -> Option<SigningKey<Toy>>
+pub(crate) fn key_of(entry: &RecordEntry<'_, Toy>, master: &[u8]) -> Option<SigningKey<Toy>>
     requires { length master.now ≤ 2 ^ 60 }
 {
     entry.key(master)
