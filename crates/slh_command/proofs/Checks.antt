@@ -1,5 +1,5 @@
 -- A manifest that is checked by the bytes of a key.
-use Rattle.std.proofs.Common.{◌≡◌, ◌⊎◌, ◌↔◌, ℕ, Bool, true, false, List, refl, sym, subst, Option, None, Some, Result, Err, if◌then◌else◌, IsErrOf, IfErr, IfSome, inr, tt, arith}
+use Rattle.std.proofs.Common.{◌≡◌, ◌⊎◌, ◌↔◌, ℕ, Bool, true, false, List, refl, sym, subst, Option, None, Some, Result, Err, if◌then◌else◌, IsErrOf, IfErr, IfSome, inr, arith}
 use Rattle.line_serve.specs.Causes.{Rose}
 use Rattle.slh_core.specs.Parameters.{Scheme}
 use Rattle.slh_trees.specs.Refusals.{RefusedExactly}

@@ -1,5 +1,5 @@
 -- Receipts that are taken one after the other.
-use Rattle.std.proofs.Common.{◌≡◌, ◌∙◌, ℕ, suc, ◌+◌, List, [], ◌∷◌, ◌++◌, Option, None, Some, IfSome, subst, sym, ap, append_assoc, append-nil, tt, arith}
+use Rattle.std.proofs.Common.{◌≡◌, ◌∙◌, ℕ, suc, ◌+◌, List, [], ◌∷◌, ◌++◌, Option, None, Some, IfSome, subst, sym, ap, append_assoc, append-nil, arith}
 use Rattle.slh_batch.specs.Receipts.{receipt_of}
 use Rattle.slh_command.specs.Batches.{TookSome, receipts_to}
 

@@ -93,7 +93,7 @@ fn texts_of<'a, P: ParameterSet>(
     alloc: Global,
     links: Links<'a, P>,
 ) -> Result<Vec<LinkText<'a>>, AllocError>
-    ensures { IfOk result (λ texts. map parts_of texts.items ≡ links) }
+    ensures { IfOk result (λ texts. map parts_of texts.items ≡ links.entry) }
 {
     let mut texts = Vec::new(alloc);
     for link in links {
