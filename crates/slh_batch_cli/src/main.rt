@@ -6,16 +6,10 @@ mod accepting;
 mod sealing;
 mod serve;
 
-use line_stdio::{StdSink, StdSource, words_of};
-use serve::batch_serve;
-use std::io;
+use line_stdio::run;
+use serve::BatchProgram;
 use std::process::ExitCode;
 
 fn main(rt: HostRuntime) -> ExitCode {
-    let Ok(words) = words_of(&rt) else {
-        return ExitCode::from(6);
-    };
-    let mut source = StdSource::new(rt.reader());
-    let mut sink = StdSink::new(io::writer(&rt));
-    ExitCode::from(batch_serve(rt.alloc(), &words, &mut source, &mut sink))
+    run::<BatchProgram>(&rt)
 }

@@ -6,16 +6,10 @@ mod delegating;
 mod serve;
 mod walking;
 
-use line_stdio::{StdSink, StdSource, words_of};
-use serve::chain_serve;
-use std::io;
+use line_stdio::run;
+use serve::ChainProgram;
 use std::process::ExitCode;
 
 fn main(rt: HostRuntime) -> ExitCode {
-    let Ok(words) = words_of(&rt) else {
-        return ExitCode::from(6);
-    };
-    let mut source = StdSource::new(rt.reader());
-    let mut sink = StdSink::new(io::writer(&rt));
-    ExitCode::from(chain_serve(rt.alloc(), &words, &mut source, &mut sink))
+    run::<ChainProgram>(&rt)
 }

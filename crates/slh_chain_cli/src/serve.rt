@@ -7,6 +7,7 @@ ghost use Rattle.slh_chain_cli.specs.Replies.{chain_answers, usage};
 use crate::delegating::delegate_line;
 use crate::walking::walk_line;
 use line_serve::{ByteString, Sink, Source, Words, field_at, serve_words};
+use line_stdio::Program;
 use slh_dsa::ParameterSet;
 use slh_line::{Commands, LineError, Lines};
 use std::alloc::Global;
@@ -49,4 +50,21 @@ pub fn chain_serve<S: Source, K: Sink>(
 {
     let usage = b"usage: slh_chain_cli\n";
     serve_words(alloc, &Lines(Chains), usage, words, source, sink)
+}
+
+/// The program, for its `main`.
+#[derive(Drop)]
+pub struct ChainProgram;
+
+impl Program for ChainProgram {
+    ghost serves = { ServesLines (reply_by chain_answers) usage };
+
+    fn serve<S: Source, K: Sink>(
+        alloc: Global,
+        words: &Words,
+        source: &mut S,
+        sink: &mut K,
+    ) -> u8 {
+        chain_serve(alloc, words, source, sink)
+    }
 }

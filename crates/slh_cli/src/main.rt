@@ -1,16 +1,31 @@
 //! Answers the job lines of its standard input.
 #![tactic(auto)]
 
-use line_stdio::{StdSink, StdSource, words_of};
+use line_serve::{Sink, Source, Words};
+use line_stdio::{Program, run};
 use slh_run::serve;
-use std::io;
+use std::alloc::Global;
 use std::process::ExitCode;
 
+/// The program, for its `main`.
+#[derive(Drop)]
+struct JobProgram;
+
+impl Program for JobProgram {
+    ghost use Rattle.slh_cli.specs.Served.{ServesJobs};
+
+    ghost serves = { ServesJobs };
+
+    fn serve<S: Source, K: Sink>(
+        alloc: Global,
+        words: &Words,
+        source: &mut S,
+        sink: &mut K,
+    ) -> u8 {
+        serve(alloc, words, source, sink)
+    }
+}
+
 fn main(rt: HostRuntime) -> ExitCode {
-    let Ok(words) = words_of(&rt) else {
-        return ExitCode::from(6);
-    };
-    let mut source = StdSource::new(rt.reader());
-    let mut sink = StdSink::new(io::writer(&rt));
-    ExitCode::from(serve(rt.alloc(), &words, &mut source, &mut sink))
+    run::<JobProgram>(&rt)
 }

@@ -9,16 +9,10 @@ mod opening;
 mod presence;
 mod serve;
 
-use line_stdio::{StdSink, StdSource, words_of};
-use serve::log_serve;
-use std::io;
+use line_stdio::run;
+use serve::LogProgram;
 use std::process::ExitCode;
 
 fn main(rt: HostRuntime) -> ExitCode {
-    let Ok(words) = words_of(&rt) else {
-        return ExitCode::from(6);
-    };
-    let mut source = StdSource::new(rt.reader());
-    let mut sink = StdSink::new(io::writer(&rt));
-    ExitCode::from(log_serve(rt.alloc(), &words, &mut source, &mut sink))
+    run::<LogProgram>(&rt)
 }

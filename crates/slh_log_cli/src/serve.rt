@@ -10,6 +10,7 @@ use crate::growth::growth_line;
 use crate::opening::open_line;
 use crate::presence::presence_line;
 use line_serve::{ByteString, Replier, Sink, Source, Words, all_fields, field_at, serve_words};
+use line_stdio::Program;
 use slh_dsa::ParameterSet;
 use slh_line::{Commands, LineError, Lines};
 use std::alloc::{AllocError, Global};
@@ -88,4 +89,21 @@ pub fn log_serve<S: Source, K: Sink>(
 {
     let usage = b"usage: slh_log_cli\n";
     serve_words(alloc, &LogLines, usage, words, source, sink)
+}
+
+/// The program, for its `main`.
+#[derive(Drop)]
+pub struct LogProgram;
+
+impl Program for LogProgram {
+    ghost serves = { ServesLines log_reply usage };
+
+    fn serve<S: Source, K: Sink>(
+        alloc: Global,
+        words: &Words,
+        source: &mut S,
+        sink: &mut K,
+    ) -> u8 {
+        log_serve(alloc, words, source, sink)
+    }
 }

@@ -7,16 +7,10 @@ mod pairs;
 mod sealing;
 mod serve;
 
-use line_stdio::{StdSink, StdSource, words_of};
-use serve::manifest_serve;
-use std::io;
+use line_stdio::run;
+use serve::ManifestProgram;
 use std::process::ExitCode;
 
 fn main(rt: HostRuntime) -> ExitCode {
-    let Ok(words) = words_of(&rt) else {
-        return ExitCode::from(6);
-    };
-    let mut source = StdSource::new(rt.reader());
-    let mut sink = StdSink::new(io::writer(&rt));
-    ExitCode::from(manifest_serve(rt.alloc(), &words, &mut source, &mut sink))
+    run::<ManifestProgram>(&rt)
 }

@@ -7,6 +7,7 @@ ghost use Rattle.slh_manifest_cli.specs.Replies.{manifest_answers, usage};
 use crate::checking::check_line;
 use crate::sealing::seal_line;
 use line_serve::{ByteString, Sink, Source, Words, field_at, serve_words};
+use line_stdio::Program;
 use slh_dsa::ParameterSet;
 use slh_line::{Commands, LineError, Lines};
 use std::alloc::Global;
@@ -49,4 +50,21 @@ pub fn manifest_serve<S: Source, K: Sink>(
 {
     let usage = b"usage: slh_manifest_cli\n";
     serve_words(alloc, &Lines(Manifests), usage, words, source, sink)
+}
+
+/// The program, for its `main`.
+#[derive(Drop)]
+pub struct ManifestProgram;
+
+impl Program for ManifestProgram {
+    ghost serves = { ServesLines (reply_by manifest_answers) usage };
+
+    fn serve<S: Source, K: Sink>(
+        alloc: Global,
+        words: &Words,
+        source: &mut S,
+        sink: &mut K,
+    ) -> u8 {
+        manifest_serve(alloc, words, source, sink)
+    }
 }

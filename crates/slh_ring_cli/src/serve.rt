@@ -8,6 +8,7 @@ use crate::keys::derive_line;
 use crate::recording::record_line;
 use crate::restoring::restore_line;
 use line_serve::{ByteString, Sink, Source, Words, field_at, serve_words};
+use line_stdio::Program;
 use slh_dsa::ParameterSet;
 use slh_line::{Commands, LineError, Lines};
 use std::alloc::Global;
@@ -52,4 +53,21 @@ pub fn ring_serve<S: Source, K: Sink>(
 {
     let usage = b"usage: slh_ring_cli\n";
     serve_words(alloc, &Lines(Rings), usage, words, source, sink)
+}
+
+/// The program, for its `main`.
+#[derive(Drop)]
+pub struct RingProgram;
+
+impl Program for RingProgram {
+    ghost serves = { ServesLines (reply_by ring_answers) usage };
+
+    fn serve<S: Source, K: Sink>(
+        alloc: Global,
+        words: &Words,
+        source: &mut S,
+        sink: &mut K,
+    ) -> u8 {
+        ring_serve(alloc, words, source, sink)
+    }
 }
