@@ -59,12 +59,7 @@ pub struct BatchProgram;
 impl Program for BatchProgram {
     ghost serves = { ServesLines (reply_by batch_answers) usage };
 
-    fn serve<S: Source, K: Sink>(
-        alloc: Global,
-        words: &Words,
-        source: &mut S,
-        sink: &mut K,
-    ) -> u8 {
+    fn serve<S: Source, K: Sink>(alloc: Global, words: &Words, source: &mut S, sink: &mut K) -> u8 {
         batch_serve(alloc, words, source, sink)
     }
 }

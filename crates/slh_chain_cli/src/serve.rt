@@ -59,12 +59,7 @@ pub struct ChainProgram;
 impl Program for ChainProgram {
     ghost serves = { ServesLines (reply_by chain_answers) usage };
 
-    fn serve<S: Source, K: Sink>(
-        alloc: Global,
-        words: &Words,
-        source: &mut S,
-        sink: &mut K,
-    ) -> u8 {
+    fn serve<S: Source, K: Sink>(alloc: Global, words: &Words, source: &mut S, sink: &mut K) -> u8 {
         chain_serve(alloc, words, source, sink)
     }
 }

@@ -16,12 +16,7 @@ impl Program for JobProgram {
 
     ghost serves = { ServesJobs };
 
-    fn serve<S: Source, K: Sink>(
-        alloc: Global,
-        words: &Words,
-        source: &mut S,
-        sink: &mut K,
-    ) -> u8 {
+    fn serve<S: Source, K: Sink>(alloc: Global, words: &Words, source: &mut S, sink: &mut K) -> u8 {
         serve(alloc, words, source, sink)
     }
 }

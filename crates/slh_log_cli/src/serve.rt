@@ -98,12 +98,7 @@ pub struct LogProgram;
 impl Program for LogProgram {
     ghost serves = { ServesLines log_reply usage };
 
-    fn serve<S: Source, K: Sink>(
-        alloc: Global,
-        words: &Words,
-        source: &mut S,
-        sink: &mut K,
-    ) -> u8 {
+    fn serve<S: Source, K: Sink>(alloc: Global, words: &Words, source: &mut S, sink: &mut K) -> u8 {
         log_serve(alloc, words, source, sink)
     }
 }

@@ -59,12 +59,7 @@ pub struct ManifestProgram;
 impl Program for ManifestProgram {
     ghost serves = { ServesLines (reply_by manifest_answers) usage };
 
-    fn serve<S: Source, K: Sink>(
-        alloc: Global,
-        words: &Words,
-        source: &mut S,
-        sink: &mut K,
-    ) -> u8 {
+    fn serve<S: Source, K: Sink>(alloc: Global, words: &Words, source: &mut S, sink: &mut K) -> u8 {
         manifest_serve(alloc, words, source, sink)
     }
 }

@@ -62,12 +62,7 @@ pub struct RingProgram;
 impl Program for RingProgram {
     ghost serves = { ServesLines (reply_by ring_answers) usage };
 
-    fn serve<S: Source, K: Sink>(
-        alloc: Global,
-        words: &Words,
-        source: &mut S,
-        sink: &mut K,
-    ) -> u8 {
+    fn serve<S: Source, K: Sink>(alloc: Global, words: &Words, source: &mut S, sink: &mut K) -> u8 {
         ring_serve(alloc, words, source, sink)
     }
 }
