@@ -6,7 +6,10 @@ use Rattle.whole_files.specs.Files.{Files, Node}
 use Rattle.whole_files.specs.Whole.{HasWhole, IsWriting, IsWritten, Writes}
 use Rattle.whole_files.specs.declared.file.Mode.{Mode}
 use Rattle.whole_files.specs.declared.error.Written.{Written}
+use Rattle.whole_files.specs.declared.error.Written.TheVariants.{Settled, Unsettled as NotSettled}
 use Rattle.whole_files.specs.declared.error.WriteError.{WriteError}
+use Rattle.whole_files.specs.declared.error.WriteError.TheVariants.{Failed, Left, NotRegular, Taken}
+use Rattle.whole_files.specs.Causes.{RoseBy}
 use Rattle.log_files.specs.declared.error.PublishError.{PublishError}
 use Rattle.log_files.specs.declared.error.PublishError.TheVariants.{AtPiece, Unsettled, AtHead}
 use Rattle.log_files.specs.declared.publishing.Piece.{Piece}
@@ -85,3 +88,21 @@ pub record HaveNames (ps : List Piece) (head : Piece) : Type 0 where
 -- all of them stand whole
 abbrev pub AreWhole : List Piece → Files → Type 0
 AreWhole ps n = AllByRecursion (λ p. IsWhole p.bytes.now (n p.path.now)) ps
+
+-- how often calls failed where a write was refused: not at all for what stands in the way
+abbrev pub HasFaultsOf : WriteError → ℕ → ℕ → Type 0
+HasFaultsOf Failed before now = RoseBy 1 before now
+HasFaultsOf Left before now = RoseBy 2 before now
+HasFaultsOf NotRegular before now = Unit {0}
+HasFaultsOf Taken before now = Unit {0}
+
+-- the same where nothing is published, or the head's folder wasn't brought to the disk
+abbrev pub HasFaultsAt : PublishError → ℕ → ℕ → Type 0
+HasFaultsAt (AtPiece i error) before now = HasFaultsOf error before now
+HasFaultsAt (Unsettled i) before now = RoseBy 1 before now
+HasFaultsAt (AtHead error) before now = HasFaultsOf error before now
+
+abbrev pub HasFaults : Result Written PublishError → ℕ → ℕ → Type 0
+HasFaults (Ok Settled) before now = Unit {0}
+HasFaults (Ok NotSettled) before now = RoseBy 1 before now
+HasFaults (Err error) before now = HasFaultsAt error before now

@@ -1,9 +1,10 @@
 //! Files that are written whole, and then the one that speaks of them.
-ghost use Rattle.std.specs.Prelude.{◌≡◌, ◌<◌, ◌≤◌, ℕ, suc, Some, IsTrue, length, slice_get};
+ghost use Rattle.std.specs.Prelude.{◌≡◌, ◌<◌, ◌≤◌, ℕ, Some, IfErr, IfOk, IsTrue, length, slice_get};
 ghost use Rattle.log_files.specs.Publishing.{FirstWritten, IsPublishing, IsSeparate, Publishes};
-ghost use Rattle.log_files.specs.Publishing.{IsWritingPiece, PutsPiece};
+ghost use Rattle.log_files.specs.Publishing.{HasFaults, HasFaultsAt, IsWritingPiece, PutsPiece};
 ghost use Rattle.log_files.specs.declared.publishing.Piece.{Piece};
 ghost use Rattle.whole_files.specs.Files.{Files};
+ghost use Rattle.whole_files.specs.declared.error.Written.TheVariants.{Settled};
 
 use crate::error::PublishError;
 use whole_files::{FileSystem, Written, write_whole};
@@ -27,6 +28,8 @@ fn put_piece<F: FileSystem>(fs: &mut F, pieces: &[Piece<'_>], i: usize) -> Resul
         → IsWritingPiece (F.files fs.old) p n → F.permits n }
     ensures files { IsTrue F.tells
         → PutsPiece (F.files fs.old) pieces.now i result (F.files fs.new) }
+    ensures cause { IfErr result (λ error.
+        HasFaultsAt error (F.faults fs.old) (F.faults fs.new)) }
     ensures later { F.faults fs.old ≤ F.faults fs.new }
 {
     let piece = &pieces[i];
@@ -54,6 +57,11 @@ pub fn publish<F: FileSystem>(
 
     ensures files { IsTrue F.tells
         → Publishes (F.files fs.old) pieces.now head.now result (F.files fs.new) }
+    ensures kept { IsTrue F.tells → IfOk result (λ written. written ≡ Settled
+        → IsTrue (F.is_kept fs.new head.now.path.now)) }
+
+    // A fault is told only where calls failed.
+    ensures cause { HasFaults result (F.faults fs.old) (F.faults fs.new) }
     ensures later { F.faults fs.old ≤ F.faults fs.new }
 {
     for i in 0..pieces.len() {

@@ -2,7 +2,7 @@
 //! were made. `examples/no_memory` runs them with an allocation that fails, without which nothing
 //! can be counted; in any other run they show that the calls succeed.
 //!
-//! The list of the calls is that of the tests of `none` and of `grown`. A call that is handed no
+//! The list of the calls is that of the tests of `none`, of `grown` and of `jobs`. A call that is handed no
 //! allocator, nor a value that keeps one, takes none by its types, and isn't among them.
 #![tactic(auto)]
 

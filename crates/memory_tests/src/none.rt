@@ -11,8 +11,9 @@ use std::alloc::Global;
 
 #[test]
 fn new_strings_and_words(rt: HostRuntime) {
-    let _string = ByteString::new(rt.alloc());
-    let _words = Words::new(rt.alloc());
+    let string = ByteString::new(rt.alloc());
+    let words = Words::new(rt.alloc());
+    assert!(rt; string.is_empty() && words.len() == 0);
     assert_eq!(rt; made_or(rt.alloc(), 0), 0);
 }
 
@@ -21,26 +22,30 @@ fn new_ends(rt: HostRuntime) {
     let alloc = rt.alloc();
     let _quiet = QuietSource::new(Vec::new(alloc));
     let _source = MemSource::new(Vec::new(alloc), Vec::new(alloc));
-    let _sink = MemSink::new(alloc, Vec::new(alloc));
+    let sink = MemSink::new(alloc, Vec::new(alloc));
+    assert!(rt; sink.bytes().is_empty());
     assert_eq!(rt; made_or(alloc, 0), 0);
 }
 
 #[test]
 fn a_new_batch(rt: HostRuntime) {
-    let _batch = Batch::new(rt.alloc());
+    let batch = Batch::new(rt.alloc());
+    assert!(rt; batch.len() == 0);
     assert_eq!(rt; made_or(rt.alloc(), 0), 0);
 }
 
 #[test]
 fn a_new_builder_and_store(rt: HostRuntime) {
-    let _builder = Builder::new(rt.alloc());
+    let builder = Builder::new(rt.alloc());
+    assert!(rt; builder.is_empty());
     let _store = MemStore::new(rt.alloc(), Vec::new(rt.alloc()));
     assert_eq!(rt; made_or(rt.alloc(), 0), 0);
 }
 
 #[test]
 fn a_new_ring(rt: HostRuntime) {
-    let _ring = Ring::<Toy>::new(rt.alloc());
+    let ring = Ring::<Toy>::new(rt.alloc());
+    assert!(rt; ring.len() == 0);
     assert_eq!(rt; made_or(rt.alloc(), 0), 0);
 }
 
