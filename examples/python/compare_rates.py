@@ -5,6 +5,7 @@ OpenSSL 3.5 or later, and names of sets, if not all."""
 import datetime
 import os
 import re
+import resource
 import subprocess
 import sys
 
@@ -16,10 +17,11 @@ COUNTS = {"keygen": {"s": 8, "f": 200}, "sign": {"s": 3, "f": 20}, "verify": {"s
 
 def answers(program, lines):
     """The replies to lines, and the processor time of each."""
+    before = resource.getrusage(resource.RUSAGE_CHILDREN)
     with subprocess.Popen([program], stdin=subprocess.PIPE, stdout=subprocess.PIPE) as process:
         replies, _ = process.communicate("".join(line + "\n" for line in lines).encode())
-    usage = os.times()
-    spent = usage.children_user + usage.children_system
+    after = resource.getrusage(resource.RUSAGE_CHILDREN)
+    spent = after.ru_utime + after.ru_stime - before.ru_utime - before.ru_stime
     if process.returncode != 0:
         sys.exit(f"{program}: status {process.returncode}")
     return replies.decode().splitlines(), spent
@@ -30,9 +32,7 @@ def times(programs, lines):
     least, first = [float("inf")] * len(programs), None
     for _ in range(TURNS):
         for i, program in enumerate(programs):
-            before = os.times()
             replies, spent = answers(program, lines)
-            spent -= before.children_user + before.children_system
             least[i] = min(least[i], spent / len(lines))
             first = first or replies
             if replies != first:
