@@ -22,6 +22,10 @@ impl<'r> Folder<'r> {
 }
 
 impl<'r> TileSource for Folder<'r> {
+    ghost use Rattle.std.specs.Prelude.{false};
+
+    ghost has = { λ _ _. false };
+
     fn read(&self, tile: Tile, out: &mut [u8]) -> bool {
         match self.bytes(tile) {
             Some(bytes) if bytes.len() == out.len() => {

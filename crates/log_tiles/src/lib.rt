@@ -19,6 +19,7 @@
 
 mod entries;
 mod growing;
+mod kept;
 pub mod laws;
 mod names;
 mod node;

@@ -1,10 +1,11 @@
 //! Paths and proofs of growth from tiles that needn't be trusted.
 ghost use Rattle.std.specs.Prelude.{◌≡◌, ◌≢◌, ◌⊎◌, ◌↔◌, ◌≤◌, ◌<◌, IfErr, IfOk, true};
-ghost use Rattle.log_tiles.specs.Source.{IsTileOf};
-ghost use Rattle.merkle_store.specs.Errors.{IsAsked, IsAskedOf};
+ghost use Rattle.log_tiles.specs.Source.{IsUngivenTile, tile_under};
+ghost use Rattle.merkle_store.specs.Errors.{IsUngiven, IsUngivenOf};
 ghost use Rattle.merkle_tree.specs.Climb.{is_included};
 ghost use Rattle.merkle_tree.specs.Consistency.{is_consistent};
 
+use crate::kept::KeptTiles;
 use crate::names::Tile;
 use crate::node::node_place;
 use crate::source::{StoredTiles, TileSource, tile_at};
@@ -26,10 +27,11 @@ pub enum TileError {
 }
 
 // The error of a store, with the tile in the place of the node that couldn't be read.
-fn unread(error: StoreError, size: u64) -> TileError
-    requires { IsAsked size error }
+fn unread<S: TileSource>(error: StoreError, source: &S, size: u64) -> TileError
+    requires { IsUngiven (λ height index. S.has source.now
+        (tile_under size height index)) size error }
     ensures range { result ≢ TileError.Range }
-    ensures tile { IsTileOf size result }
+    ensures tile { IsUngivenTile (S.has source.now) size result }
 {
     match error {
         StoreError::Node { level, index } => {
@@ -39,22 +41,23 @@ fn unread(error: StoreError, size: u64) -> TileError
     }
 }
 
-fn tile_error(error: ProveError, size: u64) -> TileError
-    requires { IsAskedOf size error }
+fn tile_error<S: TileSource>(error: ProveError, source: &S, size: u64) -> TileError
+    requires { IsUngivenOf (λ height index. S.has source.now
+        (tile_under size height index)) size error }
     ensures range { (result ≡ TileError.Range) ↔ (error ≡ ProveError.Range) }
-    ensures tile { IsTileOf size result }
+    ensures tile { IsUngivenTile (S.has source.now) size result }
 {
     match error {
         ProveError::Range => TileError::Range,
-        ProveError::Store(error) => unread(error, size),
+        ProveError::Store(error) => unread(error, source, size),
         ProveError::Differs => TileError::Differs,
     }
 }
 
 /// The path of the entry at `index` of the log of `size` entries. It has passed
 /// [`merkle_tree::check_inclusion`] from the entry's digest to the root, which comes from
-/// elsewhere, so the source needn't be trusted. Reads at most two tiles for each time that `size`
-/// can be halved, and holds one of them.
+/// elsewhere, so the source needn't be trusted. Reads at most two tiles for each level of tiles, 16 in
+/// all, and keeps two of them.
 pub fn prove_presence<H: TreeHash, S: TileSource>(
     source: &S,
     index: u64,
@@ -66,21 +69,22 @@ pub fn prove_presence<H: TreeHash, S: TileSource>(
     ensures accepted { IfOk result (λ path.
         is_included H.hash index size leaf.now root.now path.items ≡ true) }
     ensures range { (result ≡ Err TileError.Range) ↔ (size ≤ index) }
-    ensures tile { IfErr result (IsTileOf size) }
+    ensures tile { IfErr result (IsUngivenTile (S.has source.now) size) }
 {
+    let source = &KeptTiles::new(source);
     let tiles = StoredTiles { source, size };
-    match merkle_store::prove_presence::<H, StoredTiles<'_, S>>(
+    match merkle_store::prove_presence::<H, StoredTiles<'_, KeptTiles<'_, S>>>(
         &tiles, index, size, leaf, root, alloc,
     ) {
         Ok(path) => Ok(path),
-        Err(error) => Err(tile_error(error, size)),
+        Err(error) => Err(tile_error(error, source, size)),
     }
 }
 
 /// The proof that the log of `size` entries grew from that of `old_size`. It has passed
 /// [`merkle_tree::check_consistency`] with both roots, which come from elsewhere, so the source
-/// needn't be trusted. Reads at most two tiles for each time that `size` can be halved, and holds
-/// one of them.
+/// needn't be trusted. Reads at most two tiles for each level of tiles, 16 in all, and keeps two of
+/// them.
 pub fn prove_growth<H: TreeHash, S: TileSource>(
     source: &S,
     old_size: u64,
@@ -92,13 +96,14 @@ pub fn prove_growth<H: TreeHash, S: TileSource>(
     ensures accepted { IfOk result (λ proof.
         is_consistent H.hash old_size size old_root.now root.now proof.items ≡ true) }
     ensures range { (result ≡ Err TileError.Range) ↔ (old_size ≡ 0 ⊎ size < old_size) }
-    ensures tile { IfErr result (IsTileOf size) }
+    ensures tile { IfErr result (IsUngivenTile (S.has source.now) size) }
 {
+    let source = &KeptTiles::new(source);
     let tiles = StoredTiles { source, size };
-    match merkle_store::prove_growth::<H, StoredTiles<'_, S>>(
+    match merkle_store::prove_growth::<H, StoredTiles<'_, KeptTiles<'_, S>>>(
         &tiles, old_size, size, old_root, root, alloc,
     ) {
         Ok(proof) => Ok(proof),
-        Err(error) => Err(tile_error(error, size)),
+        Err(error) => Err(tile_error(error, source, size)),
     }
 }

@@ -1,5 +1,6 @@
 //! Tiles that needn't be trusted.
 ghost use Rattle.std.specs.Prelude.{◌≡◌, ◌+◌, ◌*◌, ◌<◌, ◌≤◌};
+ghost use Rattle.log_tiles.specs.Source.{tile_with};
 ghost use Rattle.log_tiles.specs.Shape.{IsPieceOf};
 ghost use Rattle.log_tiles.specs.Tiles.{hash_count as spec_hash_count};
 
@@ -12,16 +13,27 @@ use merkle_tree::{DIGEST_LEN, TreeHash};
 /// Where tiles are read, as the files of a folder or those of a server. Nothing is believed of what
 /// it gives.
 pub trait TileSource {
+    ghost use Rattle.std.specs.Prelude.{◌≡◌, Bool, false};
+    ghost use Rattle.std.specs.Bool.{OnFalse};
+    ghost use Rattle.log_tiles.specs.declared.names.Tile.{Tile};
+
+    /// Whether it promises a tile, whatever its bytes are.
+    ghost has: { Self → Tile → Bool };
+
     /// Puts the bytes of a tile in `out`, which has 32 for each of its hashes. False where there is
-    /// no such tile, or where it has more bytes or fewer.
-    fn read(&self, tile: Tile, out: &mut [u8]) -> bool;
+    /// no such tile, or where it has more bytes or fewer. A log that grew may have the full tile
+    /// alone where a partial one is asked for, which is the front of it.
+    fn read(&self, tile: Tile, out: &mut [u8]) -> bool
+        ensures { OnFalse result (has self.now tile ≡ false) };
 }
 
 /// The tiles of a log of `size` entries, as a store of nodes that isn't believed. Each node is made
 /// of one tile, which is read into 8 KiB and not kept.
 #[derive(Drop)]
 pub struct StoredTiles<'a, S: TileSource> {
+    /// Where the tiles are read.
     pub source: &'a S,
+    /// How many entries the log has.
     pub size: u64,
 }
 
@@ -37,6 +49,7 @@ pub(crate) fn tile_at(place: &NodePlace, size: u64) -> Tile
     ensures piece { IsPieceOf (spec_hash_count result.level size) result.index result.width }
     ensures within { place.now.start + place.now.len ≤ result.width }
     ensures width { result.width ≤ 256 }
+    ensures tile { result ≡ tile_with size place.now.level place.now.index }
 {
     let count = hash_count(place.level, size);
     let width = if place.index < count / 256 {
@@ -53,8 +66,11 @@ pub(crate) fn tile_at(place: &NodePlace, size: u64) -> Tile
 
 impl<'a, H: TreeHash, S: TileSource> Nodes<H> for StoredTiles<'a, S> {
     ghost use Rattle.std.specs.Prelude.{false, [], replicate};
+    ghost use Rattle.log_tiles.specs.Source.{tile_under};
 
     ghost tells = { false };
+
+    ghost gives = { λ s height index. S.has s.source.now (tile_under s.size height index) };
 
     ghost digests = { λ s. replicate s.size [] };
 

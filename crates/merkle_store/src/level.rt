@@ -2,7 +2,7 @@
 ghost use Rattle.std.specs.Prelude.{◌≡◌, ◌+◌, ◌<◌, ◌≤◌, List, ℕ, length, take, drop};
 ghost use Rattle.std.specs.Prelude.{IfErr, IfOk, IsTrue};
 ghost use Rattle.merkle_tree.specs.Levels.{pair_up};
-ghost use Rattle.merkle_store.specs.Errors.{IsAsked};
+ghost use Rattle.merkle_store.specs.Errors.{IsUngiven};
 ghost use Rattle.merkle_store.specs.Nodes.{IsLevel, full_level, node_list};
 
 use crate::nodes::{Nodes, StoreError, read};
@@ -27,7 +27,8 @@ pub(crate) fn above<H: TreeHash, N: Nodes<H>>(nodes: &N, level: &Level) -> Resul
     ensures nodes { IsTrue N.tells → IfOk result (λ up. (l : List (List ℕ))
         → IsLevel H.hash level.now.height level.now.whole level.now.rest (N.digests nodes.now) l
         → IsLevel H.hash up.height up.whole up.rest (N.digests nodes.now) (pair_up H.hash l)) }
-    ensures asked { IfErr result (IsAsked (length (N.digests nodes.now))) }
+    ensures cause { IfErr result
+        (IsUngiven (N.gives nodes.now) (length (N.digests nodes.now))) }
 {
     let height = level.height + 1;
     let whole = level.whole / 2;
@@ -61,7 +62,8 @@ pub(crate) fn node_at<H: TreeHash, N: Nodes<H>>(
     ensures node { IsTrue N.tells → IfOk result (λ node. (l : List (List ℕ))
         → IsLevel H.hash level.now.height level.now.whole level.now.rest (N.digests nodes.now) l
         → node_list node ≡ take 1 (drop i l)) }
-    ensures asked { IfErr result (IsAsked (length (N.digests nodes.now))) }
+    ensures cause { IfErr result
+        (IsUngiven (N.gives nodes.now) (length (N.digests nodes.now))) }
 {
     if i < level.whole {
         let node = read::<H, N>(nodes, level.height, i)?;

@@ -3,7 +3,7 @@ ghost use Rattle.std.specs.Prelude.{◌≡◌, ◌+◌, ◌-◌, ◌^◌, ◌<�
 ghost use Rattle.std.specs.Prelude.{IfErr};
 ghost use Rattle.merkle_tree.specs.Consistency.{consistency_proof};
 ghost use Rattle.merkle_tree.specs.Tree.{inclusion_path, path_within};
-ghost use Rattle.merkle_store.specs.Errors.{IsAsked};
+ghost use Rattle.merkle_store.specs.Errors.{IsUngiven};
 ghost use Rattle.merkle_store.specs.Nodes.{IsLevel, full_level, node_list};
 
 use crate::level::{Level, above, node_at};
@@ -40,7 +40,8 @@ fn push_siblings<H: TreeHash, N: Nodes<H>>(
         → IsLevel H.hash from.height from.whole from.rest (N.digests nodes.now) l
         → length l ≡ last + 1
         → OnOk result (out.new.items ≡ out.old.items ++ path_within H.hash 64 l i) }
-    ensures asked { IfErr result (IsAsked (length (N.digests nodes.now))) }
+    ensures cause { IfErr result
+        (IsUngiven (N.gives nodes.now) (length (N.digests nodes.now))) }
 {
     let (mut level, mut at, mut end) = (from, i, last);
     'each_level: while end > 0 {
@@ -64,7 +65,8 @@ pub fn push_path<H: TreeHash, N: Nodes<H>>(
     requires within { n ≤ length (N.digests nodes.now) }
     ensures path { IsTrue N.tells → OnOk result (out.new.items
         ≡ out.old.items ++ inclusion_path H.hash (take n (N.digests nodes.now)) i) }
-    ensures asked { IfErr result (IsAsked (length (N.digests nodes.now))) }
+    ensures cause { IfErr result
+        (IsUngiven (N.gives nodes.now) (length (N.digests nodes.now))) }
 {
     let leaves = Level {
         height: 0,
@@ -87,7 +89,8 @@ pub fn push_proof<H: TreeHash, N: Nodes<H>>(
     requires within { n ≤ length (N.digests nodes.now) }
     ensures proof { IsTrue N.tells → OnOk result (out.new.items
         ≡ out.old.items ++ consistency_proof H.hash (take n (N.digests nodes.now)) m) }
-    ensures asked { IfErr result (IsAsked (length (N.digests nodes.now))) }
+    ensures cause { IfErr result
+        (IsUngiven (N.gives nodes.now) (length (N.digests nodes.now))) }
 {
     if m == n {
         return Ok(());

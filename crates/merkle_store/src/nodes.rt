@@ -1,28 +1,33 @@
 //! What is read of a store.
-ghost use Rattle.std.specs.Prelude.{◌+◌, ◌*◌, ◌^◌, ◌≤◌, ◌≡◌, IsTrue, length, IfErr, IfOk};
+ghost use Rattle.std.specs.Prelude.{◌+◌, ◌*◌, ◌^◌, ◌≤◌, ◌≡◌, IsTrue, length, IfErr, IfOk, false};
 ghost use Rattle.merkle_store.specs.Nodes.{run_root};
-ghost use Rattle.merkle_store.specs.Errors.{IsAsked};
+ghost use Rattle.merkle_store.specs.Errors.{IsUngiven};
 
 use merkle_tree::{DIGEST_LEN, TreeHash};
 
 /// A store of the roots over whole runs of the digests of a growing tree.
 pub trait Nodes<H: TreeHash> {
-    ghost use Rattle.std.specs.Prelude.{◌+◌, ◌*◌, ◌^◌, ◌≤◌, ◌≡◌, Bool, IsTrue, List, ℕ, length, IfSome};
+    ghost use Rattle.std.specs.Prelude.{◌+◌, ◌*◌, ◌^◌, ◌≤◌, ◌≡◌, Bool, IsTrue, List, ℕ, length};
+    ghost use Rattle.std.specs.Prelude.{IfSome, IfNone, false};
     ghost use Rattle.merkle_store.specs.Nodes.{run_root};
 
     /// Whether it tells the roots. Where it doesn't, nothing is said of what it gives, and of its
     /// digests only their number counts.
     ghost tells: { Bool };
 
+    /// Whether it promises the root over the run of 2^`level` digests that has this index.
+    ghost gives: { Self → ℕ → ℕ → Bool };
+
     /// The digests.
     ghost digests: { Self → List (List ℕ) };
 
     /// The root over the run of 2^`level` digests that has this index among such runs. `None` where
-    /// it can't be read.
+    /// it can't be read, and no root that it promises.
     fn node(&self, level: u32, index: u64) -> Option<[u8; DIGEST_LEN]>
         requires { (index + 1) * 2 ^ level ≤ length (digests self.now) }
-        ensures { IsTrue tells
-            → IfSome result (λ d. d ≡ run_root H.hash level index (digests self.now)) };
+        ensures root { IsTrue tells
+            → IfSome result (λ d. d ≡ run_root H.hash level index (digests self.now)) }
+        ensures given { IfNone result (gives self.now level index ≡ false) };
 }
 
 /// Why nothing was made.
@@ -45,7 +50,8 @@ pub(crate) fn read<H: TreeHash, N: Nodes<H>>(
     ensures root { IsTrue N.tells
         → IfOk result (λ d. d ≡ run_root H.hash level index (N.digests nodes.now)) }
     ensures named { IfErr result (λ e. e ≡ StoreError.Node level index) }
-    ensures asked { IfErr result (IsAsked (length (N.digests nodes.now))) }
+    ensures cause { IfErr result
+        (IsUngiven (N.gives nodes.now) (length (N.digests nodes.now))) }
 {
     match nodes.node(level, index) {
         Some(root) => Ok(root),

@@ -1,7 +1,7 @@
 //! Paths and proofs of growth that have passed their check before they are handed out.
 ghost use Rattle.std.specs.Prelude.{◌≡◌, ◌≢◌, ◌⊎◌, ◌↔◌, ◌≤◌, ◌<◌, IfErr, IfOk, IsTrue};
 ghost use Rattle.std.specs.Prelude.{[], length, take, slice_index_or, true};
-ghost use Rattle.merkle_store.specs.Errors.{IsAskedOf};
+ghost use Rattle.merkle_store.specs.Errors.{IsUngivenOf};
 ghost use Rattle.merkle_tree.specs.Climb.{is_included};
 ghost use Rattle.merkle_tree.specs.Consistency.{consistency_proof, is_consistent};
 ghost use Rattle.merkle_tree.specs.Tree.{inclusion_path, tree_root};
@@ -54,7 +54,8 @@ pub fn prove_presence<H: TreeHash, N: Nodes<H>>(
         → root.now ≡ tree_root H.hash (take size (N.digests nodes.now))
         → leaf.now ≡ slice_index_or (N.digests nodes.now) index []
         → result ≢ Err ProveError.Differs }
-    ensures asked { IfErr result (IsAskedOf (length (N.digests nodes.now))) }
+    ensures cause { IfErr result
+        (IsUngivenOf (N.gives nodes.now) (length (N.digests nodes.now))) }
 {
     if index >= size {
         return Err(ProveError::Range);
@@ -88,7 +89,8 @@ pub fn prove_growth<H: TreeHash, N: Nodes<H>>(
         → root.now ≡ tree_root H.hash (take size (N.digests nodes.now))
         → old_root.now ≡ tree_root H.hash (take old_size (N.digests nodes.now))
         → result ≢ Err ProveError.Differs }
-    ensures asked { IfErr result (IsAskedOf (length (N.digests nodes.now))) }
+    ensures cause { IfErr result
+        (IsUngivenOf (N.gives nodes.now) (length (N.digests nodes.now))) }
 {
     if old_size == 0 || size < old_size {
         return Err(ProveError::Range);
