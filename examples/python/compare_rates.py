@@ -1,7 +1,7 @@
 """Times job lines of the six sets by our program, the Rust crate and OpenSSL, one after the other on
 one processor, and prints the rows of PERFORMANCE.md: processor time of a job by us, and its ratio to
-the others' times. Arguments: our program, a program of the Rust crate that answers the same lines,
-OpenSSL 3.5 or later, and names of sets, if not all."""
+the others' times; last the ratio of an audit to signing. Arguments: our program, a program of the Rust
+crate that answers the same lines, OpenSSL 3.5 or later, and names of sets, if not all."""
 import datetime
 import os
 import re
@@ -65,11 +65,15 @@ def row(ours, rust, openssl, name, n):
     verified, verdicts = times([ours, rust], (verify * COUNTS["verify"][kind])[:COUNTS["verify"][kind]])
     if set(verdicts) != {"accepted"}:
         sys.exit(f"a signature of {name} is refused")
+    audit = [f"{name} audit {key} - {m} {reply.split()[1]}" for m, reply in zip(messages, replies)]
+    audited, verdicts = times([ours], audit)
+    if set(verdicts) != {"genuine"}:
+        sys.exit(f"a signature of {name} is foreign")
     _, other_sign, other_verify = openssl_times(openssl, name)
     cells = [name, f"{made[0] * 1000:.3g} ms", f"{made[0] / made[1]:.3f}",
              f"{signed[0] * 1000:.3g} ms", f"{signed[0] / signed[1]:.3f}", f"{signed[0] / other_sign:.2f}",
              f"{verified[0] * 1000:.3g} ms", f"{verified[0] / verified[1]:.3f}",
-             f"{verified[0] / other_verify:.2f}"]
+             f"{verified[0] / other_verify:.2f}", f"{audited[0] / signed[0]:.2f}"]
     return "| " + " | ".join(cells) + " |"
 
 
