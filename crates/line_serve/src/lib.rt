@@ -3,7 +3,8 @@
 //!
 //! - [`ByteString`] and [`Words`] are bytes, and a list of them.
 //! - [`Source`] and [`Sink`] are where bytes come from and where they go. [`QuietSource`],
-//!   [`MemSource`], [`MemSink`] and [`NullSink`] are such ends in memory.
+//!   [`MemSource`], [`MemSink`] and [`NullSink`] are such ends in memory; a [`Script`] says which
+//!   calls fail.
 //! - [`Replier`] answers one line, and [`serve_lines`] the lines of a whole source.
 //! - [`all_fields`], [`cut_fields`], [`count_fields`] and [`field`] cut a line into its fields;
 //!   [`field_at`], [`hex_field`], [`decimal_value`] and [`number_at`] read one.
@@ -60,6 +61,7 @@ mod memory;
 mod pending;
 mod place;
 mod program;
+mod script;
 mod stream;
 mod text;
 mod write;
@@ -71,6 +73,7 @@ pub use fields::{all_fields, count_fields, cut_fields, field, field_at, hex_fiel
 pub use lines::{read_some, serve_lines};
 pub use memory::{MemSink, MemSource, NullSink, QuietSource};
 pub use program::serve_words;
+pub use script::Script;
 pub use stream::{Failed, Sink, Source};
 pub use text::{push_hex, push_hex_line, push_number, push_number_line};
 pub use write::write_all;

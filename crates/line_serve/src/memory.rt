@@ -1,12 +1,12 @@
-//! Sources and sinks in memory. [`MemSource`] and [`MemSink`] number their calls from 0, and fail
-//! at those whose numbers they were given, so that a test can try each fault in turn.
+//! Sources and sinks in memory. Calls of [`MemSource`] and [`MemSink`] fail as a [`Script`] says.
 ghost use Rattle.std.specs.Prelude.{◌≡◌, ◌↔◌, [], ◌+◌, ◌<◌, ◌≤◌, ◌^◌, None, Some, length, take};
-ghost use Rattle.std.specs.Prelude.{min, Contains, unwrap_or, IsErr, is_ok, IsTrue, IsOk, IfOk};
+ghost use Rattle.std.specs.Prelude.{min, Contains, IsErr, is_ok, IsOk, IfOk};
 ghost use Rattle.std.specs.Prelude.{OnOk, OnErr, if◌then◌else◌, vec_len};
 ghost use Rattle.std.specs.Io.{ReadsAtMost};
 ghost use Rattle.std.specs.Io.KnownBytes.{ReadConsumes, WriteAppends};
 ghost use Rattle.line_serve.specs.Causes.{HasCause, Rose};
 
+use crate::script::Script;
 use crate::stream::{Failed, Sink, Source};
 use std::alloc::Global;
 
@@ -18,69 +18,6 @@ fn copy_front(bytes: &[u8], buf: &mut [u8]) -> usize
     let count = bytes.len().min(buf.len());
     buf[..count].copy_from_slice(&bytes[..count]);
     count
-}
-
-// Whether the list has the number, of which there is none past the last of 64 bits.
-fn is_listed(numbers: &[u64], number: Option<u64>) -> bool
-    ensures { IsTrue result ↔ Contains numbers.now (unwrap_or number (2 ^ 64)) }
-{
-    match number {
-        Some(number) => numbers.contains(&number),
-        None => false,
-    }
-}
-
-// The calls that are to fail, by their numbers, and how many did.
-#[derive(Drop)]
-struct Script {
-    fails: Vec<u64>,
-    next: Option<u64>,
-    faults: u64,
-}
-
-impl Script {
-    ghost use Rattle.line_serve.specs.Memory.{number_of, one_more};
-
-    fn new(fails: Vec<u64>) -> Self
-        ensures fails { result.fails ≡ fails }
-        ensures number { number_of result ≡ 0 }
-        ensures faults { result.faults ≡ 0 }
-    {
-        Script {
-            fails,
-            next: Some(0),
-            faults: 0,
-        }
-    }
-
-    // Whether the next call is to fail, which then counts as a fault.
-    fn next_fails(&mut self) -> bool
-        ensures listed { IsTrue result ↔ Contains self.old.fails.items (number_of self.old) }
-        ensures number { number_of self.new ≡ min (number_of self.old + 1) (2 ^ 64) }
-        ensures faults { self.new.faults
-            ≡ (if result then one_more self.old.faults else self.old.faults) }
-        ensures later { self.old.faults ≤ self.new.faults }
-        ensures rose { IsTrue result → Rose self.old.faults self.new.faults }
-        ensures same { self.new.fails ≡ self.old.fails }
-    {
-        let fails = is_listed(&self.fails, self.next);
-        self.next = match self.next {
-            Some(number) => number.checked_add(1),
-            None => None,
-        };
-        if fails {
-            self.count_fault();
-        }
-        fails
-    }
-
-    fn count_fault(&mut self)
-        ensures counted { self.new ≡ record self.old { faults = one_more self.old.faults } }
-        ensures later { self.old.faults ≤ self.new.faults }
-        ensures rose { Rose self.old.faults self.new.faults }
-    {
-        self.faults = self.faults.saturating_add(1);
-    }
 }
 
 /// A source that never fails. It gives as many bytes as are asked for, while there are any.
@@ -151,7 +88,8 @@ impl MemSource {
 
 impl Source for MemSource {
     ghost use Rattle.line_serve.specs.Memory.{source_left, source_fails, source_number};
-    ghost use Rattle.line_serve.specs.Memory.{source_faults, one_more};
+    ghost use Rattle.line_serve.specs.Memory.{source_faults};
+    ghost use Rattle.line_serve.specs.Scripts.{one_more};
 
     ghost left = { λ s. Some (source_left s) };
 
@@ -169,9 +107,7 @@ impl Source for MemSource {
         ensures fails { source_fails self.new ≡ source_fails self.old }
         ensures same { OnErr result (buf.new ≡ buf.old) }
     {
-        if self.script.next_fails() {
-            return Err(Failed);
-        }
+        self.script.next()?;
         self.quiet.read(buf)
     }
 }
@@ -220,7 +156,8 @@ impl MemSink {
 
 impl Sink for MemSink {
     ghost use Rattle.line_serve.specs.Memory.{sink_bytes, sink_fails, sink_number, sink_faults};
-    ghost use Rattle.line_serve.specs.Memory.{sink_refused, one_more};
+    ghost use Rattle.line_serve.specs.Memory.{sink_refused};
+    ghost use Rattle.line_serve.specs.Scripts.{one_more};
 
     ghost taken = { λ k. Some (sink_bytes k) };
 
@@ -242,13 +179,10 @@ impl Sink for MemSink {
         ensures number { sink_number self.new ≡ min (sink_number self.old + 1) (2 ^ 64) }
         ensures fails { sink_fails self.new ≡ sink_fails self.old }
     {
-        if self.script.next_fails() {
-            return Err(Failed);
-        }
+        self.script.next()?;
         if self.bytes.extend_from_slice(piece).is_err() {
             self.refused = self.refused.saturating_add(1);
-            self.script.count_fault();
-            return Err(Failed);
+            return Err(self.script.fault());
         }
         Ok(piece.len())
     }

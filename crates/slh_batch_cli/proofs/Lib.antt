@@ -1,3 +1,2 @@
 mod Pushed
-mod Counted
 mod Written

@@ -1,15 +1,15 @@
 //! `SET seal KEY RAND MSG ..` gives a receipt for each message.
 ghost use Rattle.std.specs.Prelude.{◌≡◌, ◌⊎◌, ◌<◌, ◌≤◌, [], length, map, slice_index_or};
-ghost use Rattle.std.specs.Prelude.{true, false, Ok, Err, IfOk};
+ghost use Rattle.std.specs.Prelude.{true, false, Ok, Err, IfOk, IfErr};
 ghost use Rattle.std.specs.List.{list_any};
-ghost use Rattle.std.specs.Option.{option_copied};
+ghost use Rattle.std.specs.Option.{option_copied, ForSome};
 ghost use Rattle.line_serve.specs.Fields.{contents};
 ghost use Rattle.slh_batch.specs.Tree.{batch_leaf};
 ghost use Rattle.slh_batch.specs.declared.error.BatchError.TheVariants.{Message};
+ghost use Rattle.slh_batch.specs.declared.error.BatchError.TheVariants.{Memory as NoMemory};
 ghost use Rattle.slh_batch_cli.specs.Replies.{is_long, receipt_lines, seal_answer};
 ghost use Rattle.slh_batch_cli.specs.Replies.{seal_request as spec_seal_request};
 ghost use Rattle.slh_batch_cli.specs.Replies.{seal_text as spec_seal_text};
-ghost use Rattle.slh_line.specs.Readings.{all_bytes_at as spec_all_bytes_at};
 ghost use Rattle.slh_line.specs.declared.line_error.LineError.TheVariants.{Memory};
 
 use line_serve::{ByteString, Words, push_hex_line};
@@ -25,15 +25,6 @@ const FIRST_MESSAGE: usize = 4;
 
 const MAX_FIELDS: usize = FIRST_MESSAGE + 64;
 
-// The messages of a line that has few enough fields.
-fn messages_of(alloc: Global, fields: &[&[u8]]) -> Result<Words, LineError>
-    requires few { length fields.now ≤ MAX_FIELDS }
-    ensures value { (result ≡ spec_all_bytes_at (contents fields.now) 4) ⊎ (result ≡ Err Memory) }
-    ensures few { IfOk result (λ messages. length messages ≤ 64) }
-{
-    all_bytes_at(alloc, fields, FIRST_MESSAGE)
-}
-
 // The message at an index.
 fn message_at(messages: &Words, i: usize) -> &[u8]
     requires { i < length messages.now }
@@ -41,15 +32,17 @@ fn message_at(messages: &Words, i: usize) -> &[u8]
 {
     match messages.get(i) {
         Some(message) => message,
-        None => &[],
+        None => unreachable!(),
     }
 }
 
-// The batch of these messages. `Message`: one of them is too long.
+// The batch of these messages, of which there are few enough. `Message`: one of them is too long.
 fn batch_of(alloc: Global, messages: &Words) -> Result<Batch, BatchError>
+    requires few { length messages.now ≤ 64 }
     ensures value { IfOk result (λ batch. batch ≡ map batch_leaf messages.now) }
     ensures fits { IfOk result (λ _. list_any is_long messages.now ≡ false) }
     ensures long { result ≡ Err Message → list_any is_long messages.now ≡ true }
+    ensures only { IfErr result (λ e. (e ≡ Message) ⊎ (e ≡ NoMemory)) }
 {
     let mut batch = Batch::new(alloc);
     'each_message: for i in 0..messages.len() {
@@ -58,12 +51,13 @@ fn batch_of(alloc: Global, messages: &Words) -> Result<Batch, BatchError>
     Ok(batch)
 }
 
-// A line for each of the first receipts, so many.
+// A line for each of the first receipts, so many, of which there are enough.
 fn lines_of<P: ParameterSet>(
     alloc: Global,
     sealed: &Sealed<P>,
     count: u32,
 ) -> Result<ByteString, LineError>
+    requires enough { count ≤ length sealed.now.leaves }
     ensures { (result ≡ Ok (receipt_lines sealed.now.leaves sealed.now.signature count))
         ⊎ (result ≡ Err Memory) }
 {
@@ -71,20 +65,23 @@ fn lines_of<P: ParameterSet>(
     'each_message: for i in 0..count {
         match sealed.receipt(alloc, i) {
             Ok(receipt) => push_hex_line(&mut text, b"receipt ", &receipt)?,
-            Err(_) => return Err(LineError::Memory),
+            Err(BatchError::Memory) => return Err(LineError::Memory),
+            Err(_) => unreachable!(),
         }
     }
     Ok(text)
 }
 
-// The lines for a batch of these messages, of which there are few enough.
+// The lines for a batch of these messages, of which there are some, and few enough.
 fn seal_text<P: ParameterSet>(
     alloc: Global,
     key: &SigningKey<P>,
     opt_rand: Option<&[u8]>,
     messages: &Words,
 ) -> Result<ByteString, LineError>
+    requires some { 1 ≤ length messages.now }
     requires few { length messages.now ≤ 64 }
+    requires opt_rand { ForSome (option_copied opt_rand) (λ bytes. length bytes ≡ P.N.USIZE) }
     ensures { let opt_rand = option_copied opt_rand.entry in
         (result ≡ Ok (spec_seal_text P.scheme key.now opt_rand messages.now))
         ⊎ (result ≡ Err Memory) }
@@ -94,11 +91,13 @@ fn seal_text<P: ParameterSet>(
         Err(BatchError::Message) => {
             return Ok(ByteString::from_slice(alloc, b"error message\n")?);
         }
-        Err(_) => return Err(LineError::Memory),
+        Err(BatchError::Memory) => return Err(LineError::Memory),
+        Err(_) => unreachable!(),
     };
     match batch.seal(alloc, key, opt_rand) {
         Ok(sealed) => lines_of(alloc, &sealed, messages.len() as u32),
-        Err(_) => Err(LineError::Memory),
+        Err(BatchError::Memory) => Err(LineError::Memory),
+        Err(_) => unreachable!(),
     }
 }
 
@@ -109,6 +108,7 @@ fn seal_request<P: ParameterSet>(
     opt_rand: Option<ByteString>,
     messages: &Words,
 ) -> Result<ByteString, LineError>
+    requires some { 1 ≤ length messages.now }
     requires few { length messages.now ≤ 64 }
     ensures { (result ≡ spec_seal_request P.scheme key.now opt_rand messages.now)
         ⊎ (result ≡ Err Memory) }
@@ -130,6 +130,6 @@ pub(crate) fn seal_line<P: ParameterSet>(
     }
     let key = bytes_at(alloc, fields, 2)?;
     let opt_rand = randomizer_at(alloc, fields, 3)?;
-    let messages = messages_of(alloc, fields)?;
+    let messages = all_bytes_at(alloc, fields, FIRST_MESSAGE)?;
     seal_request::<P>(alloc, key.as_slice(), opt_rand, &messages)
 }

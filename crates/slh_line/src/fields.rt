@@ -1,5 +1,5 @@
 //! What the fields of a line stand for.
-ghost use Rattle.std.specs.Prelude.{◌≡◌, ◌⊎◌, Err};
+ghost use Rattle.std.specs.Prelude.{◌≡◌, ◌-◌, ◌⊎◌, Err, IfOk, length};
 ghost use Rattle.std.specs.Option.{option_copied};
 ghost use Rattle.line_serve.specs.Fields.{contents, field_at as spec_field_at};
 ghost use Rattle.slh_line.specs.Readings.{all_bytes, all_bytes_at, bytes_at, bytes_of};
@@ -34,7 +34,8 @@ pub fn bytes_at(alloc: Global, fields: &[&[u8]], i: usize) -> Result<ByteString,
 }
 
 fn all_bytes(alloc: Global, fields: &[&[u8]]) -> Result<Words, LineError>
-    ensures { (result ≡ all_bytes (contents fields.now)) ⊎ (result ≡ Err Memory) }
+    ensures value { (result ≡ all_bytes (contents fields.now)) ⊎ (result ≡ Err Memory) }
+    ensures count { IfOk result (λ all. length all ≡ length fields.now) }
 {
     let mut all = Words::new(alloc);
     for field in fields {
@@ -46,7 +47,8 @@ fn all_bytes(alloc: Global, fields: &[&[u8]]) -> Result<Words, LineError>
 /// The bytes that each field from an index on stands for. There may be none.
 #[tactic(auto, using(crate::proofs::ByteFields::from_one_on))]
 pub fn all_bytes_at(alloc: Global, fields: &[&[u8]], from: usize) -> Result<Words, LineError>
-    ensures { (result ≡ all_bytes_at (contents fields.now) from) ⊎ (result ≡ Err Memory) }
+    ensures value { (result ≡ all_bytes_at (contents fields.now) from) ⊎ (result ≡ Err Memory) }
+    ensures count { IfOk result (λ all. length all ≡ length fields.now - from) }
 {
     if from >= fields.len() {
         return Ok(Words::new(alloc));

@@ -1,16 +1,15 @@
-//! A store in memory. It numbers its reads from 0, and fails at those whose numbers it was given,
-//! so that a test can try each fault in turn.
+//! A store in memory, whose reads fail as a script says.
 ghost use Rattle.std.specs.Prelude.{◌≡◌, ◌↔◌, ◌+◌, ◌^◌, Some, min, Contains, IsErr, is_ok};
 ghost use Rattle.std.specs.Prelude.{IfOk, OnOk, OnErr, if◌then◌else◌, length};
 ghost use Rattle.std.specs.Option.{option_map};
 ghost use Rattle.std.specs.FinMap as map;
 ghost use Rattle.line_serve.specs.Causes.{HasCause};
-ghost use Rattle.line_serve.specs.Memory.{one_more};
+ghost use Rattle.line_serve.specs.Scripts.{one_more};
 ghost use Rattle.slh_manifest.specs.Files.{Reads, ReadsWithin, bytes_of, read_count};
 ghost use Rattle.slh_manifest.specs.Memory.{store_faults, store_files, store_fails, store_number};
 
 use crate::store::{Store, copy_from};
-use line_serve::{ByteString, Failed, MemSource, Source};
+use line_serve::{ByteString, Failed, Script};
 use std::alloc::{AllocError, Global};
 use std::collections::BTreeMap;
 
@@ -21,8 +20,7 @@ use std::collections::BTreeMap;
 pub struct MemStore {
     alloc: Global,
     files: BTreeMap<Vec<u8>, ByteString>,
-    // Has no bytes. Its reads fail where those of the store do.
-    script: MemSource,
+    script: Script,
 }
 
 impl MemStore {
@@ -37,7 +35,7 @@ impl MemStore {
         MemStore {
             alloc,
             files: BTreeMap::new(alloc),
-            script: MemSource::new(Vec::new(alloc), fails),
+            script: Script::new(fails),
         }
     }
 
@@ -78,7 +76,7 @@ impl Store for MemStore {
         ensures fails { store_fails self.new ≡ store_fails self.old }
         ensures same { OnErr result (buf.new ≡ buf.old) }
     {
-        self.script.read(&mut [])?;
+        self.script.next()?;
         match self.files.get(name) {
             Some(bytes) => Ok(Some(copy_from(bytes.as_slice(), at, buf))),
             None => Ok(None),
