@@ -3,6 +3,8 @@
 #![tactic(auto)]
 
 #[cfg(test)]
+mod appending;
+#[cfg(test)]
 mod folders;
 #[cfg(test)]
 mod publishing;
