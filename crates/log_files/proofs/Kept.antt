@@ -1,5 +1,5 @@
 -- What publishing keeps.
-use Rattle.std.proofs.Common.{◌≡◌, ◌≢◌, ◌⊎◌, ◌∙◌, refl, ℕ, zero, suc, List, [], ◌∷◌, Option, Some, None, sym, subst, inl, inr, slice_get}
+use Rattle.std.proofs.Common.{◌≡◌, ◌⊎◌, ◌∙◌, refl, ℕ, zero, suc, List, [], ◌∷◌, Option, Some, None, sym, subst, inl, inr, slice_get}
 use Rattle.std.specs.List.{AllByRecursion}
 use Rattle.whole_files.specs.Files.{Files, Node}
 use Rattle.whole_files.specs.Whole.{HasWhole, mode_of}

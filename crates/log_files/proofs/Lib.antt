@@ -1,2 +1,4 @@
 mod Steps
 mod Kept
+mod Levels
+mod Separate

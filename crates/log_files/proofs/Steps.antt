@@ -1,5 +1,5 @@
 -- One more file is written.
-use Rattle.std.proofs.Common.{◌≡◌, ◌∙◌, refl, ℕ, zero, suc, List, [], ◌∷◌, Option, Some, None, Result, Ok, Err, sym, subst, slice_get, length, ◌≤◌}
+use Rattle.std.proofs.Common.{◌≡◌, ◌∙◌, refl, ℕ, zero, suc, List, [], ◌∷◌, Option, Some, Result, Ok, Err, sym, subst, slice_get, length, ◌≤◌}
 use Rattle.std.specs.Prelude.{IsErrAnd}
 use Rattle.std.proofs.lemmas.Option.{slice_get_past}
 use Rattle.whole_files.specs.Files.{Files, Node}

@@ -1,4 +1,4 @@
-//! Why files aren't published.
+//! Why files aren't published, and folders aren't made.
 use whole_files::WriteError;
 
 /// Why the head isn't written.
@@ -11,4 +11,15 @@ pub enum PublishError {
     Unsettled(usize),
     /// The pieces are written, and the head isn't.
     AtHead(WriteError),
+}
+
+/// Why a folder isn't there.
+#[derive(Clone, Copy, Debug, PartialEq, Eq)]
+pub enum FolderError {
+    /// A file, a link or another thing stands at the path.
+    NoFolder,
+    /// A call failed. Nothing is changed.
+    Failed,
+    /// The folder is there, but the one that it is in wasn't brought to the disk.
+    Unsettled,
 }

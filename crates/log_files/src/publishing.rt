@@ -40,6 +40,19 @@ fn put_piece<F: FileSystem>(fs: &mut F, pieces: &[Piece<'_>], i: usize) -> Resul
     }
 }
 
+/// Whether each of these files has another name while it is written, as [`publish`] needs it.
+pub fn are_separate(pieces: &[Piece<'_>]) -> bool
+    ensures { IsTrue result
+        → (i : ℕ) (p : Piece) → slice_get pieces.now i ≡ Some p → IsSeparate p }
+{
+    for i in 0usize..pieces.len() {
+        if pieces[i].part == pieces[i].path {
+            return false;
+        }
+    }
+    true
+}
+
 /// Writes the pieces whole, in their order, each brought to the disk with its name, and then the head.
 /// What stands at their paths is replaced, where it is a regular file.
 pub fn publish<F: FileSystem>(

@@ -1,11 +1,8 @@
 //! The one place that knows every command.
-use crate::audits::{audit, check};
-use crate::inspect::inspect;
-use crate::keys::{keygen, public};
-use crate::signatures::{sign, verify};
-use crate::{batches, chains, manifests, rings};
 use clap::ArgMatches;
+use slh_file_tasks::{audit, check, inspect, keygen, public, sign, verify};
 use slh_files::Outcome;
+use slh_group_tasks::{batches, chains, manifests, rings};
 use slh_paths::Failure;
 
 /// Does what the words ask for.

@@ -3,6 +3,7 @@ ghost use Rattle.std.specs.Prelude.{◌≡◌, ◌≢◌, ℕ, Bool, List, IsTru
 ghost use Rattle.whole_files.specs.declared.file.Failed.{Failed};
 ghost use Rattle.whole_files.specs.Causes.{HasCause};
 ghost use Rattle.whole_files.specs.Files.{Files, Same, Shows, Creates, Appends, Syncs, Renames, Links, Removes};
+ghost use Rattle.whole_files.specs.Files.{CreatesFolder};
 
 use crate::file::{Failed, Mode, Stat};
 
@@ -77,6 +78,14 @@ pub trait FileSystem {
         requires { IsTrue tells → (n : Files) (r : Result (Unit {0}) Failed)
             → Removes (files self.old) path.now r n → permits n }
         ensures files { IsTrue tells → Removes (files self.old) path.now result (files self.new) }
+        ensures cause { HasCause (faults self.old) (faults self.new) result };
+
+    /// Makes a folder that is empty, and says whether it did: not where something stands at the
+    /// path.
+    fn make_folder(&mut self, path: &str) -> Result<bool, Failed>
+        requires { IsTrue tells → (n : Files) (r : Result Bool Failed)
+            → CreatesFolder (files self.old) path.now r n → permits n }
+        ensures files { IsTrue tells → CreatesFolder (files self.old) path.now result (files self.new) }
         ensures cause { HasCause (faults self.old) (faults self.new) result };
 
     /// Brings the names in the folder of a path to the disk.

@@ -193,6 +193,11 @@ impl FileSystem for HostFiles<'_> {
         self.answer(removed)
     }
 
+    fn make_folder(&mut self, path: &str) -> Result<bool, Failed> {
+        let made = fs::create_dir(self.rt, path);
+        self.answer_new(made)
+    }
+
     fn sync_name(&mut self, path: &str) -> Result<(), Failed> {
         match sync_folder(self.rt, path) {
             Ok(()) => Ok(()),

@@ -19,8 +19,6 @@ mod names;
 mod pair;
 mod parts;
 mod script;
-#[cfg(test)]
-mod tests;
 mod whole;
 
 pub use error::{WriteError, Written};

@@ -278,6 +278,23 @@ impl FileSystem for MemFiles {
         }
     }
 
+    fn make_folder(&mut self, path: &str) -> Result<bool, Failed> {
+        self.script.next()?;
+        if self.find(path).is_some() {
+            return Ok(false);
+        }
+        let inode = Inode {
+            kind: Kind::Folder,
+            mode: Mode::Exact(0o755),
+            synced: true,
+            bytes: Vec::new(self.alloc),
+        };
+        match self.make(path, inode) {
+            Ok(()) => Ok(true),
+            Err(_) => Err(self.script.fault()),
+        }
+    }
+
     fn sync_name(&mut self, path: &str) -> Result<(), Failed> {
         self.script.next()?;
         self.settled = true;

@@ -1,8 +1,8 @@
 //! `slh batch`: one signature for many files, and a receipt for each.
-use crate::arguments::{
+use clap::ArgMatches;
+use slh_arguments::{
     Randomness, check_inputs, check_output, required, signing_key, tell, verifying_key,
 };
-use clap::ArgMatches;
 use slh_batch::{Batch, BatchError, ReceiptError};
 use slh_command::{Receipts, SealError, accept_receipt, seal_batch};
 use slh_files::Outcome;

@@ -1,7 +1,7 @@
 //! `slh inspect`.
-use crate::arguments::required;
 use clap::ArgMatches;
 use line_serve::push_hex;
+use slh_arguments::required;
 use slh_files::{
     Key, KeyFileError, Kind, Outcome, digits_of, has_own_root, read_key, set_of_signature,
     verifying_key,

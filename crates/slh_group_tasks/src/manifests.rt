@@ -1,7 +1,7 @@
 //! `slh manifest`: one signature for the files of a folder.
-use crate::arguments::{Randomness, check_inputs, check_output, required, signing_key, tell};
 use crate::chains::acting_key;
 use clap::ArgMatches;
+use slh_arguments::{Randomness, check_inputs, check_output, required, signing_key, tell};
 use slh_command::{check_manifest, entry_name, first_unnamed, seal_manifest};
 use slh_files::Outcome;
 use slh_manifest::{BuildError, Builder, CheckError, MAX_ENTRIES};

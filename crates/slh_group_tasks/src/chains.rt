@@ -1,12 +1,10 @@
 //! `slh chain`: keys that sign keys.
-use crate::arguments::{
-    Randomness, check_inputs, check_output, context, key_of_kind, required, signing_key, tell,
-    verifying_key,
-};
-use crate::keys::key_file;
-use crate::signatures::tell_verdict;
 use clap::ArgMatches;
 use line_serve::{push_hex, push_number};
+use slh_arguments::{
+    Randomness, check_inputs, check_output, context, key_file, key_of_kind, required, signing_key,
+    tell, tell_verdict, verifying_key,
+};
 use slh_chain::{ChainError, LinkError};
 use slh_command::{LinkText, WalkError, last_key, links_of, new_link};
 use slh_files::{Key, Kind, Outcome, digits_of};

@@ -1,14 +1,10 @@
-//! Each call failing in turn, and everything stopping at each call.
-use crate::error::{WriteError, Written};
-use crate::file::{FileId, Kind, Mode};
-use crate::file_system::FileSystem;
-use crate::inputs::is_input;
-use crate::memory::MemFiles;
-use crate::pair::make_pair;
-use crate::parts::{is_part, part_name};
-use crate::whole::{make_secret, write_whole};
+//! Files that are written whole: each call failing in turn, and everything stopping at each.
 use std::alloc::{AllocError, Global};
 use std::test::Fail;
+use whole_files::{
+    FileId, FileSystem, Kind, MemFiles, Mode, WriteError, Written, is_input, is_part, make_pair,
+    make_secret, part_name, write_whole,
+};
 
 const NEVER: u64 = u64::MAX;
 

@@ -1,6 +1,6 @@
 //! `slh audit` and `slh check`.
-use crate::arguments::{Claim, check_inputs, own_claim, required, tell};
 use clap::ArgMatches;
+use slh_arguments::{Claim, check_inputs, own_claim, required, tell};
 use slh_files::{Outcome, evidence_of};
 use slh_paths::{Failure, outputs};
 use slh_run::{ByteString, Error, Evidence, Verdict, push_evidence};

@@ -1,8 +1,7 @@
 //! `slh ring`: the keys that one master secret gives.
-use crate::arguments::{check_inputs, check_output, required, set_of};
-use crate::keys::write_pair;
 use clap::ArgMatches;
 use line_serve::push_hex_line;
+use slh_arguments::{check_inputs, check_output, required, set_of, write_pair};
 use slh_command::{MAX_MASTER, RecordError, key_at, record_of, restored_paths};
 use slh_files::{Key, Outcome, digits_of};
 use slh_paths::{Failure, files, outputs, random};

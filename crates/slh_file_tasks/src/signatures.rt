@@ -1,13 +1,13 @@
 //! `slh sign` and `slh verify`.
-use crate::arguments::{
-    Randomness, SIGNATURE_END, check_inputs, check_output, context, message, mode, required,
-    signature, signing_key, tell, verifying_key,
-};
 use clap::ArgMatches;
+use slh_arguments::{
+    Randomness, SIGNATURE_END, check_inputs, check_output, context, message, mode, read_failure,
+    required, signing_key, tell_verdict, verifying_key,
+};
 use slh_files::{Key, Message, Outcome, SignError};
 use slh_paths::files::{self, FromStart, Reader};
 use slh_paths::{Failure, outputs};
-use slh_readers::{ReadError, sign_digest, sign_twice};
+use slh_readers::{sign_digest, sign_twice};
 use slh_run::{ByteString, Mode};
 use std::fs::File;
 
@@ -150,15 +150,6 @@ fn signed_whole<'a>(
     }
 }
 
-// Why a file that is read in pieces isn't signed or verified.
-fn read_failure(path: &str, error: ReadError) -> Failure<'_> {
-    match error {
-        ReadError::Read(error) => Failure::File(path, error),
-        ReadError::Refused(error) => Failure::Refused(path, error),
-        ReadError::Changed => Failure::Told(path, "changed while it was read"),
-    }
-}
-
 // Writes a signature where the words say.
 fn put<'a>(
     rt: &HostRuntime,
@@ -182,22 +173,4 @@ pub fn verify<'a>(rt: &HostRuntime, words: &ArgMatches<'a>) -> Result<Outcome, F
     let context = context(rt, words)?;
     let key = verifying_key(rt, words)?;
     tell_verdict(rt, words, &key, context.as_slice())
-}
-
-/// Tells whether a signature is one of the file under a verifying key.
-pub fn tell_verdict<'a>(
-    rt: &HostRuntime,
-    words: &ArgMatches<'a>,
-    key: &Key,
-    context: &[u8],
-) -> Result<Outcome, Failure<'a>> {
-    let signature = signature(rt, words, key.set)?;
-    let mode = mode(words)?;
-    let path = required(words, "file")?;
-    let reader = Reader::open(rt, path)?;
-    match slh_readers::verify(key, mode, context, signature.as_slice(), reader) {
-        Ok(true) => tell(rt, Outcome::Accepted),
-        Ok(false) => tell(rt, Outcome::Invalid),
-        Err(error) => Err(read_failure(path, error)),
-    }
 }

@@ -1,0 +1,10 @@
+use Rattle.std.proofs.Common.{◌∙◌, sym}
+use Rattle.log_files.proofs.Separate.{all_of, one_more}
+use Rattle.log_files.proofs.publishing.are_separate.Goals as goal
+
+pub loop-i-preserved : goal.loop-i-preserved
+loop-i-preserved c =
+    one_more c.args.pieces.now c.loop-i.i _ c.loop-i-test.true (sym c.eq.ensures ∙ c.if-eq.false) c.loop-i.invariant
+
+pub returns : goal.returns
+returns c = λ yes. all_of c.args.pieces.now c.loop-i.i c.loop-i-test.false c.loop-i.invariant

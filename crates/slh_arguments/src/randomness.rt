@@ -1,0 +1,31 @@
+//! What signatures are made random by.
+use clap::ArgMatches;
+use slh_paths::{Failure, random};
+use slh_sets::Set;
+
+/// What randomizers are made from: nothing for `--deterministic`.
+#[derive(Drop)]
+pub struct Randomness(Option<[u8; 32]>);
+
+impl Randomness {
+    /// Fresh bytes, unless the words say otherwise.
+    pub fn new(rt: &HostRuntime, words: &ArgMatches<'_>) -> Result<Self, Failure<'static>> {
+        if words.get_flag("deterministic") {
+            return Ok(Randomness(None));
+        }
+        Ok(Randomness(Some(random::<32>(rt)?)))
+    }
+
+    /// All bytes.
+    pub fn bytes(&self) -> Option<&[u8; 32]> {
+        self.0.as_ref()
+    }
+
+    /// As many as a randomizer of a set is made from.
+    pub fn of_set(&self, set: Set) -> Option<&[u8]> {
+        match &self.0 {
+            Some(bytes) => Some(&bytes[..set.n()]),
+            None => None,
+        }
+    }
+}
