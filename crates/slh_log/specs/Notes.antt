@@ -20,3 +20,10 @@ pub record IsNote (bytes : List ℕ) (note : Note) : Type 0 where
   pub text : note.text.now ≡ read_text bytes
   pub short : length note.text.now ≤ 2 ^ 60
   pub signatures : parts note.signatures.now ≡ after_text (parts bytes)
+
+-- the bytes have the form of a checkpoint, and this is its first line and what the next two say
+pub record IsReading (bytes origin : List ℕ) (checkpoint : Checkpoint) : Type 0 where
+  pub form : has_form bytes ≡ true
+  pub first : line_at bytes 0 ≡ origin
+  pub size : read_size bytes ≡ Some checkpoint.size
+  pub root : read_root bytes ≡ Some checkpoint.root

@@ -1,6 +1,6 @@
 //! What a note is cut into.
 ghost use Rattle.std.specs.Prelude.{◌≡◌, false, MatchOption};
-ghost use Rattle.slh_log.specs.Notes.{IsFront, IsNote};
+ghost use Rattle.slh_log.specs.Notes.{IsFront, IsNote, IsReading};
 ghost use Rattle.slh_log.specs.Reading.{has_form};
 
 use crate::decoding::{decimal_size, decode_into};
@@ -67,4 +67,14 @@ pub(crate) fn read_note(bytes: &[u8]) -> Option<Note<'_>>
         text,
         signatures,
     })
+}
+
+/// The origin of a checkpoint and what it says, whoever signed it: nothing of it is to be believed.
+/// `None`: the form isn't right. Takes no memory.
+pub fn read_unverified(bytes: &[u8]) -> Option<(&[u8], Checkpoint)>
+    ensures { MatchOption result (has_form bytes.now ≡ false)
+        (λ read. IsReading bytes.now read.0.now read.1) }
+{
+    let note = read_note(bytes)?;
+    Some((note.origin, note.checkpoint))
 }
