@@ -1,5 +1,6 @@
 -- Pairs of a name and its bytes, one after another.
-use Rattle.std.proofs.Common.{◌≡◌, ℕ, ◌+◌, ◌*◌, ◌<◌, ◌≤◌, Bool, cond, List, [], ◌∷◌, ◌++◌, length, drop, refl, sym, ◌∙◌, ap, arith, get_or, length-drop, Option, None, Some, Result, Ok, Err, ◌⊎◌, inl, inr, subst, unwrap_or, IfErr, IfSome, OnOk}
+use Rattle.std.proofs.Common.{◌≡◌, ℕ, ◌+◌, ◌*◌, ◌<◌, ◌≤◌, Bool, cond, List, [], ◌∷◌, ◌++◌, length, drop, refl, sym, ◌∙◌, ap, arith, get_or, length-drop, Option, None, Some, Result, Ok, Err, ◌⊎◌, inl, inr, subst, unwrap_or, IfErr, IfSome, OnOk, true, false, length-append, if◌then◌else◌}
+use Rattle.std.proofs.lemmas.Bool.{lt-ltb}
 use Rattle.std.proofs.lemmas.Cmp.{nat_list_cmp_total, eq_by_cmp_equiv}
 use Rattle.std.proofs.lemmas.List.{drop_more}
 use Rattle.std.specs.FinMap.{get, insert, get-insert}
@@ -9,7 +10,7 @@ use Rattle.slh_manifest.specs.Building.{add_refusal, bytes_refusal, entry_of, na
 use Rattle.slh_manifest.specs.Files.{Files, bytes_of}
 use Rattle.slh_manifest.specs.declared.entry.Entry.{Entry}
 use Rattle.slh_manifest.specs.declared.error.BuildError.{BuildError}
-use Rattle.slh_manifest.specs.declared.error.BuildError.TheVariants.{Memory}
+use Rattle.slh_manifest.specs.declared.error.BuildError.TheVariants.{Name, Full, TooLarge, Memory}
 use Rattle.slh_manifest_cli.specs.Replies.{entries_with, files_with, pair_refusal}
 
 -- the count of a store that never fails doesn't rise
@@ -51,6 +52,72 @@ module _ (result : Result (Unit {0}) BuildError) (files after : Files) (entries 
   pair_entry new is =
       subst (λ (o : Option (List ℕ)). OnOk result (IfSome o (λ found. new ≡ entries ++ entry_of name found ∷ [])))
       (ap (λ (f : Files). bytes_of f name) put ∙ put_there files name bytes) is
+
+-- where there is room, a pair is refused for its name or its length alone
+only_by : (follows few long : Bool) (e : BuildError) → few ≡ true
+    → first_refusal (first_refusal ((if follows then None else Some Name) ∷ (if few then None else Some Full) ∷ []) ∷ (if long then Some TooLarge else None) ∷ []) ≡ Some e
+    → (e ≡ Name) ⊎ (e ≡ TooLarge)
+only_by false few long e room is = let same : Name ≡ e = cc is in inl (sym same)
+only_by true true true e room is = let same : TooLarge ≡ e = cc is in inr (sym same)
+only_by true true false e room is = cc is
+only_by true false long e room is = cc room
+
+pair_only : (entries : List Entry) (name bytes : List ℕ) (e : BuildError) → length entries < 4096
+    → pair_refusal entries name bytes ≡ Some e → (e ≡ Name) ⊎ (e ≡ TooLarge)
+pair_only entries name bytes e room is = only_by _ _ _ e (lt-ltb (length entries) 4096 room) is
+
+abbrev OnlyThese : BuildError → Type 0
+OnlyThese e = (e ≡ Name) ⊎ (e ≡ TooLarge)
+
+on_refusal : (refusal : Option BuildError) (rest : Result (List Entry) BuildError) → ((e : BuildError) → refusal ≡ Some e → OnlyThese e)
+    → IfErr rest OnlyThese → IfErr (unless_refused refusal rest) OnlyThese
+on_refusal None rest only ok = ok
+on_refusal (Some e) rest only ok = only e refl
+
+-- so are the pairs of a line, of which there are few enough
+pub entries_only : (entries : List Entry) (words : List (List ℕ)) → 2 * length entries + length words ≤ 2 * 4096
+    → IfErr (entries_with entries words) (λ e. (e ≡ Name) ⊎ (e ≡ TooLarge))
+unfolding entries_with
+entries_only entries [] few = tt
+entries_only entries (name ∷ []) few = tt
+entries_only entries (name ∷ bytes ∷ later) few =
+    let more = entries ++ entry_of name bytes ∷ [] in
+    let one : length more ≡ length entries + 1 = length-append entries (entry_of name bytes ∷ []) in
+    on_refusal (pair_refusal entries name bytes) (entries_with more later) (λ e. pair_only entries name bytes e (omega arith))
+    (entries_only more later (omega (arith, one)))
+
+pub only_memory : (all : Result (List Entry) BuildError) (e : BuildError) → IfErr all (λ e. (e ≡ Name) ⊎ (e ≡ TooLarge))
+    → (e ≡ Memory) ⊎ (all ≡ Err e) → (e ≡ Name) ⊎ (e ≡ TooLarge) ⊎ (e ≡ Memory)
+only_memory all e only (inl none) = inr (inr none)
+only_memory (Ok x) e only (inr is) = cc is
+only_memory (Err f) e only (inr is) =
+    let same : f ≡ e = cc is in
+    elim (subst OnlyThese same only) [
+      | inl name ↦ inl name
+      | inr large ↦ inr (inl large)
+    ]
+
+-- pairs give an entry each
+passed : (refusal : Option BuildError) (rest : Result (List Entry) BuildError) (all : List Entry) → unless_refused refusal rest ≡ Ok all → rest ≡ Ok all
+passed None rest all is = is
+passed (Some e) rest all is = cc is
+
+entries_grow : (entries : List Entry) (words : List (List ℕ)) (all : List Entry) → entries_with entries words ≡ Ok all → length entries ≤ length all
+unfolding entries_with
+entries_grow entries [] all is = let same : entries ≡ all = cc is in omega (arith, ap length same)
+entries_grow entries (name ∷ []) all is = let same : entries ≡ all = cc is in omega (arith, ap length same)
+entries_grow entries (name ∷ bytes ∷ later) all is =
+    let more = entries ++ entry_of name bytes ∷ [] in
+    let one : length more ≡ length entries + 1 = length-append entries (entry_of name bytes ∷ []) in
+    omega (arith, one, entries_grow more later all (passed (pair_refusal entries name bytes) (entries_with more later) all is))
+
+pub entries_some : (words : List (List ℕ)) (all : List Entry) → 2 ≤ length words → entries_with [] words ≡ Ok all → 1 ≤ length all
+unfolding entries_with
+entries_some [] all some is = absurd (omega arith)
+entries_some (name ∷ []) all some is = absurd (omega arith)
+entries_some (name ∷ bytes ∷ later) all some is =
+    let one = entry_of name bytes ∷ [] in
+    omega (arith, entries_grow one later all (passed (pair_refusal [] name bytes) (entries_with one later) all is))
 
 -- the next two
 two_more : (words : List (List ℕ)) (i : ℕ) → 2 * i + 1 < length words

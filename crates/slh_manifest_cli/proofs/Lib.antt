@@ -1,1 +1,2 @@
 mod InPairs
+mod Replied

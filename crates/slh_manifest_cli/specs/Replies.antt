@@ -45,7 +45,7 @@ entries_with entries (name ∷ bytes ∷ later) =
     (entries_with (entries ++ entry_of name bytes ∷ []) later)
 
 -- what is answered to pairs that a manifest is made of, or not. No line has more than 2^32 bytes,
--- or is refused for another cause.
+-- or is refused for another cause, which would have no text.
 abbrev pub seal_text : Scheme → List ℕ → Option (List ℕ) → Result (List Entry) BuildError → List ℕ
 seal_text Z key opt_rand (Ok entries) =
     hex_line (codes "manifest ") (manifest_of Z key opt_rand entries)

@@ -31,7 +31,7 @@ pub(crate) fn word_at(words: &Words, i: usize) -> &[u8]
 {
     match words.get(i) {
         Some(word) => word,
-        None => &[],
+        None => unreachable!(),
     }
 }
 

@@ -1,9 +1,10 @@
 //! `SET seal KEY RAND NAME BYTES ..` gives the manifest of the pairs.
-ghost use Rattle.std.specs.Prelude.{◌≡◌, ◌⊎◌, ◌++◌, ◌∷◌, [], Ok, Err, None, Some, OnOk};
-ghost use Rattle.std.specs.Prelude.{IfOk, IfErr};
-ghost use Rattle.std.specs.Option.{option_copied};
+ghost use Rattle.std.specs.Prelude.{◌≡◌, ◌≤◌, ◌*◌, ◌⊎◌, ◌++◌, ◌∷◌, [], length, Ok, Err, None, Some};
+ghost use Rattle.std.specs.Prelude.{OnOk, IfOk, IfErr};
+ghost use Rattle.std.specs.Option.{option_copied, ForSome};
 ghost use Rattle.line_serve.specs.Fields.{contents};
 ghost use Rattle.slh_manifest.specs.Building.{entry_of};
+ghost use Rattle.slh_manifest.specs.declared.error.BuildError.TheVariants.{Name, TooLarge};
 ghost use Rattle.slh_manifest.specs.declared.error.BuildError.TheVariants.{Memory as NoMemory};
 ghost use Rattle.slh_manifest_cli.specs.Replies.{entries_with, pair_refusal, seal_answer};
 ghost use Rattle.slh_manifest_cli.specs.Replies.{seal_request as spec_seal_request};
@@ -36,10 +37,14 @@ fn add_pair(
     builder.add(name, store)
 }
 
-// The entries of the pairs.
+// The entries of the pairs, of which there are some, and few enough.
 fn entries_of(alloc: Global, pairs: &Words) -> Result<Builder, BuildError>
+    requires some { 2 ≤ length pairs.now }
+    requires few { length pairs.now ≤ 2 * 4096 }
     ensures ok { IfOk result (λ builder. entries_with [] pairs.now ≡ Ok builder) }
     ensures err { IfErr result (λ e. (e ≡ NoMemory) ⊎ (entries_with [] pairs.now ≡ Err e)) }
+    ensures some { IfOk result (λ builder. 1 ≤ length builder) }
+    ensures only { IfErr result (λ e. (e ≡ Name) ⊎ (e ≡ TooLarge) ⊎ (e ≡ NoMemory)) }
 {
     let mut store = PairStore::new(alloc);
     let mut builder = Builder::new(alloc);
@@ -53,13 +58,15 @@ fn entries_of(alloc: Global, pairs: &Words) -> Result<Builder, BuildError>
     Ok(builder)
 }
 
-// The text for the manifest of the entries.
+// The text for the manifest of the entries, of which there are some.
 fn manifest_text<P: ParameterSet>(
     alloc: Global,
     key: &SigningKey<P>,
     opt_rand: Option<&[u8]>,
     builder: Builder,
 ) -> Result<ByteString, LineError>
+    requires some { 1 ≤ length builder }
+    requires opt_rand { ForSome (option_copied opt_rand) (λ bytes. length bytes ≡ P.N.USIZE) }
     ensures { let opt_rand = option_copied opt_rand.entry in
         (result ≡ Ok (spec_seal_text P.scheme key.now opt_rand (Ok builder)))
         ⊎ (result ≡ Err Memory) }
@@ -70,7 +77,8 @@ fn manifest_text<P: ParameterSet>(
             push_hex_line(&mut text, b"manifest ", &manifest)?;
             Ok(text)
         }
-        Err(_) => Err(LineError::Memory),
+        Err(BuildError::Memory) => Err(LineError::Memory),
+        Err(_) => unreachable!(),
     }
 }
 
@@ -81,6 +89,9 @@ fn seal_text<P: ParameterSet>(
     opt_rand: Option<&[u8]>,
     pairs: &Words,
 ) -> Result<ByteString, LineError>
+    requires some { 2 ≤ length pairs.now }
+    requires few { length pairs.now ≤ 2 * 4096 }
+    requires opt_rand { ForSome (option_copied opt_rand) (λ bytes. length bytes ≡ P.N.USIZE) }
     ensures { let opt_rand = option_copied opt_rand.entry in
         (result ≡ Ok (spec_seal_text P.scheme key.now opt_rand (entries_with [] pairs.now)))
         ⊎ (result ≡ Err Memory) }
@@ -89,7 +100,8 @@ fn seal_text<P: ParameterSet>(
         Ok(builder) => manifest_text(alloc, key, opt_rand, builder),
         Err(BuildError::Name) => Ok(ByteString::from_slice(alloc, b"error name\n")?),
         Err(BuildError::TooLarge) => Ok(ByteString::from_slice(alloc, b"error large\n")?),
-        Err(_) => Err(LineError::Memory),
+        Err(BuildError::Memory) => Err(LineError::Memory),
+        Err(_) => unreachable!(),
     }
 }
 
@@ -100,6 +112,8 @@ fn seal_request<P: ParameterSet>(
     opt_rand: Option<ByteString>,
     pairs: &Words,
 ) -> Result<ByteString, LineError>
+    requires some { 2 ≤ length pairs.now }
+    requires few { length pairs.now ≤ 2 * 4096 }
     ensures { (result ≡ spec_seal_request P.scheme key.now opt_rand pairs.now)
         ⊎ (result ≡ Err Memory) }
 {

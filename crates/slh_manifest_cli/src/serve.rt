@@ -1,6 +1,7 @@
 //! The commands of the program.
-ghost use Rattle.std.specs.Prelude.{◌≡◌, ◌≢◌, []};
+ghost use Rattle.std.specs.Prelude.{◌≡◌, ◌≢◌, ℕ, List, [], Ok};
 ghost use Rattle.line_serve.specs.Program.{ServesLines};
+ghost use Rattle.slh_core.specs.Parameters.{Scheme};
 ghost use Rattle.slh_line.specs.Replies.{reply_by};
 ghost use Rattle.slh_manifest_cli.specs.Replies.{manifest_answers, usage};
 
@@ -47,6 +48,8 @@ pub fn manifest_serve<S: Source, K: Sink>(
         (S.left source.old) (S.left source.new) (K.taken sink.old) (K.taken sink.new)
         (S.faults source.old) (S.faults source.new) (K.faults sink.old) (K.faults sink.new) result }
     ensures unread { words.now ≢ [] → source.new ≡ source.old }
+    ensures replied { (Z : Scheme) (name : List ℕ) (fields : List (List ℕ))
+        → manifest_answers Z name fields ≢ Ok [] }
 {
     let usage = b"usage: slh_manifest_cli\n";
     serve_words(alloc, &Lines(Manifests), usage, words, source, sink)

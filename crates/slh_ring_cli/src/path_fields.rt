@@ -1,5 +1,5 @@
 //! Paths as fields of a line.
-ghost use Rattle.std.specs.Prelude.{◌≡◌, ◌⊎◌, [], ◌∷◌, ◌++◌, Ok, Err, OnOk, IfOk, IfErr};
+ghost use Rattle.std.specs.Prelude.{◌≡◌, ◌⊎◌, [], ◌∷◌, ◌++◌, length, Ok, Err, OnOk, IfOk, IfErr};
 ghost use Rattle.line_serve.specs.Fields.{contents};
 ghost use Rattle.slh_line.specs.declared.line_error.LineError.TheVariants.{Memory};
 ghost use Rattle.slh_ring_cli.specs.PathFields.{all_paths as spec_all_paths};
@@ -30,6 +30,7 @@ fn push(paths: &mut Vec<Path>, path: Path) -> Result<(), AllocError>
 /// The paths that all fields stand for, in their order. `Fields`: one stands for none.
 pub(crate) fn all_paths(alloc: Global, fields: &[&[u8]]) -> Result<Vec<Path>, LineError>
     ensures paths { IfOk result (λ paths. spec_all_paths (contents fields.now) ≡ Ok paths.items) }
+    ensures count { IfOk result (λ paths. length paths.items ≡ length fields.now) }
     ensures error { IfErr result (λ e. (spec_all_paths (contents fields.now) ≡ Err e)
         ⊎ (e ≡ Memory)) }
 {

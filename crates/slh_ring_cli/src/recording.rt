@@ -1,8 +1,9 @@
 //! `SET record MASTER PATH ..` gives the record of a ring of paths.
-ghost use Rattle.std.specs.Prelude.{◌≡◌, ◌⊎◌, ◌^◌, ◌≤◌, [], length, None, Some, Ok, Err, IfOk};
+ghost use Rattle.std.specs.Prelude.{◌≡◌, ◌⊎◌, ◌^◌, ◌≤◌, [], length, None, Some, Ok, Err};
+ghost use Rattle.std.specs.Prelude.{IfOk, IfErr};
 ghost use Rattle.line_serve.specs.Fields.{contents};
 ghost use Rattle.slh_line.specs.declared.line_error.LineError.TheVariants.{Memory};
-ghost use Rattle.slh_ring.specs.declared.error.RingError.TheVariants.{Present};
+ghost use Rattle.slh_ring.specs.declared.error.RingError.TheVariants.{Present, Memory as NoMemory};
 ghost use Rattle.slh_ring_cli.specs.Replies.{all_added, record_line_answer};
 ghost use Rattle.slh_ring_cli.specs.Replies.{record_text as spec_record_text};
 
@@ -19,10 +20,12 @@ const FIRST_PATH: usize = 3;
 
 const MAX_FIELDS: usize = FIRST_PATH + 64;
 
-// The ring of these paths. `Present`: one of them is there twice.
+// The ring of these paths, of which there are few enough. `Present`: one of them is there twice.
 fn ring_of<P: ParameterSet>(alloc: Global, paths: &[Path]) -> Result<Ring<P>, RingError>
+    requires few { length paths.now ≤ 64 }
     ensures ring { IfOk result (λ ring. all_added [] paths.now ≡ Some ring) }
     ensures twice { result ≡ Err Present → all_added [] paths.now ≡ None }
+    ensures only { IfErr result (λ e. (e ≡ Present) ⊎ (e ≡ NoMemory)) }
 {
     let mut ring = Ring::new(alloc);
     for path in paths {
@@ -52,14 +55,16 @@ fn record_text<P: ParameterSet>(
     master: &[u8],
     paths: &[Path],
 ) -> Result<ByteString, LineError>
-    requires { length master.now ≤ 2 ^ 60 }
+    requires master { length master.now ≤ 2 ^ 60 }
+    requires few { length paths.now ≤ 64 }
     ensures { (result ≡ Ok (spec_record_text P.scheme P.set_name master.now
         (all_added [] paths.now))) ⊎ (result ≡ Err Memory) }
 {
     match ring_of::<P>(alloc, paths) {
         Ok(ring) => ring_record(alloc, master, &ring),
         Err(RingError::Present) => Ok(ByteString::from_slice(alloc, b"error present\n")?),
-        Err(_) => Err(LineError::Memory),
+        Err(RingError::Full) => unreachable!(),
+        Err(RingError::Memory) => Err(LineError::Memory),
     }
 }
 

@@ -1,6 +1,6 @@
 use Rattle.std.proofs.Common.{◌∙◌, [], arith}
 use Rattle.slh_manifest_cli.specs.Replies.{entries_with}
-use Rattle.slh_manifest_cli.proofs.InPairs.{entries_all, entries_end, entries_step}
+use Rattle.slh_manifest_cli.proofs.InPairs.{entries_all, entries_end, entries_only, entries_some, entries_step, only_memory}
 use Rattle.slh_manifest_cli.proofs.sealing.entries_of.Goals as goal
 
 pub returns-in-Err-clause-err : goal.returns-in-Err-clause-err
@@ -16,3 +16,10 @@ each_pair-preserved c =
 pub returns-clause-ok : goal.returns-clause-ok
 returns-clause-ok c =
     c.each_pair.invariant ∙ entries_all c.each_pair.builder c.args.pairs.now c.each_pair.i (omega (arith, c.each_pair-test.false, c.len-i-end.ensures))
+
+pub returns-in-Err-clause-only : goal.returns-in-Err-clause-only
+returns-in-Err-clause-only c =
+    only_memory (entries_with [] c.args.pairs.now) c.in-Err.error (entries_only [] c.args.pairs.now (omega arith)) (returns-in-Err-clause-err c)
+
+pub returns-clause-some : goal.returns-clause-some
+returns-clause-some c = entries_some c.args.pairs.now c.each_pair.builder (omega arith) (returns-clause-ok c)
