@@ -1,7 +1,7 @@
 -- The receipts of a batch, and what is answered where one is signed by the bytes of a key. Z is the
 -- scheme.
 use Rattle.std.specs.Prelude.{◌≡◌, ℕ, zero, suc, ◌*◌, ◌==◌, List, [], ◌∷◌, ◌++◌, length}
-use Rattle.std.specs.Prelude.{Option, None, Some, IfSome, if◌then◌else◌}
+use Rattle.std.specs.Prelude.{Option, None, Some, IfSome, if◌then◌else◌, unwrap_or}
 use Rattle.slh_core.specs.Parameters.{Scheme}
 use Rattle.slh_trees.specs.Signing.{signature_of}
 use Rattle.slh_frames.specs.Frames.{frame}
@@ -9,11 +9,19 @@ use Rattle.slh_batch.specs.Calls.{seal_refusal}
 use Rattle.slh_batch.specs.Receipts.{batch_context, batch_message, receipt_of}
 use Rattle.slh_batch.specs.declared.error.BatchError.{BatchError}
 use Rattle.slh_batch.specs.declared.error.BatchError.TheVariants.{Memory}
+use Rattle.slh_command.specs.declared.batches.SealError.{SealError}
+use Rattle.slh_command.specs.declared.batches.SealError.TheVariants.{Batch, Receipts}
 
 -- why no batch is signed by the bytes of a key, which callers have read as one of the set
 abbrev pub sealing_refusal : Scheme → List ℕ → List (List ℕ) → Option (List ℕ) → Option BatchError
 sealing_refusal Z key leaves opt_rand =
     if length key == 4 * Z.n then seal_refusal Z leaves opt_rand else Some Memory
+
+-- a batch isn't signed for its refusal, or there is no memory; where something refuses it no receipt
+-- is handed out
+abbrev pub RefusedBy : {E : Type 0} → Option BatchError → SealError E → Type 0
+RefusedBy refusal (Batch error) = error ≡ unwrap_or refusal Memory
+RefusedBy refusal (Receipts error) = refusal ≡ None
 
 -- the signature of a batch
 abbrev pub batch_signature : Scheme → List ℕ → Option (List ℕ) → List (List ℕ) → List ℕ

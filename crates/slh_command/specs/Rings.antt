@@ -1,5 +1,5 @@
 -- What is answered of rings. Z is the scheme, and NAME the parameter set's name.
-use Rattle.std.specs.Prelude.{ℕ, suc, List, [], ◌∷◌, ◌++◌, codes}
+use Rattle.std.specs.Prelude.{ℕ, suc, ◌<◌, ⊤, List, [], ◌∷◌, ◌++◌, codes}
 use Rattle.std.specs.Prelude.{Option, None, Some, Result, Ok, Err}
 use Rattle.std.specs.List.{flat_map}
 use Rattle.slh_core.specs.Parameters.{Scheme}
@@ -10,7 +10,7 @@ use Rattle.slh_ring.specs.Rings.{add_refusal, with_path}
 use Rattle.slh_ring.specs.declared.error.RestoreError.{RestoreError}
 use Rattle.slh_ring.specs.declared.error.RingError.{RingError}
 use Rattle.slh_command.specs.declared.rings.RecordError.{RecordError}
-use Rattle.slh_command.specs.declared.rings.RecordError.TheVariants.{Text, Ring}
+use Rattle.slh_command.specs.declared.rings.RecordError.TheVariants.{Text, Ring, Memory}
 
 -- what is done on, where nothing was refused before
 abbrev pub and_then : {A B : Type 0} → Result A RecordError → (A → Result B RecordError)
@@ -39,6 +39,12 @@ abbrev pub ring_from : ℕ → List (List ℕ) → List (List ℕ) → Result (L
 ring_from i ring [] = Ok ring
 ring_from i ring (text ∷ later) =
     and_then (with_text i text ring) (λ more. ring_from (suc i) more later)
+
+-- an error names one of so many texts, if it names one
+abbrev pub NamesText : ℕ → RecordError → Type 0
+NamesText count (Text i) = i < count
+NamesText count (Ring i error) = i < count
+NamesText count Memory = ⊤
 
 -- the record of the ring of some paths
 abbrev pub record_by : Scheme → List ℕ → List ℕ → Result (List (List ℕ)) RecordError

@@ -1,7 +1,8 @@
 //! Batches that are signed, and where their receipts go.
-ghost use Rattle.std.specs.Prelude.{◌≡◌, ◌++◌, ◌∷◌, [], List, ℕ, Option, Some, IfOk, IfSome, OnOk};
+ghost use Rattle.std.specs.Prelude.{◌≡◌, ◌++◌, ◌∷◌, [], List, ℕ, Option, None, Some};
+ghost use Rattle.std.specs.Prelude.{IfErr, IfOk, IfSome, OnOk};
 ghost use Rattle.std.specs.Option.{option_copied};
-ghost use Rattle.slh_command.specs.Batches.{IsSealed, TookAll};
+ghost use Rattle.slh_command.specs.Batches.{IsSealed, RefusedBy, TookAll, sealing_refusal};
 ghost use Rattle.slh_sets.specs.Sets.{scheme_for};
 
 use slh_batch::{Batch, BatchError, Sealed};
@@ -48,7 +49,8 @@ fn hand_out<P: ParameterSet, R: Receipts>(
     sealed: &Sealed<P>,
     receipts: &mut R,
 ) -> Result<(), SealError<R::Error>>
-    ensures { OnOk result (TookAll sealed.now.leaves sealed.now.signature
+    ensures refused { IfErr result (RefusedBy None) }
+    ensures taken { OnOk result (TookAll sealed.now.leaves sealed.now.signature
         (R.taken receipts.old) (R.taken receipts.new)) }
 {
     'each_message: for i in 0..sealed.len() {
@@ -71,7 +73,9 @@ fn seal_by<P: ParameterSet, R: Receipts + Drop>(
     opt_rand: Option<&[u8]>,
     receipts: R,
 ) -> Result<R, SealError<R::Error>>
-    ensures { let opt_rand = option_copied opt_rand.entry in
+    ensures refused { let opt_rand = option_copied opt_rand.entry in
+        IfErr result (RefusedBy (sealing_refusal P.scheme key.now batch opt_rand)) }
+    ensures sealed { let opt_rand = option_copied opt_rand.entry in
         IfOk result (λ after. IsSealed P.scheme key.now opt_rand batch
         (R.taken receipts) (R.taken after)) }
 {
@@ -91,7 +95,8 @@ impl<'a, R: Receipts + Drop> OnSet for Sealing<'a, R> {
     type Out = Result<R, SealError<R::Error>>;
 
     ghost gives = { λ c Z _ result. let opt_rand = option_copied c.opt_rand in
-        IfOk result (λ after. IsSealed Z c.key.now opt_rand c.batch
+        IfErr result (RefusedBy (sealing_refusal Z c.key.now c.batch opt_rand))
+        × IfOk result (λ after. IsSealed Z c.key.now opt_rand c.batch
         (R.taken c.receipts) (R.taken after)) };
 
     fn on<P: SetSuite>(self) -> Result<R, SealError<R::Error>> {
@@ -118,7 +123,9 @@ pub fn seal_batch<R: Receipts + Drop>(
     opt_rand: Option<&[u8]>,
     receipts: R,
 ) -> Result<R, SealError<R::Error>>
-    ensures { let opt_rand = option_copied opt_rand.entry in
+    ensures refused { let opt_rand = option_copied opt_rand.entry in
+        IfErr result (RefusedBy (sealing_refusal (scheme_for set) key.now batch opt_rand)) }
+    ensures sealed { let opt_rand = option_copied opt_rand.entry in
         IfOk result (λ after. IsSealed (scheme_for set) key.now opt_rand batch
         (R.taken receipts) (R.taken after)) }
 {

@@ -1,8 +1,9 @@
 //! Rings of the keys of a master secret.
-ghost use Rattle.std.specs.Prelude.{◌≡◌, ◌⊎◌, ◌^◌, ◌≤◌, [], length, Ok, Err, IfOk, IfErr, OnOk};
+ghost use Rattle.std.specs.Prelude.{◌≡◌, ◌⊎◌, ◌+◌, ◌^◌, ◌≤◌, [], length, Ok, Err, IfOk, IfErr};
+ghost use Rattle.std.specs.Prelude.{OnOk};
 ghost use Rattle.line_serve.specs.Fields.{contents};
 ghost use Rattle.slh_command.specs.Rings.{paths_text as spec_paths_text, record_by, restored_text};
-ghost use Rattle.slh_command.specs.Rings.{ring_from, with_text};
+ghost use Rattle.slh_command.specs.Rings.{NamesText, ring_from, with_text};
 ghost use Rattle.slh_command.specs.declared.rings.RecordError.TheVariants.{Memory as NoMemory};
 ghost use Rattle.slh_ring.specs.Keys.{ring_key};
 ghost use Rattle.slh_ring.specs.declared.error.RestoreError.TheVariants.{Memory};
@@ -100,6 +101,7 @@ fn add_text<P: ParameterSet>(ring: &mut Ring<P>, i: usize, text: &str) -> Result
     ensures ok { OnOk result (with_text i text.now ring.old ≡ Ok ring.new) }
     ensures error { IfErr result (λ e. (with_text i text.now ring.old ≡ Err e)
         ⊎ (e ≡ NoMemory)) }
+    ensures named { IfErr result (NamesText (i + 1)) }
 {
     let Some(path) = Path::from_text(text.as_bytes()) else {
         return Err(RecordError::Text(i));
@@ -116,6 +118,7 @@ fn ring_of<P: ParameterSet>(alloc: Global, texts: &[&str]) -> Result<Ring<P>, Re
     ensures ring { IfOk result (λ ring. ring_from 0 [] (contents texts.now) ≡ Ok ring) }
     ensures error { IfErr result
         (λ e. (ring_from 0 [] (contents texts.now) ≡ Err e) ⊎ (e ≡ NoMemory)) }
+    ensures named { IfErr result (NamesText (length texts.now)) }
 {
     let mut ring = Ring::new(alloc);
     'each_text: for i in 0..texts.len() {
@@ -134,6 +137,7 @@ fn record_in<P: ParameterSet>(
         (ring_from 0 [] (contents texts.now)) ≡ Ok record_bytes.items) }
     ensures error { IfErr result (λ e. (record_by P.scheme P.set_name master.now
         (ring_from 0 [] (contents texts.now)) ≡ Err e) ⊎ (e ≡ NoMemory)) }
+    ensures named { IfErr result (NamesText (length texts.now)) }
 {
     if master.len() > MAX_MASTER {
         return Err(RecordError::Memory);
@@ -148,7 +152,8 @@ impl<'a, 't> OnSet for Recording<'a, 't> {
     ghost gives = { λ c Z name result.
         let answer = record_by Z name c.master.now (ring_from 0 [] (contents c.texts.now)) in
         IfOk result (λ made. answer ≡ Ok made.items)
-        × IfErr result (λ e. (answer ≡ Err e) ⊎ (e ≡ NoMemory)) };
+        × IfErr result (λ e. (answer ≡ Err e) ⊎ (e ≡ NoMemory))
+        × IfErr result (NamesText (length c.texts.now)) };
 
     fn on<P: SetSuite>(self) -> Result<Vec<u8>, RecordError> {
         record_in::<P>(self.alloc, self.master, self.texts)
@@ -170,6 +175,7 @@ pub fn record_of(
     ensures error { let ring = ring_from 0 [] (contents texts.now) in
         IfErr result (λ e. (record_by (scheme_for set) (name_of set) master.now ring ≡ Err e)
         ⊎ (e ≡ NoMemory)) }
+    ensures named { IfErr result (NamesText (length texts.now)) }
 {
     set.run(Recording {
         alloc,
