@@ -13,15 +13,16 @@ _slh() {
     --context | --context-hex | --depth | --evidence | --key-text | --name | --path) return ;;
     esac
     if [ -z "$words" ] && [ "$COMP_CWORD" -eq 1 ]; then
-        words='keygen public sign verify audit check inspect batch manifest chain ring help
-            --help --version'
+        words='keygen public sign verify audit evidence check inspect batch manifest chain ring
+            help --help --version'
     elif [ -z "$words" ] && [ "$COMP_CWORD" -eq 2 ]; then
         case ${COMP_WORDS[1]} in
         batch) words='sign verify --help' ;;
         manifest) words='seal check --help' ;;
         chain) words='delegate walk show verify --help' ;;
         ring) words='master key record restore --help' ;;
-        help) words='keygen public sign verify audit check inspect batch manifest chain ring' ;;
+        help)
+            words='keygen public sign verify audit evidence check inspect batch manifest chain ring' ;;
         esac
     fi
     if [ -z "$words" ]; then
@@ -30,20 +31,25 @@ _slh() {
         'public '*) words='--key --output --help' ;;
         'sign '*)
             words='--key --context --context-hex --prehash --deterministic --audit --output --help' ;;
-        'verify '*) words='--key --key-text --signature --context --context-hex --prehash --help' ;;
-        'audit '*) words='--key --signature --context --context-hex --prehash --help' ;;
-        'check '*) words='--key --signature --evidence --context --context-hex --prehash --help' ;;
+        'verify '*)
+            words='--key --key-text --signature --context --context-hex --prehash --json --help' ;;
+        'audit '*) words='--key --signature --context --context-hex --prehash --json --help' ;;
+        'evidence '*)
+            words='--key --signature --evidence --context --context-hex --prehash --json --help' ;;
+        'check '*)
+            words='--key --signature --evidence --context --context-hex --prehash --json --help' ;;
         'inspect '*) words='--help' ;;
         'batch sign') words='--key --deterministic --help' ;;
-        'batch verify') words='--key --key-text --receipt --help' ;;
+        'batch verify') words='--key --key-text --receipt --json --help' ;;
         'manifest seal') words='--key --deterministic --output --help' ;;
-        'manifest check') words='--key --key-text --chain --manifest --strict --help' ;;
+        'manifest check') words='--key --key-text --chain --manifest --strict --json --help' ;;
         'chain delegate')
             words='--key --subject --name --depth --chain --deterministic --output --help' ;;
         'chain walk') words='--key --key-text --chain --output --help' ;;
         'chain show') words='--key --key-text --chain --help' ;;
         'chain verify')
-            words='--key --key-text --chain --signature --context --context-hex --prehash --help' ;;
+            words='--key --key-text --chain --signature --context --context-hex --prehash --json
+                --help' ;;
         'ring master') words='--help' ;;
         'ring key') words='--set --master --path --help' ;;
         'ring record') words='--set --master --output --help' ;;

@@ -25,7 +25,8 @@ complete -c slh -n '__slh_are; or __slh_are help' -a public -d 'Writes the verif
 complete -c slh -n '__slh_are; or __slh_are help' -a sign -d 'Signs a file; the signature goes to FILE.sig'
 complete -c slh -n '__slh_are; or __slh_are help' -a verify -d 'Verifies a signature of a file: accepted (0) or invalid (1)'
 complete -c slh -n '__slh_are; or __slh_are help' -a audit -d 'Tells whether a key made a signature: genuine (0), foreign or invalid (1)'
-complete -c slh -n '__slh_are; or __slh_are help' -a check -d 'Tells whether evidence shows against a signature: shown (0) or not shown (1)'
+complete -c slh -n '__slh_are; or __slh_are help' -a evidence -d 'Tells whether evidence shows against a signature: shown (0) or not shown (1)'
+complete -c slh -n '__slh_are; or __slh_are help' -a check -d 'The old name of evidence'
 complete -c slh -n '__slh_are; or __slh_are help' -a inspect -d 'Tells what a key or a signature is, and nothing that is secret'
 complete -c slh -n '__slh_are; or __slh_are help' -a batch -d 'One signature for many files, and a receipt for each'
 complete -c slh -n '__slh_are; or __slh_are help' -a manifest -d 'One signature for the files of a folder'
@@ -63,19 +64,30 @@ complete -c slh -n '__slh_begin verify' -l signature -r -F -d 'The signature; FI
 complete -c slh -n '__slh_begin verify' -l context -x -d 'The context, at most 255 bytes'
 complete -c slh -n '__slh_begin verify' -l context-hex -x -d 'The context in hexadecimal'
 complete -c slh -n '__slh_begin verify' -l prehash -x -a 'sha256 sha512' -d 'Signs this digest of the file'
+complete -c slh -n '__slh_begin verify' -l json -d 'Tells the verdict as an object of JSON'
 complete -c slh -n '__slh_begin verify' -F
 complete -c slh -n '__slh_begin audit' -l key -r -F -d 'The signing key'
 complete -c slh -n '__slh_begin audit' -l signature -r -F -d 'The signature; FILE.sig if it is left out'
 complete -c slh -n '__slh_begin audit' -l context -x -d 'The context, at most 255 bytes'
 complete -c slh -n '__slh_begin audit' -l context-hex -x -d 'The context in hexadecimal'
 complete -c slh -n '__slh_begin audit' -l prehash -x -a 'sha256 sha512' -d 'Signs this digest of the file'
+complete -c slh -n '__slh_begin audit' -l json -d 'Tells the verdict as an object of JSON'
 complete -c slh -n '__slh_begin audit' -F
+complete -c slh -n '__slh_begin evidence' -l key -r -F -d 'The signing key'
+complete -c slh -n '__slh_begin evidence' -l signature -r -F -d 'The signature; FILE.sig if it is left out'
+complete -c slh -n '__slh_begin evidence' -l evidence -x -d 'What an audit printed after foreign'
+complete -c slh -n '__slh_begin evidence' -l context -x -d 'The context, at most 255 bytes'
+complete -c slh -n '__slh_begin evidence' -l context-hex -x -d 'The context in hexadecimal'
+complete -c slh -n '__slh_begin evidence' -l prehash -x -a 'sha256 sha512' -d 'Signs this digest of the file'
+complete -c slh -n '__slh_begin evidence' -l json -d 'Tells the verdict as an object of JSON'
+complete -c slh -n '__slh_begin evidence' -F
 complete -c slh -n '__slh_begin check' -l key -r -F -d 'The signing key'
 complete -c slh -n '__slh_begin check' -l signature -r -F -d 'The signature; FILE.sig if it is left out'
 complete -c slh -n '__slh_begin check' -l evidence -x -d 'What an audit printed after foreign'
 complete -c slh -n '__slh_begin check' -l context -x -d 'The context, at most 255 bytes'
 complete -c slh -n '__slh_begin check' -l context-hex -x -d 'The context in hexadecimal'
 complete -c slh -n '__slh_begin check' -l prehash -x -a 'sha256 sha512' -d 'Signs this digest of the file'
+complete -c slh -n '__slh_begin check' -l json -d 'Tells the verdict as an object of JSON'
 complete -c slh -n '__slh_begin check' -F
 complete -c slh -n '__slh_begin inspect' -F
 complete -c slh -n '__slh_begin batch sign' -l key -r -F -d 'The signing key'
@@ -84,6 +96,7 @@ complete -c slh -n '__slh_begin batch sign' -F
 complete -c slh -n '__slh_begin batch verify' -l key -r -F -d 'The verifying key'
 complete -c slh -n '__slh_begin batch verify' -l key-text -x -d 'The verifying key itself, as \'SET HEX\''
 complete -c slh -n '__slh_begin batch verify' -l receipt -r -F -d 'The receipt of the file'
+complete -c slh -n '__slh_begin batch verify' -l json -d 'Tells the verdict as an object of JSON'
 complete -c slh -n '__slh_begin batch verify' -F
 complete -c slh -n '__slh_begin manifest seal' -l key -r -F -d 'The signing key'
 complete -c slh -n '__slh_begin manifest seal' -l deterministic -d 'Signs without random bytes'
@@ -94,6 +107,7 @@ complete -c slh -n '__slh_begin manifest check' -l key-text -x -d 'The verifying
 complete -c slh -n '__slh_begin manifest check' -l chain -r -F -d 'A chain from that key to the one that sealed'
 complete -c slh -n '__slh_begin manifest check' -l manifest -r -F -d 'The manifest'
 complete -c slh -n '__slh_begin manifest check' -l strict -d 'Refuses a file below the folder that the manifest doesn\'t name'
+complete -c slh -n '__slh_begin manifest check' -l json -d 'Tells the verdict as an object of JSON'
 complete -c slh -n '__slh_begin manifest check' -a '(__fish_complete_directories)'
 complete -c slh -n '__slh_begin chain delegate' -l key -r -F -d 'The signing key'
 complete -c slh -n '__slh_begin chain delegate' -l subject -r -F -d 'The key that may act'
@@ -116,6 +130,7 @@ complete -c slh -n '__slh_begin chain verify' -l signature -r -F -d 'The signatu
 complete -c slh -n '__slh_begin chain verify' -l context -x -d 'The context, at most 255 bytes'
 complete -c slh -n '__slh_begin chain verify' -l context-hex -x -d 'The context in hexadecimal'
 complete -c slh -n '__slh_begin chain verify' -l prehash -x -a 'sha256 sha512' -d 'Signs this digest of the file'
+complete -c slh -n '__slh_begin chain verify' -l json -d 'Tells the verdict as an object of JSON'
 complete -c slh -n '__slh_begin chain verify' -F
 complete -c slh -n '__slh_begin ring master' -F
 complete -c slh -n '__slh_begin ring key' -l set -x -a 'SLH-DSA-SHA2-128s SLH-DSA-SHA2-128f SLH-DSA-SHA2-192s SLH-DSA-SHA2-192f SLH-DSA-SHA2-256s SLH-DSA-SHA2-256f' -d 'The parameter set'

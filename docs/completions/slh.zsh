@@ -45,6 +45,7 @@ _slh_batch() {
                 '(--key-text)--key=[The verifying key]:NAME.pub:_files -g "*.pub"' \
                 '(--key)--key-text=[The verifying key itself, as '\''SET HEX'\'']:TEXT: ' \
                 '--receipt=[The receipt of the file]:FILE.receipt:_files -g "*.receipt"' \
+                '--json[Tells the verdict as an object of JSON]' \
                 '1:FILE:_files'
             ;;
         esac
@@ -83,6 +84,7 @@ _slh_manifest() {
                 '--chain=[A chain from that key to the one that sealed]:CHAIN:_files' \
                 '--manifest=[The manifest]:MANIFEST:_files' \
                 '--strict[Refuses a file below the folder that the manifest doesn'\''t name]' \
+                '--json[Tells the verdict as an object of JSON]' \
                 '1:FOLDER:_files -/'
             ;;
         esac
@@ -143,6 +145,7 @@ _slh_chain() {
                 '(--context-hex)--context=[The context, at most 255 bytes]:TEXT: ' \
                 '(--context)--context-hex=[The context in hexadecimal]:HEX: ' \
                 '--prehash=[Signs this digest of the file]:HASH:_slh_hash' \
+                '--json[Tells the verdict as an object of JSON]' \
                 '1:FILE:_files'
             ;;
         esac
@@ -207,7 +210,8 @@ _slh() {
         'sign:Signs a file; the signature goes to FILE.sig'
         'verify:Verifies a signature of a file\: accepted (0) or invalid (1)'
         'audit:Tells whether a key made a signature\: genuine (0), foreign or invalid (1)'
-        'check:Tells whether evidence shows against a signature\: shown (0) or not shown (1)'
+        'evidence:Tells whether evidence shows against a signature\: shown (0) or not shown (1)'
+        'check:The old name of evidence'
         'inspect:Tells what a key or a signature is, and nothing that is secret'
         'batch:One signature for many files, and a receipt for each'
         'manifest:One signature for the files of a folder'
@@ -258,6 +262,7 @@ _slh() {
                 '(--context-hex)--context=[The context, at most 255 bytes]:TEXT: ' \
                 '(--context)--context-hex=[The context in hexadecimal]:HEX: ' \
                 '--prehash=[Signs this digest of the file]:HASH:_slh_hash' \
+                '--json[Tells the verdict as an object of JSON]' \
                 '1:FILE:_files'
             ;;
         audit)
@@ -268,6 +273,19 @@ _slh() {
                 '(--context-hex)--context=[The context, at most 255 bytes]:TEXT: ' \
                 '(--context)--context-hex=[The context in hexadecimal]:HEX: ' \
                 '--prehash=[Signs this digest of the file]:HASH:_slh_hash' \
+                '--json[Tells the verdict as an object of JSON]' \
+                '1:FILE:_files'
+            ;;
+        evidence)
+            _arguments -S \
+                '(- *)'{-h,--help}'[Print help]' \
+                '--key=[The signing key]:NAME.key:_files -g "*.key"' \
+                '--signature=[The signature; FILE.sig if it is left out]:FILE.sig:_files -g "*.sig"' \
+                '--evidence=[What an audit printed after foreign]:WORDS: ' \
+                '(--context-hex)--context=[The context, at most 255 bytes]:TEXT: ' \
+                '(--context)--context-hex=[The context in hexadecimal]:HEX: ' \
+                '--prehash=[Signs this digest of the file]:HASH:_slh_hash' \
+                '--json[Tells the verdict as an object of JSON]' \
                 '1:FILE:_files'
             ;;
         check)
@@ -279,6 +297,7 @@ _slh() {
                 '(--context-hex)--context=[The context, at most 255 bytes]:TEXT: ' \
                 '(--context)--context-hex=[The context in hexadecimal]:HEX: ' \
                 '--prehash=[Signs this digest of the file]:HASH:_slh_hash' \
+                '--json[Tells the verdict as an object of JSON]' \
                 '1:FILE:_files'
             ;;
         inspect)

@@ -29,10 +29,24 @@ const INPUTS: [&str; 8] = [
 ];
 
 /// A value that the command requires.
-pub fn required<'a>(words: &ArgMatches<'a>, name: &str) -> Result<&'a str, Failure<'static>> {
+pub fn required<'a>(
+    words: &ArgMatches<'a>,
+    name: &'static str,
+) -> Result<&'a str, Failure<'static>> {
     match words.get_str(name) {
         Some(value) => Ok(value),
-        None => Err(Failure::Command),
+        None => Err(Failure::Told(name, "it is missing")),
+    }
+}
+
+/// The values that the command requires, one or more.
+pub fn required_all<'s, 'a>(
+    words: &'s ArgMatches<'a>,
+    name: &'static str,
+) -> Result<&'s [&'a str], Failure<'static>> {
+    match words.get_strs(name) {
+        Some(values) => Ok(values),
+        None => Err(Failure::Told(name, "it is missing")),
     }
 }
 

@@ -1,4 +1,5 @@
 mod Adds
 mod Checks
+mod Escapes
 mod Taken
 mod Texts

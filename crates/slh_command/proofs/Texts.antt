@@ -8,7 +8,7 @@ use Rattle.std.proofs.lemmas.Option.{get_or_from_slice_get, slice_get_within}
 use Rattle.slh_ring.specs.PathTexts.{path_text}
 use Rattle.slh_command.specs.Rings.{paths_text}
 
-text_more : {X : Type 0} (f : X → List ℕ) (items : List X) (i : ℕ) (item : X) → i < length items
+pub text_more : {X : Type 0} (f : X → List ℕ) (items : List X) (i : ℕ) (item : X) → i < length items
     → flat_map f (take (i + 1) items) ≡ flat_map f (take i items) ++ f (get_or items i item)
 text_more f items i item below =
     ap (flat_map f) (take_more items i item below) ∙ flat_map-append f (take i items) (get_or items i item ∷ [])

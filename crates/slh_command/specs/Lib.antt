@@ -3,3 +3,4 @@ pub mod Chains
 pub mod Manifests
 pub mod Receipts
 pub mod Rings
+pub mod Verdicts

@@ -3,6 +3,7 @@
 //!
 //! Nothing here opens a file or reads a word. Each call takes a set and the bytes of a key, and is
 //! one call of the library that it is named after; its clause names that library's definition.
+//! [`verdict_json`] is the line of a verdict for programs.
 //!
 //! ```
 //! use slh_batch::ReceiptError;
@@ -26,9 +27,11 @@ mod chains;
 mod manifests;
 mod receipts;
 mod rings;
+mod verdicts;
 
 pub use batches::{Receipts, SealError, seal_batch};
 pub use chains::{LinkText, WalkError, last_key, links_of, new_link};
 pub use manifests::{Checked, check_manifest, entry_name, first_unnamed, seal_manifest};
 pub use receipts::accept_receipt;
 pub use rings::{MAX_MASTER, RecordError, key_at, record_of, restored_paths};
+pub use verdicts::{Detail, verdict_json};

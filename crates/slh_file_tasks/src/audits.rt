@@ -1,8 +1,9 @@
-//! `slh audit` and `slh check`.
+//! `slh audit` and `slh evidence`.
 use clap::ArgMatches;
-use slh_arguments::{Claim, check_inputs, own_claim, required, tell};
+use slh_arguments::{Claim, check_inputs, own_claim, report, required};
+use slh_command::Detail;
 use slh_files::{Outcome, evidence_of};
-use slh_paths::{Failure, outputs};
+use slh_paths::Failure;
 use slh_run::{ByteString, Error, Evidence, Verdict, push_evidence};
 
 /// Tells whether the holder of a key made a signature that the key accepts.
@@ -14,27 +15,30 @@ pub fn audit<'a>(rt: &HostRuntime, words: &ArgMatches<'a>) -> Result<Outcome, Fa
         message,
     } = own_claim(rt, words)?;
     match slh_files::audit(rt.alloc(), key, message, signature) {
-        Ok(Verdict::Genuine) => tell(rt, Outcome::Genuine),
-        Ok(Verdict::Foreign(evidence)) => tell_foreign(rt, evidence),
-        Err(Error::Invalid) => tell(rt, Outcome::Invalid),
+        Ok(Verdict::Genuine) => report(rt, words, Outcome::Genuine, Detail::Nothing),
+        Ok(Verdict::Foreign(evidence)) => tell_foreign(rt, words, evidence),
+        Err(Error::Invalid) => report(rt, words, Outcome::Invalid, Detail::Nothing),
         Err(error) => Err(Failure::Refused(required(words, "file")?, error)),
     }
 }
 
-fn tell_foreign(rt: &HostRuntime, evidence: Evidence) -> Result<Outcome, Failure<'static>> {
-    let outcome = Outcome::Foreign;
-    let mut line = ByteString::from_slice(rt.alloc(), outcome.word().as_bytes())?;
-    line.push_slice(b" ")?;
-    push_evidence(&mut line, evidence)?;
-    line.push_slice(b"\n")?;
-    match outputs::print(rt, line.as_slice()) {
-        Ok(()) => Ok(outcome),
-        Err(error) => Err(Failure::Output(error)),
-    }
+fn tell_foreign(
+    rt: &HostRuntime,
+    words: &ArgMatches<'_>,
+    evidence: Evidence,
+) -> Result<Outcome, Failure<'static>> {
+    let mut told = ByteString::new(rt.alloc());
+    push_evidence(&mut told, evidence)?;
+    report(
+        rt,
+        words,
+        Outcome::Foreign,
+        Detail::Evidence(told.as_slice()),
+    )
 }
 
 /// Tells whether evidence shows against a signature.
-pub fn check<'a>(rt: &HostRuntime, words: &ArgMatches<'a>) -> Result<Outcome, Failure<'a>> {
+pub fn evidence<'a>(rt: &HostRuntime, words: &ArgMatches<'a>) -> Result<Outcome, Failure<'a>> {
     check_inputs(words)?;
     let Some(evidence) = evidence_of(rt.alloc(), required(words, "evidence")?.as_bytes())? else {
         return Err(Failure::Evidence);
@@ -45,8 +49,8 @@ pub fn check<'a>(rt: &HostRuntime, words: &ArgMatches<'a>) -> Result<Outcome, Fa
         message,
     } = own_claim(rt, words)?;
     match slh_files::check(rt.alloc(), key, message, signature, evidence) {
-        Ok(true) => tell(rt, Outcome::Shown),
-        Ok(false) => tell(rt, Outcome::NotShown),
+        Ok(true) => report(rt, words, Outcome::Shown, Detail::Nothing),
+        Ok(false) => report(rt, words, Outcome::NotShown, Detail::Nothing),
         Err(error) => Err(Failure::Refused(required(words, "file")?, error)),
     }
 }

@@ -7,7 +7,7 @@ mod inspecting;
 mod keys;
 mod signatures;
 
-pub use audits::{audit, check};
+pub use audits::{audit, evidence};
 pub use inspecting::inspect;
 pub use keys::{keygen, public};
 pub use signatures::{sign, verify};

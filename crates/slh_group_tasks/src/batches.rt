@@ -1,10 +1,11 @@
 //! `slh batch`: one signature for many files, and a receipt for each.
 use clap::ArgMatches;
 use slh_arguments::{
-    Randomness, check_inputs, check_output, required, signing_key, tell, verifying_key,
+    Randomness, check_inputs, check_output, report, required, required_all, signing_key,
+    verifying_key,
 };
-use slh_batch::{Batch, BatchError, ReceiptError};
-use slh_command::{Receipts, SealError, accept_receipt, seal_batch};
+use slh_batch::{Batch, BatchError, Place, ReceiptError};
+use slh_command::{Detail, Receipts, SealError, accept_receipt, seal_batch};
 use slh_files::Outcome;
 use slh_paths::files::{self, FileId};
 use slh_paths::{Failure, outputs};
@@ -28,7 +29,7 @@ impl<'s, 'a> Receipts for Beside<'s, 'a> {
 
     fn take(&mut self, receipt: &[u8]) -> Result<(), Failure<'a>> {
         let Some(path) = self.paths.get(self.count) else {
-            return Err(Failure::Command);
+            return Err(Failure::Told("the batch", "it has a receipt and no file for it"));
         };
         outputs::put_beside(self.rt, *path, ".receipt", receipt)?;
         self.count = self.count.saturating_add(1);
@@ -97,9 +98,7 @@ pub fn sign<'s, 'a>(
     rt: &'s HostRuntime,
     words: &'s ArgMatches<'a>,
 ) -> Result<Outcome, Failure<'a>> {
-    let Some(paths) = words.get_strs("files") else {
-        return Err(Failure::Command);
-    };
+    let paths = required_all(words, "files")?;
     check_names(rt, words, paths)?;
     let key = signing_key(rt, words)?;
     let randomness = Randomness::new(rt, words)?;
@@ -126,18 +125,22 @@ pub fn verify<'a>(rt: &HostRuntime, words: &ArgMatches<'a>) -> Result<Outcome, F
     let message = files::read(rt, file)?;
     let key_bytes = key.bytes.as_slice();
     let accepted = accept_receipt(key.set, key_bytes, message.as_slice(), receipt.as_slice());
-    tell_accepted(rt, path, file, accepted)
+    tell_accepted(rt, words, (path, file), accepted)
 }
 
+// Tells what came of a receipt and a file of these paths.
 fn tell_accepted<'a>(
     rt: &HostRuntime,
-    path: &'a str,
-    file: &'a str,
-    accepted: Result<(), ReceiptError>,
+    words: &ArgMatches<'a>,
+    paths: (&'a str, &'a str),
+    accepted: Result<Place, ReceiptError>,
 ) -> Result<Outcome, Failure<'a>> {
+    let (path, file) = paths;
     match accepted {
-        Ok(()) => tell(rt, Outcome::Accepted),
-        Err(ReceiptError::Invalid) => tell(rt, Outcome::Invalid),
+        Ok(Place { index, count }) => {
+            report(rt, words, Outcome::Accepted, Detail::Place(index, count))
+        }
+        Err(ReceiptError::Invalid) => report(rt, words, Outcome::Invalid, Detail::Nothing),
         Err(ReceiptError::Form) => Err(Failure::Told(path, "not a receipt of the key's set")),
         Err(ReceiptError::Message) => Err(Failure::Told(file, "it has more than 2^60 bytes")),
     }

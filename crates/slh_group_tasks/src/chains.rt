@@ -2,11 +2,11 @@
 use clap::ArgMatches;
 use line_serve::{push_hex, push_number};
 use slh_arguments::{
-    Randomness, check_inputs, check_output, context, key_file, key_of_kind, required, signing_key,
-    tell, tell_verdict, verifying_key,
+    Randomness, check_inputs, check_output, context, key_file, key_of_kind, report, required,
+    signing_key, tell_verdict, verifying_key,
 };
 use slh_chain::{ChainError, LinkError};
-use slh_command::{LinkText, WalkError, last_key, links_of, new_link};
+use slh_command::{Detail, LinkText, WalkError, last_key, links_of, new_link};
 use slh_files::{Key, Kind, Outcome, digits_of};
 use slh_paths::shown::shown;
 use slh_paths::{Failure, files, outputs};
@@ -41,7 +41,7 @@ pub fn delegate<'a>(rt: &HostRuntime, words: &ArgMatches<'a>) -> Result<Outcome,
 // The chain with the new link.
 fn delegated<'a>(rt: &HostRuntime, words: &ArgMatches<'a>) -> Result<ByteString, Failure<'a>> {
     let Some(depth) = words.get_one::<u8>("depth") else {
-        return Err(Failure::Command);
+        return Err(Failure::Told("--depth", "it is missing"));
     };
     let key = signing_key(rt, words)?;
     let subject = subject_of(rt, words, key.set)?;
@@ -195,6 +195,6 @@ pub fn verify<'a>(rt: &HostRuntime, words: &ArgMatches<'a>) -> Result<Outcome, F
     let context = context(rt, words)?;
     match acting_key(rt, words)? {
         Some(key) => tell_verdict(rt, words, &key, context.as_slice()),
-        None => tell(rt, Outcome::Invalid),
+        None => report(rt, words, Outcome::Invalid, Detail::Nothing),
     }
 }

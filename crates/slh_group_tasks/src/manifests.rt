@@ -1,15 +1,15 @@
 //! `slh manifest`: one signature for the files of a folder.
 use crate::chains::acting_key;
 use clap::ArgMatches;
-use slh_arguments::{Randomness, check_inputs, check_output, required, signing_key, tell};
-use slh_command::{check_manifest, entry_name, first_unnamed, seal_manifest};
+use slh_arguments::{Randomness, check_inputs, check_output, report, required, signing_key};
+use slh_command::{Detail, check_manifest, entry_name, first_unnamed, seal_manifest};
 use slh_files::Outcome;
 use slh_manifest::{BuildError, Builder, CheckError, MAX_ENTRIES};
 use slh_paths::folder::{Folder, Found, names_below};
 use slh_paths::shown::shown;
 use slh_paths::{Failure, files, outputs};
 use std::alloc::{AllocError, Global};
-use std::{fs, io};
+use std::{fs, io, str};
 use whole_files::is_part;
 
 const UNREADABLE: &str = "it can't be read";
@@ -197,7 +197,7 @@ fn named_places(rt: &HostRuntime, words: &ArgMatches<'_>) -> Result<Vec<String>,
     let mut places = Vec::new(rt.alloc());
     for name in ["manifest", "chain", "key"] {
         if let Some(input) = words.get_str(name)
-            && let Some(place) = files::place_of(rt, input)
+            && let Some(place) = files::place_of(rt, input)?
         {
             places.push(place)?;
         }
@@ -210,7 +210,7 @@ pub fn check<'a>(rt: &HostRuntime, words: &ArgMatches<'a>) -> Result<Outcome, Fa
     check_inputs(words)?;
     let below = folder_path(rt, words)?;
     let Some(key) = acting_key(rt, words)? else {
-        return tell(rt, Outcome::Invalid);
+        return report(rt, words, Outcome::Invalid, Detail::Nothing);
     };
     let path = required(words, "manifest")?;
     let manifest = files::read_limited(rt, path)?;
@@ -218,31 +218,30 @@ pub fn check<'a>(rt: &HostRuntime, words: &ArgMatches<'a>) -> Result<Outcome, Fa
     let (key_bytes, folder) = (key.bytes.as_slice(), Folder::new(rt, below));
     let checked = check_manifest(key.set, key_bytes, manifest.as_slice(), folder);
     match checked.answer {
-        Ok(()) => tell_unnamed(rt, first_unnamed(manifest.as_slice(), &others)),
+        Ok(()) => tell_unnamed(rt, words, first_unnamed(manifest.as_slice(), &others)),
         Err(CheckError::Form) => Err(Failure::Told(path, "not a manifest of the key's set")),
         Err(CheckError::Fault) => Err(fault_failure(rt.alloc(), below, checked.store)?),
-        Err(error) => tell_refused(rt, error, entry_name(manifest.as_slice(), error)),
+        Err(CheckError::Invalid) => report(rt, words, Outcome::Invalid, Detail::Nothing),
+        Err(CheckError::Missing(i)) => {
+            let name = entry_name(manifest.as_slice(), CheckError::Missing(i));
+            tell_name(rt, words, Outcome::Missing, name)
+        }
+        Err(CheckError::Differs(i)) => {
+            let name = entry_name(manifest.as_slice(), CheckError::Differs(i));
+            tell_name(rt, words, Outcome::Differs, name)
+        }
     }
 }
 
 // Tells that each file is as the manifest says, or what it doesn't name.
-fn tell_unnamed(rt: &HostRuntime, name: Option<&[u8]>) -> Result<Outcome, Failure<'static>> {
-    match name {
-        Some(name) => tell_name(rt, Outcome::Unnamed, name),
-        None => tell(rt, Outcome::Accepted),
-    }
-}
-
-// Tells which entry isn't right, or that the signature isn't.
-fn tell_refused(
+fn tell_unnamed(
     rt: &HostRuntime,
-    error: CheckError,
-    name: &[u8],
+    words: &ArgMatches<'_>,
+    name: Option<&[u8]>,
 ) -> Result<Outcome, Failure<'static>> {
-    match error {
-        CheckError::Missing(_) => tell_name(rt, Outcome::Missing, name),
-        CheckError::Differs(_) => tell_name(rt, Outcome::Differs, name),
-        _ => tell(rt, Outcome::Invalid),
+    match name {
+        Some(name) => tell_name(rt, words, Outcome::Unnamed, name),
+        None => report(rt, words, Outcome::Accepted, Detail::Nothing),
     }
 }
 
@@ -259,12 +258,15 @@ fn fault_failure<'a>(
     })
 }
 
-// Prints the word of a verdict and a name.
-fn tell_name(rt: &HostRuntime, outcome: Outcome, name: &[u8]) -> Result<Outcome, Failure<'static>> {
-    let name = shown(rt.alloc(), name)?;
-    let word = outcome.word();
-    match println!(rt; "{word} {name}") {
-        Ok(()) => Ok(outcome),
-        Err(error) => Err(Failure::Output(error)),
+// Tells a verdict of a file below the folder.
+fn tell_name(
+    rt: &HostRuntime,
+    words: &ArgMatches<'_>,
+    outcome: Outcome,
+    name: &[u8],
+) -> Result<Outcome, Failure<'static>> {
+    match str::from_utf8(name) {
+        Ok(text) => report(rt, words, outcome, Detail::Name(text)),
+        Err(_) => report(rt, words, outcome, Detail::OtherName(name)),
     }
 }

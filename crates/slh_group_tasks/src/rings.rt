@@ -1,7 +1,10 @@
 //! `slh ring`: the keys that one master secret gives.
+ghost use Rattle.std.specs.Prelude.{length};
+ghost use Rattle.slh_command.specs.Rings.{NamesText};
+
 use clap::ArgMatches;
 use line_serve::push_hex_line;
-use slh_arguments::{check_inputs, check_output, required, set_of, write_pair};
+use slh_arguments::{check_inputs, check_output, required, required_all, set_of, write_pair};
 use slh_command::{MAX_MASTER, RecordError, key_at, record_of, restored_paths};
 use slh_files::{Key, Outcome, digits_of};
 use slh_paths::{Failure, files, outputs, random};
@@ -50,16 +53,12 @@ fn derived<'a>(rt: &HostRuntime, words: &ArgMatches<'a>, path: &Path) -> Result<
 }
 
 // Why no record is made of the paths of these words.
-fn record_failure<'a>(texts: &[&'a str], error: RecordError) -> Failure<'a> {
+fn record_failure<'a>(texts: &[&'a str], error: RecordError) -> Failure<'a>
+    requires { NamesText (length texts.now) error }
+{
     match error {
-        RecordError::Text(i) => match texts.get(i) {
-            Some(text) => Failure::Path(*text),
-            None => Failure::Command,
-        },
-        RecordError::Ring(i, error) => match texts.get(i) {
-            Some(text) => ring_failure(*text, error),
-            None => Failure::Command,
-        },
+        RecordError::Text(i) => Failure::Path(texts[i]),
+        RecordError::Ring(i, error) => ring_failure(texts[i], error),
         RecordError::Memory => Failure::Memory,
     }
 }
@@ -74,9 +73,7 @@ fn ring_failure<'a>(text: &'a str, error: RingError) -> Failure<'a> {
 
 /// Writes the line `SET RECORD` of the ring of some paths.
 pub fn record<'a>(rt: &HostRuntime, words: &ArgMatches<'a>) -> Result<Outcome, Failure<'a>> {
-    let Some(paths) = words.get_strs("paths") else {
-        return Err(Failure::Command);
-    };
+    let paths = required_all(words, "paths")?;
     let output = words.get_str("output").unwrap_or(files::STANDARD);
     check_output(rt, words, &["master"], output)?;
     let set = set_of(words)?;

@@ -3,8 +3,9 @@
 use crate::failure::Failure;
 use slh_files::gather;
 use slh_run::ByteString;
+use std::alloc::AllocError;
 use std::fs::{self, File, OpenFile};
-use std::io::{self, Read, Seek, SeekFrom, StdinLock};
+use std::io::{self, ErrorKind, Read, Seek, SeekFrom, StdinLock};
 use std::os::unix::fs::MetadataExt;
 
 /// The name of standard input and output.
@@ -177,15 +178,18 @@ pub fn folder_place(rt: &HostRuntime, path: &str) -> io::Result<String> {
 
 /// Where a file stands itself: the last part of its path is not followed, so two names of one file
 /// are two places. There is none for `-`, or where the folder can't be found.
-pub fn place_of(rt: &HostRuntime, path: &str) -> Option<String> {
+pub fn place_of(rt: &HostRuntime, path: &str) -> Result<Option<String>, AllocError> {
     if path == STANDARD {
-        return None;
+        return Ok(None);
     }
     let (folder, name) = match path.rsplit_once('/') {
         Some(("", name)) => ("/", name),
         Some(parts) => parts,
         None => (".", path),
     };
-    let folder = folder_place(rt, folder).ok()?;
-    format!(in rt.alloc(); "{folder}/{name}").ok()
+    match folder_place(rt, folder) {
+        Ok(folder) => Ok(Some(format!(in rt.alloc(); "{folder}/{name}")?)),
+        Err(error) if error.kind() == ErrorKind::OutOfMemory => Err(AllocError),
+        Err(_) => Ok(None),
+    }
 }

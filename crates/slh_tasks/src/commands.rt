@@ -1,6 +1,6 @@
 //! The one place that knows every command.
 use clap::ArgMatches;
-use slh_file_tasks::{audit, check, inspect, keygen, public, sign, verify};
+use slh_file_tasks::{audit, evidence, inspect, keygen, public, sign, verify};
 use slh_files::Outcome;
 use slh_group_tasks::{batches, chains, manifests, rings};
 use slh_paths::Failure;
@@ -26,7 +26,7 @@ fn of_signatures<'a>(
         "sign" => sign(rt, words),
         "verify" => verify(rt, words),
         "audit" => audit(rt, words),
-        "check" => check(rt, words),
+        "evidence" | "check" => evidence(rt, words),
         _ => of_keys(rt, name, words),
     }
 }

@@ -1,7 +1,7 @@
 //! The words of the commands for batches, manifests, chains and rings.
 use crate::words::{
-    CONTEXT, CONTEXT_HEX, DETERMINISTIC, FILE, Group, KEY_TEXT, Kind, NAME, OUTPUT, PREHASH, SET,
-    SIGNATURE, SIGNING_KEY, Subcommand, VERIFYING_KEY, Word,
+    CONTEXT, CONTEXT_HEX, DETERMINISTIC, FILE, Group, JSON, KEY_TEXT, Kind, NAME, OUTPUT, PREHASH,
+    SET, SIGNATURE, SIGNING_KEY, Subcommand, VERIFYING_KEY, Word,
 };
 
 /// The commands that have commands below them.
@@ -26,7 +26,7 @@ fn batch() -> Group {
                 about: "Verifies the receipt of a file: accepted (0) or invalid (1)",
                 example: "Example:\n    \
                           slh batch verify --key release.pub --receipt a.txt.receipt a.txt",
-                words: &[VERIFYING_KEY, KEY_TEXT, RECEIPT, FILE],
+                words: &[VERIFYING_KEY, KEY_TEXT, RECEIPT, JSON, FILE],
             },
         ],
     }
@@ -57,6 +57,7 @@ fn manifest() -> Group {
                     ROOT_CHAIN,
                     MANIFEST_FILE,
                     STRICT,
+                    JSON,
                     FOLDER,
                 ],
             },
@@ -112,6 +113,7 @@ fn chain() -> Group {
                     CONTEXT,
                     CONTEXT_HEX,
                     PREHASH,
+                    JSON,
                     FILE,
                 ],
             },

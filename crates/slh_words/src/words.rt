@@ -152,6 +152,13 @@ pub const OUTPUT: Word = Word {
     help: "Where it goes, in place of standard output",
 };
 
+pub const JSON: Word = Word {
+    kind: Kind::Flag,
+    name: "json",
+    value: "",
+    help: "Tells the verdict as an object of JSON",
+};
+
 const AUDIT: Word = Word {
     kind: Kind::Flag,
     name: "audit",
@@ -214,6 +221,7 @@ fn subcommands() -> &'static [Subcommand] {
                 CONTEXT,
                 CONTEXT_HEX,
                 PREHASH,
+                JSON,
                 FILE,
             ],
         },
@@ -222,11 +230,35 @@ fn subcommands() -> &'static [Subcommand] {
             about: "Tells whether a key made a signature: genuine (0), foreign or invalid (1)",
             example: "Example:\n    \
                       slh audit --key release.key --signature notes.txt.sig notes.txt",
-            words: &[SIGNING_KEY, SIGNATURE, CONTEXT, CONTEXT_HEX, PREHASH, FILE],
+            words: &[
+                SIGNING_KEY,
+                SIGNATURE,
+                CONTEXT,
+                CONTEXT_HEX,
+                PREHASH,
+                JSON,
+                FILE,
+            ],
+        },
+        Subcommand {
+            name: "evidence",
+            about: "Tells whether evidence shows against a signature: shown (0) or not shown (1)",
+            example: "Example:\n    slh evidence --key release.key --signature notes.txt.sig \
+                      --evidence 'early 0 1' notes.txt",
+            words: &[
+                SIGNING_KEY,
+                SIGNATURE,
+                EVIDENCE,
+                CONTEXT,
+                CONTEXT_HEX,
+                PREHASH,
+                JSON,
+                FILE,
+            ],
         },
         Subcommand {
             name: "check",
-            about: "Tells whether evidence shows against a signature: shown (0) or not shown (1)",
+            about: "The old name of evidence",
             example: "Example:\n    slh check --key release.key --signature notes.txt.sig \
                       --evidence 'early 0 1' notes.txt",
             words: &[
@@ -236,6 +268,7 @@ fn subcommands() -> &'static [Subcommand] {
                 CONTEXT,
                 CONTEXT_HEX,
                 PREHASH,
+                JSON,
                 FILE,
             ],
         },
