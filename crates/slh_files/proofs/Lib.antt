@@ -6,3 +6,5 @@ pub mod HeadTable
 pub mod RoundTrip
 pub mod Genuine
 pub mod ReadBack
+pub mod OwnKeys
+pub mod WordsBack

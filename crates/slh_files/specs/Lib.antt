@@ -2,6 +2,7 @@ pub mod Heads
 pub mod Places
 pub mod Blocks
 pub mod Lines
+pub mod Made
 pub mod Reading
 pub mod Writing
 pub mod Signatures

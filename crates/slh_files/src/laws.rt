@@ -1,16 +1,20 @@
-//! What is written is read, and nothing else; what is signed is genuine; and what tells kinds and
-//! refusals apart: as contracts.
-ghost use Rattle.std.specs.Prelude.{◌≡◌, ℕ, List, Ok, length};
+//! What is written is read, and nothing else; what is made is read; what is signed is genuine; and
+//! what is printed of it is read: as contracts.
+ghost use Rattle.std.specs.Prelude.{◌≡◌, ℕ, List, Ok, Some, length};
 ghost use Rattle.base64.specs.Engines.{standard};
 ghost use Rattle.base64.specs.GeneralPurpose.{IsBytes, encode_of};
 ghost use Rattle.slh_files.specs.Blocks.{block_in};
 ghost use Rattle.slh_files.specs.Heads.{der_of, key_len};
 ghost use Rattle.slh_files.specs.Jobs.{MadeIsGenuine};
-ghost use Rattle.slh_files.specs.Lines.{squeezed};
+ghost use Rattle.slh_audit.specs.declared.evidence.Evidence.{Evidence};
+ghost use Rattle.slh_files.specs.Lines.{squeezed, words_of};
+ghost use Rattle.slh_files.specs.Made.{MadeIsOwn, MadeIsRead};
 ghost use Rattle.slh_files.specs.Reading.{key_in, key_with, pem_key};
 ghost use Rattle.slh_files.specs.Writing.{key_file};
 ghost use Rattle.slh_files.specs.declared.key.Key.{Key as AnyKey};
 ghost use Rattle.slh_files.specs.declared.key.Kind.{Kind as KeyKind};
+ghost use Rattle.slh_run.specs.EvidenceNumbers.{HasNumbers};
+ghost use Rattle.slh_run.specs.EvidenceWords.{evidence_in, evidence_text};
 ghost use Rattle.slh_sets.specs.Sets.{scheme_for};
 ghost use Rattle.slh_sets.specs.declared.set.Set.{Set as KeySet};
 
@@ -56,3 +60,38 @@ pub fn made_is_genuine(set: Set)
 {
     set.run(MadeGenuine);
 }
+
+fn made_is_own_in<P: ParameterSet>()
+    ensures { MadeIsOwn P.scheme }
+{}
+
+#[derive(Drop)]
+struct MadeOwn;
+
+impl OnSet for MadeOwn {
+    type Out = ();
+
+    ghost gives = { λ _ Z _ _. MadeIsOwn Z };
+
+    fn on<P: SetSuite>(self) {
+        made_is_own_in::<P>();
+    }
+}
+
+/// What [`made_key`] makes, [`read_signing_key`] takes: the file of a key that was made, of
+/// whatever random bytes, is read as this key, whose root is the one that its seeds make.
+///
+/// [`made_key`]: crate::made_key
+/// [`read_signing_key`]: crate::read_signing_key
+pub fn made_is_read(set: Set)
+    ensures { MadeIsRead set }
+{
+    set.run(MadeOwn);
+}
+
+/// Evidence that is printed is read back from the words of its text, whose numbers are those of the
+/// code: who has what an audit printed can hand it to a check.
+pub fn printed_evidence_is_read()
+    ensures { (evidence : Evidence) → HasNumbers evidence
+        → evidence_in (words_of (evidence_text evidence)) ≡ Some evidence }
+{}

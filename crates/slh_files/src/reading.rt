@@ -20,7 +20,7 @@ use crate::lines::{is_blank, read_line};
 use crate::places::place_of;
 use base64::DecodeAllocError;
 use base64::engine::general_purpose::STANDARD;
-use slh_run::ByteString;
+use slh_run::{ByteString, Error};
 use slh_sets::Set;
 use std::alloc::{AllocError, Global};
 
@@ -45,7 +45,8 @@ pub fn read_signing_key(alloc: Global, text: &[u8]) -> Result<Key, KeyFileError>
     match has_own_root(alloc, &key) {
         Ok(true) => Ok(key),
         Ok(false) => Err(KeyFileError::Root),
-        Err(_) => Err(KeyFileError::Memory),
+        Err(Error::Memory) => Err(KeyFileError::Memory),
+        Err(_) => unreachable!(),
     }
 }
 
