@@ -53,7 +53,7 @@ fn word_at(words: &Words, i: usize) -> &[u8]
 {
     match words.get(i) {
         Some(word) => word,
-        None => &[],
+        None => unreachable!(),
     }
 }
 
