@@ -28,8 +28,10 @@ const NAMES: [&str; 5] = [
     "tile/1/000.p/1",
 ];
 
-// Each of these and the head takes six calls.
+// Each of these and the head takes six calls, of which the last brings its name to the disk.
 const CALLS: u64 = 36;
+
+const LAST_CALL: u64 = 35;
 
 // What an append makes: files, and a head of 40 bytes with the size and the root.
 #[derive(Drop)]
@@ -202,7 +204,7 @@ fn is_mended(alloc: Global, old: &Append, new: &Append, call: u64) -> Option<boo
     let written = write(alloc, &mut files, new, "-part")?;
     let size = checked_size(alloc, &files)?;
     let again = write(alloc, &mut files, new, "-other")?;
-    let is_new = size == NEW && call + 1 == CALLS;
+    let is_new = size == NEW && call == LAST_CALL;
     Some(!written && (size == OLD || is_new) && again && checked_size(alloc, &files)? == NEW)
 }
 
@@ -211,7 +213,7 @@ fn is_whole(alloc: Global, old: &Append, new: &Append, stop: u64) -> Option<bool
     let mut files = old_log(alloc, old, NEVER, stop)?;
     let written = write(alloc, &mut files, new, "-part")?;
     let size = checked_size(alloc, &files)?;
-    let wanted = if stop + 1 < CALLS { OLD } else { NEW };
+    let wanted = if stop < LAST_CALL { OLD } else { NEW };
     Some(written == (stop == CALLS) && size == wanted)
 }
 
