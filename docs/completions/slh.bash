@@ -10,19 +10,21 @@ _slh() {
         words='SLH-DSA-SHA2-128s SLH-DSA-SHA2-128f SLH-DSA-SHA2-192s SLH-DSA-SHA2-192f
             SLH-DSA-SHA2-256s SLH-DSA-SHA2-256f' ;;
     --prehash) words='sha256 sha512' ;;
-    --context | --context-hex | --depth | --evidence | --key-text | --name | --path) return ;;
+    --context | --context-hex | --depth | --evidence | --from | --key-text | --name | --origin | --path) return ;;
     esac
     if [ -z "$words" ] && [ "$COMP_CWORD" -eq 1 ]; then
         words='keygen public sign verify audit evidence check inspect batch manifest chain ring
-            help --help --version'
+            log help --help --version'
     elif [ -z "$words" ] && [ "$COMP_CWORD" -eq 2 ]; then
         case ${COMP_WORDS[1]} in
         batch) words='sign verify --help' ;;
         manifest) words='seal check --help' ;;
         chain) words='delegate walk show verify --help' ;;
         ring) words='master key record restore --help' ;;
+        log) words='init append prove verify growth check --help' ;;
         help)
-            words='keygen public sign verify audit evidence check inspect batch manifest chain ring' ;;
+            words='keygen public sign verify audit evidence check inspect batch manifest chain ring
+                log' ;;
         esac
     fi
     if [ -z "$words" ]; then
@@ -54,12 +56,18 @@ _slh() {
         'ring key') words='--set --master --path --help' ;;
         'ring record') words='--set --master --output --help' ;;
         'ring restore') words='--master --help' ;;
+        'log init') words='--key --origin --deterministic --help' ;;
+        'log append') words='--key --lines --deterministic --help' ;;
+        'log prove') words='--from --output --help' ;;
+        'log verify') words='--key --key-text --origin --checkpoint --proof --help' ;;
+        'log growth') words='--key --key-text --origin --old --new --proof --help' ;;
+        'log check') words='--key --key-text --origin --help' ;;
         esac
     fi
 
     local files=yes
     case $COMP_CWORD:${COMP_WORDS[1]} in
-    1:* | 2:batch | 2:manifest | 2:chain | 2:ring | *:help) files= ;;
+    1:* | 2:batch | 2:manifest | 2:chain | 2:ring | 2:log | *:help) files= ;;
     esac
     case $previous:$word in
     --set:* | --prehash:* | *:-*) files= ;;

@@ -202,6 +202,83 @@ _slh_ring() {
     esac
 }
 
+_slh_log() {
+    local curcontext=$curcontext state
+    local -a line commands=(
+        'init:Begins a log without entries in a folder'
+        'append:Adds each file as an entry, and signs the head again'
+        'prove:Writes the proof that an entry is in the log, or that the log grew'
+        'verify:Tells whether a file is an entry of the log of a proof\: accepted (0) or invalid (1)'
+        'growth:Tells whether a log kept all entries of an older checkpoint\: accepted (0) or invalid (1)'
+        'check:Makes everything again from the entries, and compares\: accepted (0) or invalid (1)'
+    )
+    _arguments -C -S \
+        '(- *)'{-h,--help}'[Print help]' \
+        '1:command:->command' \
+        '*::word:->words' && return
+    case $state in
+    command) _describe command commands ;;
+    words)
+        curcontext=${curcontext%:*}-$words[1]:
+        case $words[1] in
+        init)
+            _arguments -S \
+                '(- *)'{-h,--help}'[Print help]' \
+                '--key=[The signing key]:NAME.key:_files -g "*.key"' \
+                '--origin=[The name of the log]:ORIGIN: ' \
+                '--deterministic[Signs without random bytes]' \
+                '1:FOLDER:_files -/'
+            ;;
+        append)
+            _arguments -S \
+                '(- *)'{-h,--help}'[Print help]' \
+                '--key=[The signing key]:NAME.key:_files -g "*.key"' \
+                '--lines[Adds each line of a file as an entry, without its end]' \
+                '--deterministic[Signs without random bytes]' \
+                '1:FOLDER:_files -/' \
+                '*:FILE:_files'
+            ;;
+        prove)
+            _arguments -S \
+                '(- *)'{-h,--help}'[Print help]' \
+                '--from=[Proves that the log grew from its first so many entries]:SIZE: ' \
+                '--output=[Where it goes, in place of standard output]:FILE:_files' \
+                '1:FOLDER:_files -/' \
+                '2:INDEX: '
+            ;;
+        verify)
+            _arguments -S \
+                '(- *)'{-h,--help}'[Print help]' \
+                '(--key-text)--key=[The verifying key]:NAME.pub:_files -g "*.pub"' \
+                '(--key)--key-text=[The verifying key itself, as '\''SET HEX'\'']:TEXT: ' \
+                '--origin=[The name of the log]:ORIGIN: ' \
+                '--checkpoint=[The checkpoint; the one in the proof if it is left out]:CHECKPOINT:_files' \
+                '--proof=[The proof]:PROOF:_files' \
+                '1:FILE:_files'
+            ;;
+        growth)
+            _arguments -S \
+                '(- *)'{-h,--help}'[Print help]' \
+                '(--key-text)--key=[The verifying key]:NAME.pub:_files -g "*.pub"' \
+                '(--key)--key-text=[The verifying key itself, as '\''SET HEX'\'']:TEXT: ' \
+                '--origin=[The name of the log]:ORIGIN: ' \
+                '--old=[The older checkpoint]:CHECKPOINT:_files' \
+                '--new=[The newer checkpoint]:CHECKPOINT:_files' \
+                '--proof=[The proof]:PROOF:_files'
+            ;;
+        check)
+            _arguments -S \
+                '(- *)'{-h,--help}'[Print help]' \
+                '(--key-text)--key=[The verifying key]:NAME.pub:_files -g "*.pub"' \
+                '(--key)--key-text=[The verifying key itself, as '\''SET HEX'\'']:TEXT: ' \
+                '--origin=[The name of the log; that of its checkpoint if it is left out]:ORIGIN: ' \
+                '1:FOLDER:_files -/'
+            ;;
+        esac
+        ;;
+    esac
+}
+
 _slh() {
     local curcontext=$curcontext state
     local -a line commands=(
@@ -217,6 +294,7 @@ _slh() {
         'manifest:One signature for the files of a folder'
         'chain:Keys that sign keys'
         'ring:The keys that one master secret gives'
+        'log:A signed log that only grows'
         'help:Print help for a command'
     )
     _arguments -C -S \
@@ -309,6 +387,7 @@ _slh() {
         manifest) _slh_manifest ;;
         chain) _slh_chain ;;
         ring) _slh_ring ;;
+        log) _slh_log ;;
         help)
             commands=(${commands:#help:*})
             (( CURRENT == 2 )) && _describe command commands

@@ -12,6 +12,7 @@ pub fn outcome_of<'a>(rt: &HostRuntime, matches: &ArgMatches<'a>) -> Result<Outc
         Some(("manifest", words)) => manifest(rt, words),
         Some(("chain", words)) => chain(rt, words),
         Some(("ring", words)) => ring(rt, words),
+        Some(("log", words)) => slh_log_tasks::outcome_of(rt, words),
         Some((name, words)) => of_signatures(rt, name, words),
         None => Err(Failure::Command),
     }

@@ -1,12 +1,13 @@
 //! The words of the commands for batches, manifests, chains and rings.
+use crate::log_words::log;
 use crate::words::{
     CONTEXT, CONTEXT_HEX, DETERMINISTIC, FILE, Group, JSON, KEY_TEXT, Kind, NAME, OUTPUT, PREHASH,
     SET, SIGNATURE, SIGNING_KEY, Subcommand, VERIFYING_KEY, Word,
 };
 
 /// The commands that have commands below them.
-pub fn groups() -> [Group; 4] {
-    [batch(), manifest(), chain(), ring()]
+pub fn groups() -> [Group; 5] {
+    [batch(), manifest(), chain(), ring(), log()]
 }
 
 // `slh batch`.

@@ -2,6 +2,7 @@
 #![tactic(auto)]
 
 mod group_words;
+mod log_words;
 mod words;
 
 pub use words::command;

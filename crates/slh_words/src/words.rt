@@ -57,6 +57,8 @@ pub enum Kind {
     Key,
     /// One word, which is not empty.
     Operand,
+    /// One word, which is not empty and may be left out.
+    OptionalOperand,
     /// One word or more.
     Operands,
 }
@@ -338,7 +340,7 @@ fn arg_of<'a>(alloc: Global, word: &'static Word) -> Result<Arg<'a>, AllocError>
     let arg = Arg::new(alloc, word.name).help(word.help);
     match word.kind {
         Kind::Flag => Ok(arg.long(word.name).action(ArgAction::SetTrue)),
-        Kind::Operand => Ok(with_value(arg, word)),
+        Kind::Operand | Kind::OptionalOperand => Ok(with_value(arg, word)),
         Kind::Operands => Ok(with_value(arg, word).num_args(1usize..)),
         Kind::Context => with_value(arg.long(word.name), word).conflicts_with("context-hex"),
         Kind::Key => with_value(arg.long(word.name), word).conflicts_with("key-text"),
@@ -358,7 +360,7 @@ fn parser_of(kind: Kind) -> ValueParser<'static> {
         Kind::Set | Kind::OptionalSet => ValueParser::Names(&Set::NAMES),
         Kind::Hash => ValueParser::Names(&HASHES),
         Kind::Number => value_parser!(u8),
-        Kind::Operand | Kind::Operands => ValueParser::NonEmptyString,
+        Kind::Operand | Kind::OptionalOperand | Kind::Operands => ValueParser::NonEmptyString,
         _ => ValueParser::String,
     }
 }

@@ -1,0 +1,178 @@
+//! `slh log init` and `slh log append`.
+use crate::heads::{open_head, sign_head};
+use crate::lock;
+use crate::log_folder::LogFolder;
+use crate::resuming::resume;
+use crate::watching::refused_head;
+use crate::writing::{make_checkpoint, need_folder, write_files};
+use clap::ArgMatches;
+use log_files::{AppendError, Appending};
+use merkle_tree::{Sha256, TreeHash};
+use slh_arguments::{Randomness, required, required_all, signing_key};
+use slh_files::{Key, Outcome};
+use slh_log::{Checkpoint, CheckpointError};
+use slh_paths::{Failure, files};
+use slh_run::ByteString;
+
+// The checkpoint of a head.
+fn signed<'a>(
+    folder: LogFolder<'_, 'a>,
+    key: &Key,
+    origin: &str,
+    head: Checkpoint,
+    randomness: &Randomness,
+) -> Result<Vec<u8>, Failure<'a>> {
+    let (bytes, random) = (key.bytes.as_slice(), randomness.of_set(key.set));
+    match sign_head(folder.rt.alloc(), key.set, bytes, origin, head, random) {
+        Ok(checkpoint) => Ok(checkpoint),
+        Err(CheckpointError::Origin) => Err(Failure::Told(
+            "--origin",
+            "not 1 to 255 bytes without spaces, plus signs and control characters",
+        )),
+        Err(CheckpointError::Randomizer | CheckpointError::Memory) => Err(Failure::Memory),
+    }
+}
+
+/// Begins a log in a folder.
+pub fn init<'s, 'a>(
+    rt: &'s HostRuntime,
+    words: &'s ArgMatches<'a>,
+) -> Result<Outcome, Failure<'a>> {
+    let folder = LogFolder {
+        rt,
+        path: required(words, "folder")?,
+    };
+    let origin = required(words, "origin")?;
+    let key = signing_key(rt, words)?;
+    let randomness = Randomness::new(rt, words)?;
+    let head = Checkpoint {
+        size: 0,
+        root: Sha256::empty(),
+    };
+    let checkpoint = signed(folder, &key, origin, head, &randomness)?;
+    need_folder(folder, "")?;
+    lock::take(folder)?;
+    let made = make_checkpoint(folder, checkpoint.as_slice());
+    let freed = lock::free(folder);
+    made?;
+    freed?;
+    Ok(Outcome::Done)
+}
+
+// Adds an entry.
+fn push<'a>(log: &mut Appending<Sha256>, path: &'a str, entry: &[u8]) -> Result<(), Failure<'a>> {
+    match log.push(entry) {
+        Ok(()) => Ok(()),
+        Err(AppendError::TooLong) => {
+            Err(Failure::Told(path, "an entry of more than 65535 bytes"))
+        }
+        Err(AppendError::Full) => Err(Failure::Told(path, "the log is full")),
+        Err(AppendError::Memory) => Err(Failure::Memory),
+    }
+}
+
+// Adds each line of some bytes, without its line feed.
+fn push_lines<'a>(
+    log: &mut Appending<Sha256>,
+    path: &'a str,
+    bytes: &[u8],
+) -> Result<(), Failure<'a>> {
+    let bytes = bytes.strip_suffix(b"\n").unwrap_or(bytes);
+    for line in bytes.split(|byte| *byte == b'\n') {
+        push(log, path, line)?;
+    }
+    Ok(())
+}
+
+// Adds what a file has: one entry, or one of each line.
+fn push_file<'a>(
+    folder: LogFolder<'_, 'a>,
+    log: &mut Appending<Sha256>,
+    path: &'a str,
+    is_lines: bool,
+) -> Result<(), Failure<'a>> {
+    if is_lines {
+        let bytes = files::read(folder.rt, path)?;
+        if bytes.is_empty() {
+            return Ok(());
+        }
+        return push_lines(log, path, bytes.as_slice());
+    }
+    let bytes = files::read_limited(folder.rt, path)?;
+    push(log, path, bytes.as_slice())
+}
+
+// The verifying key of a signing key: the second half of its bytes.
+fn own_public(key: &Key) -> &[u8] {
+    let bytes = key.bytes.as_slice();
+    &bytes[bytes.len() / 2..]
+}
+
+// Adds the files to the log of a folder, whose lock is held.
+fn append_to<'a>(
+    folder: LogFolder<'_, 'a>,
+    words: &ArgMatches<'a>,
+    key: &Key,
+    randomness: &Randomness,
+    paths: &[&'a str],
+) -> Result<(), Failure<'a>> {
+    let head = folder.head()?;
+    let origin = head.origin.as_str();
+    let opened = open_head(key.set, own_public(key), origin, head.bytes.as_slice());
+    let checkpoint = match opened {
+        Ok(checkpoint) => checkpoint,
+        Err(error) => return Err(refused_head(folder.path, error)),
+    };
+    let mut log = resume(folder, &checkpoint)?;
+    let is_lines = words.get_flag("lines");
+    for path in paths {
+        push_file(folder, &mut log, *path, is_lines)?;
+    }
+    if log.len() == checkpoint.size {
+        return Ok(());
+    }
+    let head = Checkpoint {
+        size: log.len(),
+        root: log.root(),
+    };
+    let checkpoint = signed(folder, key, origin, head, randomness)?;
+    match log.finish() {
+        Ok(log_files) => write_files(folder, log_files.as_slice(), checkpoint.as_slice()),
+        Err(_) => Err(Failure::Memory),
+    }
+}
+
+// Refuses words by which more than one file is standard input.
+fn check_standard(words: &ArgMatches<'_>, paths: &[&str]) -> Result<(), Failure<'static>> {
+    let key = words.get_str("key") == Some(files::STANDARD);
+    let count = paths
+        .iter()
+        .filter(|path| **path == files::STANDARD)
+        .count();
+    if count > 1 || key && count > 0 {
+        return Err(Failure::TwoInputs);
+    }
+    Ok(())
+}
+
+/// Adds entries to a log, and signs its head.
+pub fn append<'s, 'a>(
+    rt: &'s HostRuntime,
+    words: &'s ArgMatches<'a>,
+) -> Result<Outcome, Failure<'a>> {
+    let folder = LogFolder {
+        rt,
+        path: required(words, "folder")?,
+    };
+    let paths = required_all(words, "files")?;
+    check_standard(words, paths)?;
+    let key = signing_key(rt, words)?;
+    let randomness = Randomness::new(rt, words)?;
+    folder.head()?;
+    lock::take(folder)?;
+    let done = append_to(folder, words, &key, &randomness, paths);
+    let freed = lock::free(folder);
+    done?;
+    freed?;
+    Ok(Outcome::Done)
+}

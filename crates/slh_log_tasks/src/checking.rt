@@ -1,0 +1,141 @@
+//! `slh log check`: everything again, from the entries.
+ghost use Rattle.std.specs.Prelude.{◌<◌};
+
+use crate::entries::leaves_of;
+use crate::heads::open_head;
+use crate::log_folder::{Head, LogFolder};
+use crate::watching::refused_head;
+use clap::ArgMatches;
+use log_tiles::{Bundle, FULL, GrowingTiles, LEVELS, last_tile};
+use merkle_tree::{DIGEST_LEN, Sha256};
+use slh_arguments::{required, tell, verifying_key};
+use slh_files::Outcome;
+use slh_log::OpenError;
+use slh_paths::Failure;
+
+const BENT: &str = "not the tile of these entries: missing, cut or bent";
+
+// Compares the last tile of a level with its file.
+fn check_tile<'a>(
+    folder: LogFolder<'_, 'a>,
+    tiles: &GrowingTiles<Sha256>,
+    level: u32,
+) -> Result<(), Failure<'a>>
+    requires { level < 8 }
+{
+    let Some(tile) = last_tile(level, tiles.len()) else {
+        return Ok(());
+    };
+    let bytes = folder.tile(tile)?;
+    if bytes.as_slice() != tiles.last_bytes(level) {
+        return Err(folder.bad_tile(tile, BENT));
+    }
+    Ok(())
+}
+
+// Adds the digest of an entry, and compares the tiles that it makes full.
+fn check_leaf<'a>(
+    folder: LogFolder<'_, 'a>,
+    tiles: &mut GrowingTiles<Sha256>,
+    leaf: &[u8; DIGEST_LEN],
+) -> Result<(), Failure<'a>> {
+    if tiles.len() == u64::MAX {
+        return Ok(());
+    }
+    let full = tiles.push(leaf);
+    for level in 0..LEVELS {
+        if level < full {
+            check_tile(folder, tiles, level as u32)?;
+        }
+    }
+    Ok(())
+}
+
+// Reads a bundle, and compares the tiles that its entries make full.
+fn check_bundle<'a>(
+    folder: LogFolder<'_, 'a>,
+    tiles: &mut GrowingTiles<Sha256>,
+    bundle: Bundle,
+) -> Result<(), Failure<'a>> {
+    let bytes = folder.bundle(bundle)?;
+    let leaves = leaves_of(folder, bundle, bytes.as_slice())?;
+    for leaf in leaves.as_slice() {
+        check_leaf(folder, tiles, leaf)?;
+    }
+    Ok(())
+}
+
+// The tiles over the entries of a log, where its files have them.
+fn tiles_of<'a>(folder: LogFolder<'_, 'a>, size: u64) -> Result<GrowingTiles<Sha256>, Failure<'a>> {
+    let mut tiles = GrowingTiles::<Sha256>::new();
+    for index in 0..size / 256 {
+        let bundle = Bundle { index, width: FULL };
+        check_bundle(folder, &mut tiles, bundle)?;
+    }
+    if size % 256 != 0 {
+        let bundle = Bundle {
+            index: size / 256,
+            width: (size % 256) as u32,
+        };
+        check_bundle(folder, &mut tiles, bundle)?;
+    }
+    for level in 0..LEVELS as u32 {
+        check_tile(folder, &tiles, level)?;
+    }
+    Ok(tiles)
+}
+
+// Whether the checkpoint is one of the key, where the words have a key.
+fn opened<'a>(
+    folder: LogFolder<'_, 'a>,
+    words: &ArgMatches<'a>,
+    head: &Head,
+) -> Result<bool, Failure<'a>> {
+    if words.get_str("key").is_none() && words.get_str("key-text").is_none() {
+        return Ok(true);
+    }
+    let key = verifying_key(folder.rt, words)?;
+    let origin = words.get_str("origin").unwrap_or(head.origin.as_str());
+    match open_head(key.set, key.bytes.as_slice(), origin, head.bytes.as_slice()) {
+        Ok(_) => Ok(true),
+        Err(OpenError::Invalid) => Ok(false),
+        Err(error) => Err(refused_head(folder.path, error)),
+    }
+}
+
+// Tells of files of entries that the checkpoint doesn't speak of yet.
+fn tell_ahead<'a>(folder: LogFolder<'_, 'a>, size: u64) -> Result<(), Failure<'a>> {
+    let first = (size % 256) as u32;
+    for width in first + 1..=FULL {
+        let bundle = Bundle {
+            index: size / 256,
+            width,
+        };
+        if folder.has(bundle)? {
+            let path = folder.path;
+            let _ = eprintln!(folder.rt;
+                "slh: {path}: it is ahead of its checkpoint, and the next append mends it"
+            );
+            return Ok(());
+        }
+    }
+    Ok(())
+}
+
+/// Tells whether the files of a log are those of its entries, and its checkpoint that of them.
+pub fn check<'a>(rt: &HostRuntime, words: &ArgMatches<'a>) -> Result<Outcome, Failure<'a>> {
+    let folder = LogFolder {
+        rt,
+        path: required(words, "folder")?,
+    };
+    let head = folder.head()?;
+    let is_opened = opened(folder, words, &head)?;
+    let size = head.checkpoint.size;
+    let tiles = tiles_of(folder, size)?;
+    tell_ahead(folder, size)?;
+    if is_opened && tiles.root() == head.checkpoint.root {
+        tell(rt, Outcome::Accepted)
+    } else {
+        tell(rt, Outcome::Invalid)
+    }
+}

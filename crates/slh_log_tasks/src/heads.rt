@@ -1,0 +1,111 @@
+//! Checkpoints by the bytes of keys, in a set that is known only when the program runs.
+ghost use Rattle.std.specs.Prelude.{◌≡◌, IfOk};
+ghost use Rattle.std.specs.Option.{option_copied};
+ghost use Rattle.slh_log.specs.Texts.{signed_checkpoint};
+ghost use Rattle.slh_log_tasks.specs.Heads.{IsHeadBy};
+ghost use Rattle.slh_sets.specs.Sets.{name_of, scheme_for};
+
+use slh_dsa::{ParameterSet, SigningKey, VerifyingKey};
+use slh_log::{Checkpoint, CheckpointError, OpenError, checkpoint, open};
+use slh_sets::{OnSet, Set, SetSuite};
+use std::alloc::Global;
+
+// A checkpoint that is to be opened.
+#[derive(Drop)]
+struct Opening<'a> {
+    key: &'a [u8],
+    origin: &'a str,
+    bytes: &'a [u8],
+}
+
+// Opens a checkpoint by the bytes of a key.
+fn open_by<P: ParameterSet>(key: &[u8], origin: &str, bytes: &[u8]) -> Result<Checkpoint, OpenError>
+    ensures { IsHeadBy P.scheme P.set_name key.now origin.now bytes.now result }
+{
+    let Ok(key) = VerifyingKey::<P>::try_from(key) else {
+        return Err(OpenError::Unsigned);
+    };
+    open(&key, origin, bytes)
+}
+
+impl<'a> OnSet for Opening<'a> {
+    type Out = Result<Checkpoint, OpenError>;
+
+    ghost gives = { λ c Z name result. IsHeadBy Z name c.key.now c.origin.now c.bytes.now result };
+
+    fn on<P: SetSuite>(self) -> Result<Checkpoint, OpenError> {
+        open_by::<P>(self.key, self.origin, self.bytes)
+    }
+}
+
+/// What a checkpoint says that is signed by a verifying key of a set under an origin, as
+/// [`slh_log::open`] tells it. Bytes that are no key of the set signed nothing: `Unsigned`. Takes no
+/// memory, and keeps 256 KiB on the stack.
+pub fn open_head(set: Set, key: &[u8], origin: &str, bytes: &[u8]) -> Result<Checkpoint, OpenError>
+    ensures { IsHeadBy (scheme_for set) (name_of set) key.now origin.now bytes.now result }
+{
+    set.run(Opening { key, origin, bytes })
+}
+
+// A head that is to be signed.
+#[derive(Drop)]
+struct Signing<'a> {
+    alloc: Global,
+    key: &'a [u8],
+    origin: &'a str,
+    head: Checkpoint,
+    opt_rand: Option<&'a [u8]>,
+}
+
+// Signs a head by the bytes of a key.
+fn sign_by<P: ParameterSet>(
+    alloc: Global,
+    key: &[u8],
+    origin: &str,
+    head: Checkpoint,
+    opt_rand: Option<&[u8]>,
+) -> Result<Vec<u8>, CheckpointError>
+    ensures { let opt_rand = option_copied opt_rand.entry in
+        IfOk result (λ note. note.items
+        ≡ signed_checkpoint P.scheme P.set_name key.now opt_rand origin.now head.size head.root) }
+{
+    let Ok(key) = SigningKey::<P>::try_from(key) else {
+        return Err(CheckpointError::Memory);
+    };
+    checkpoint(alloc, &key, origin, head.size, &head.root, opt_rand)
+}
+
+impl<'a> OnSet for Signing<'a> {
+    type Out = Result<Vec<u8>, CheckpointError>;
+
+    ghost gives = { λ c Z name result. let opt_rand = option_copied c.opt_rand in
+        IfOk result (λ note. note.items ≡ signed_checkpoint Z name c.key.now opt_rand c.origin.now
+        c.head.size c.head.root) };
+
+    fn on<P: SetSuite>(self) -> Result<Vec<u8>, CheckpointError> {
+        sign_by::<P>(self.alloc, self.key, self.origin, self.head, self.opt_rand)
+    }
+}
+
+/// The checkpoint of a head under an origin, by a signing key of a set, as [`slh_log::checkpoint`]
+/// makes it. Bytes that are no key of the set are refused as want of memory is.
+pub fn sign_head(
+    alloc: Global,
+    set: Set,
+    key: &[u8],
+    origin: &str,
+    head: Checkpoint,
+    opt_rand: Option<&[u8]>,
+) -> Result<Vec<u8>, CheckpointError>
+    ensures { let opt_rand = option_copied opt_rand.entry in
+        IfOk result (λ note. note.items ≡ signed_checkpoint (scheme_for set) (name_of set)
+        key.now opt_rand origin.now head.size head.root) }
+{
+    set.run(Signing {
+        alloc,
+        key,
+        origin,
+        head,
+        opt_rand,
+    })
+}

@@ -1,0 +1,82 @@
+//! One writer at a time.
+use crate::log_folder::{LOCK, LogFolder};
+use log_files::{Piece, free_lock, take_lock};
+use slh_paths::files::read_front;
+use slh_paths::{Failure, random};
+use std::alloc::AllocError;
+use std::fs;
+use std::io::{self, ErrorKind};
+use whole_files::{HostFiles, WriteError, part_name};
+
+const HELD: &str = "writes to this log; if it doesn't run any more, remove this file";
+
+// The most bytes of a lock that are shown.
+const MAX_TEXT: u64 = 256;
+
+// Who writes: the number of the process, where the system tells it.
+fn own_text(rt: &HostRuntime) -> Result<String, AllocError> {
+    match fs::read_link(rt, "/proc/self") {
+        Ok(number) => {
+            let number = number.as_str();
+            format!(in rt.alloc(); "process {number}\n")
+        }
+        Err(_) => String::from_str(rt.alloc(), "a process\n"),
+    }
+}
+
+/// The error of a call that failed.
+pub fn fault_of(files: &mut HostFiles<'_>) -> io::Error {
+    match files.fault.take() {
+        Some(fault) => fault,
+        None => io::Error::from(ErrorKind::Other),
+    }
+}
+
+// Tells who holds the lock.
+fn held<'a>(folder: LogFolder<'_, 'a>, path: &str) -> Failure<'a> {
+    let alloc = folder.rt.alloc();
+    let text = match read_front(folder.rt, path, MAX_TEXT) {
+        Ok(bytes) => match slh_paths::shown::shown(alloc, bytes.as_slice().trim_ascii_end()) {
+            Ok(text) => text,
+            Err(_) => return Failure::Memory,
+        },
+        Err(error) => return folder.failed(LOCK, error),
+    };
+    match format!(in alloc; "{LOCK}: {text}") {
+        Ok(name) => Failure::Entry(folder.path, name, HELD),
+        Err(_) => Failure::Memory,
+    }
+}
+
+/// Takes the lock of a folder.
+pub fn take<'a>(folder: LogFolder<'_, 'a>) -> Result<(), Failure<'a>> {
+    let rt = folder.rt;
+    let path = folder.path_of(LOCK)?;
+    let part = part_name(
+        rt.alloc(),
+        path.as_str(),
+        u64::from_be_bytes(random::<8>(rt)?),
+    )?;
+    let text = own_text(rt)?;
+    let lock = Piece {
+        path: path.as_str(),
+        part: part.as_str(),
+        bytes: text.as_bytes(),
+    };
+    let mut files = HostFiles::new(rt);
+    match take_lock(&mut files, &lock) {
+        Ok(()) => Ok(()),
+        Err(WriteError::Taken) => Err(held(folder, path.as_str())),
+        Err(_) => Err(folder.failed(LOCK, fault_of(&mut files))),
+    }
+}
+
+/// Frees the lock of a folder.
+pub fn free<'a>(folder: LogFolder<'_, 'a>) -> Result<(), Failure<'a>> {
+    let path = folder.path_of(LOCK)?;
+    let mut files = HostFiles::new(folder.rt);
+    match free_lock(&mut files, path.as_str()) {
+        Ok(()) => Ok(()),
+        Err(_) => Err(folder.failed(LOCK, fault_of(&mut files))),
+    }
+}

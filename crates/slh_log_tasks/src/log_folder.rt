@@ -1,0 +1,168 @@
+//! The files of a log below a folder.
+use log_tiles::{Bundle, MAX_ENTRY_LEN, NameError, Tile, TileSource};
+use slh_log::{Checkpoint, read_unverified};
+use slh_paths::Failure;
+use slh_paths::files::read_front;
+use slh_run::ByteString;
+use std::alloc::AllocError;
+use std::fs;
+use std::io::{self, ErrorKind};
+
+/// The name of the checkpoint.
+pub const CHECKPOINT: &str = "checkpoint";
+
+/// The name of the lock.
+pub const LOCK: &str = "lock";
+
+/// The most bytes of a checkpoint, with the signatures of others.
+const MAX_CHECKPOINT: u64 = 1 << 20;
+
+/// The most bytes of a bundle.
+const MAX_BUNDLE: u64 = 256 * (MAX_ENTRY_LEN as u64 + 2);
+
+/// A folder with a log. What its files hold isn't believed.
+#[derive(Clone, Copy)]
+pub struct LogFolder<'s, 'a> {
+    pub rt: &'s HostRuntime,
+    /// The folder, as the words name it.
+    pub path: &'a str,
+}
+
+/// A checkpoint as it stands in a folder, whoever signed it.
+#[derive(Drop)]
+pub struct Head {
+    pub bytes: ByteString,
+    pub origin: String,
+    pub checkpoint: Checkpoint,
+}
+
+impl<'s, 'a> LogFolder<'s, 'a> {
+    /// The path of a file below the folder.
+    pub fn path_of(&self, name: &str) -> Result<String, AllocError> {
+        let folder = self.path;
+        format!(in self.rt.alloc(); "{folder}/{name}")
+    }
+
+    /// What is wrong with a file below the folder.
+    pub fn told(&self, name: &str, text: &'static str) -> Failure<'a> {
+        match String::from_str(self.rt.alloc(), name) {
+            Ok(name) => Failure::Entry(self.path, name, text),
+            Err(_) => Failure::Memory,
+        }
+    }
+
+    /// Why a file below the folder couldn't be read or written.
+    pub fn failed(&self, name: &str, error: io::Error) -> Failure<'a> {
+        match String::from_str(self.rt.alloc(), name) {
+            Ok(name) => Failure::EntryFile(self.path, name, error),
+            Err(_) => Failure::Memory,
+        }
+    }
+
+    // The first bytes of a file, up to one more than it may have.
+    fn front(&self, name: &str, most: u64) -> io::Result<ByteString> {
+        let path = self.path_of(name)?;
+        read_front(self.rt, path.as_str(), most.saturating_add(1))
+    }
+
+    /// The checkpoint.
+    pub fn head(&self) -> Result<Head, Failure<'a>> {
+        let bytes = match self.front(CHECKPOINT, MAX_CHECKPOINT) {
+            Ok(bytes) => bytes,
+            Err(error) if error.kind() == ErrorKind::NotFound => {
+                return Err(Failure::Told(self.path, "no log: it has no checkpoint"));
+            }
+            Err(error) => return Err(self.failed(CHECKPOINT, error)),
+        };
+        let Some((origin, checkpoint)) = read_unverified(bytes.as_slice()) else {
+            return Err(self.told(CHECKPOINT, "not a checkpoint"));
+        };
+        let Ok(origin) = str::from_utf8(origin) else {
+            return Err(self.told(CHECKPOINT, "its origin is not UTF-8"));
+        };
+        let origin = String::from_str(self.rt.alloc(), origin)?;
+        Ok(Head {
+            bytes,
+            origin,
+            checkpoint,
+        })
+    }
+
+    /// The bytes of a bundle.
+    pub fn bundle(&self, bundle: Bundle) -> Result<ByteString, Failure<'a>> {
+        let name = self.name_of(bundle.path(self.rt.alloc()))?;
+        match self.front(name.as_str(), MAX_BUNDLE) {
+            Ok(bytes) => Ok(bytes),
+            Err(error) => Err(self.failed(name.as_str(), error)),
+        }
+    }
+
+    /// Whether there is a file of a bundle.
+    pub fn has(&self, bundle: Bundle) -> Result<bool, Failure<'a>> {
+        let name = self.name_of(bundle.path(self.rt.alloc()))?;
+        let path = self.path_of(name.as_str())?;
+        Ok(fs::metadata(self.rt, path.as_str()).is_ok())
+    }
+
+    /// The bytes of a tile.
+    pub fn tile(&self, tile: Tile) -> Result<ByteString, Failure<'a>> {
+        let name = self.tile_name(tile)?;
+        match self.front(name.as_str(), 32 * tile.width as u64) {
+            Ok(bytes) => Ok(bytes),
+            Err(error) => Err(self.failed(name.as_str(), error)),
+        }
+    }
+
+    // The same, where the file can be read.
+    fn bytes_of(&self, tile: Tile) -> Option<ByteString> {
+        match self.tile(tile) {
+            Ok(bytes) => Some(bytes),
+            Err(_) => None,
+        }
+    }
+
+    /// The name of a tile.
+    pub fn tile_name(&self, tile: Tile) -> Result<String, Failure<'a>> {
+        self.name_of(tile.path(self.rt.alloc()))
+    }
+
+    /// What is wrong with a bundle.
+    pub fn bad_bundle(&self, bundle: Bundle, text: &'static str) -> Failure<'a> {
+        match bundle.path(self.rt.alloc()) {
+            Ok(name) => self.told(name.as_str(), text),
+            Err(_) => Failure::Memory,
+        }
+    }
+
+    /// What is wrong with a tile.
+    pub fn bad_tile(&self, tile: Tile, text: &'static str) -> Failure<'a> {
+        match tile.path(self.rt.alloc()) {
+            Ok(name) => self.told(name.as_str(), text),
+            Err(_) => Failure::Memory,
+        }
+    }
+
+    fn name_of(&self, name: Result<String, NameError>) -> Result<String, Failure<'a>> {
+        match name {
+            Ok(name) => Ok(name),
+            Err(_) => Err(Failure::Memory),
+        }
+    }
+}
+
+impl<'s, 'a> TileSource for LogFolder<'s, 'a> {
+    ghost use Rattle.std.specs.Prelude.{false};
+
+    ghost has = { λ _ _. false };
+
+    fn read(&self, tile: Tile, out: &mut [u8]) -> bool {
+        let Some(bytes) = self.bytes_of(tile) else {
+            return false;
+        };
+        if bytes.len() != out.len() {
+            return false;
+        }
+        out.copy_from_slice(bytes.as_slice());
+        true
+    }
+}

@@ -1,0 +1,159 @@
+//! `slh log verify` and `slh log growth`: what those who watch a log do.
+use crate::proof_files::{Proof, ProofError, Purpose, read_proof};
+use crate::verdicts::{EntryError, LogError, Signer, check_entry, check_log};
+use clap::ArgMatches;
+use slh_arguments::{required, tell, verifying_key};
+use slh_files::Outcome;
+use slh_log::{GrowthError, OpenError, PresenceError, read_unverified};
+use slh_paths::{Failure, files};
+use std::alloc::Global;
+
+const LENGTH: &str = "too long or too short for these sizes";
+
+/// Why a checkpoint isn't opened, where that is no verdict.
+pub fn refused_head<'a>(path: &'a str, error: OpenError) -> Failure<'a> {
+    match error {
+        OpenError::Form => Failure::Told(path, "not a checkpoint"),
+        OpenError::Origin => Failure::Told(path, "a checkpoint of another origin"),
+        OpenError::Unsigned => Failure::Told(path, "not signed by this key under this origin"),
+        OpenError::Invalid => Failure::Told(path, "the signature of its checkpoint is invalid"),
+    }
+}
+
+/// What is told of a checkpoint that isn't opened: that it is invalid, or the refusal.
+pub fn tell_head<'a>(
+    rt: &HostRuntime,
+    path: &'a str,
+    error: OpenError,
+) -> Result<Outcome, Failure<'a>> {
+    match error {
+        OpenError::Invalid => tell(rt, Outcome::Invalid),
+        error => Err(refused_head(path, error)),
+    }
+}
+
+// Refuses words by which more than one of these files is standard input.
+fn check_standard(words: &ArgMatches<'_>, names: &[&str]) -> Result<(), Failure<'static>> {
+    let mut count = 0u8;
+    for name in names {
+        if words.get_str(name) == Some(files::STANDARD) {
+            count = count.saturating_add(1);
+        }
+    }
+    if count > 1 {
+        return Err(Failure::TwoInputs);
+    }
+    Ok(())
+}
+
+// The proof that the bytes of a file are.
+fn proof_of<'b, 'a>(
+    alloc: Global,
+    path: &'a str,
+    purpose: Purpose,
+    bytes: &'b [u8],
+) -> Result<Proof<'b>, Failure<'a>> {
+    match read_proof(alloc, purpose, bytes) {
+        Ok(proof) => Ok(proof),
+        Err(ProofError::Memory) => Err(Failure::Memory),
+        Err(ProofError::Form) => match purpose {
+            Purpose::Presence => Err(Failure::Told(path, "not the proof of an entry")),
+            Purpose::Growth => Err(Failure::Told(path, "not a proof of growth")),
+        },
+    }
+}
+
+/// Tells whether a file is an entry of a log, by a proof and a checkpoint: that of `--checkpoint`,
+/// or the one that stands in the proof.
+pub fn verify<'a>(rt: &HostRuntime, words: &ArgMatches<'a>) -> Result<Outcome, Failure<'a>> {
+    check_standard(words, &["key", "checkpoint", "proof", "file"])?;
+    let key = verifying_key(rt, words)?;
+    let (path, file) = (required(words, "proof")?, required(words, "file")?);
+    let signer = Signer {
+        set: key.set,
+        key: key.bytes.as_slice(),
+        origin: required(words, "origin")?,
+    };
+    let bytes = files::read_limited(rt, path)?;
+    let proof = proof_of(rt.alloc(), path, Purpose::Presence, bytes.as_slice())?;
+    let entry = files::read_limited(rt, file)?;
+    let (number, digests) = (proof.number, proof.digests.as_slice());
+    if let Some(head) = words.get_str("checkpoint") {
+        let bytes = files::read_limited(rt, head)?;
+        let checked = check_entry(signer, bytes.as_slice(), number, entry.as_slice(), digests);
+        return tell_entry(rt, head, path, file, checked);
+    }
+    let checked = check_entry(signer, proof.checkpoint, number, entry.as_slice(), digests);
+    tell_entry(rt, path, path, file, checked)
+}
+
+// What is told of an entry, by the paths of the checkpoint, the proof and the entry.
+fn tell_entry<'a>(
+    rt: &HostRuntime,
+    head: &'a str,
+    proof: &'a str,
+    file: &'a str,
+    checked: Result<(), EntryError>,
+) -> Result<Outcome, Failure<'a>> {
+    match checked {
+        Ok(()) => tell(rt, Outcome::Accepted),
+        Err(EntryError::Head(error)) => tell_head(rt, head, error),
+        Err(EntryError::Path(PresenceError::Invalid)) => tell(rt, Outcome::Invalid),
+        Err(EntryError::Path(PresenceError::Index)) => {
+            Err(Failure::Told(proof, "its index is none of the log's"))
+        }
+        Err(EntryError::Path(PresenceError::Length)) => Err(Failure::Told(proof, LENGTH)),
+        Err(EntryError::Path(PresenceError::Entry)) => {
+            Err(Failure::Told(file, "it has more than 2^60 bytes"))
+        }
+    }
+}
+
+/// Tells whether a log grew from an old checkpoint to a new one, and kept all entries.
+pub fn growth<'a>(rt: &HostRuntime, words: &ArgMatches<'a>) -> Result<Outcome, Failure<'a>> {
+    check_standard(words, &["key", "old", "new", "proof"])?;
+    let key = verifying_key(rt, words)?;
+    let (old, new) = (required(words, "old")?, required(words, "new")?);
+    let path = required(words, "proof")?;
+    let signer = Signer {
+        set: key.set,
+        key: key.bytes.as_slice(),
+        origin: required(words, "origin")?,
+    };
+    let old_bytes = files::read_limited(rt, old)?;
+    let new_bytes = files::read_limited(rt, new)?;
+    let bytes = files::read_limited(rt, path)?;
+    let proof = proof_of(rt.alloc(), path, Purpose::Growth, bytes.as_slice())?;
+    let (old_bytes, new_bytes) = (old_bytes.as_slice(), new_bytes.as_slice());
+    let checked = check_log(signer, old_bytes, new_bytes, proof.digests.as_slice());
+    if let Ok(()) | Err(LogError::Proof(_)) = checked
+        && let Some((_, head)) = read_unverified(old_bytes)
+        && head.size != proof.number
+    {
+        return Err(Failure::Told(path, "a proof from another size than the old checkpoint's"));
+    }
+    tell_growth(rt, old, new, path, checked)
+}
+
+// What is told of a growth, by the paths of the checkpoints and the proof.
+fn tell_growth<'a>(
+    rt: &HostRuntime,
+    old: &'a str,
+    new: &'a str,
+    proof: &'a str,
+    checked: Result<(), LogError>,
+) -> Result<Outcome, Failure<'a>> {
+    match checked {
+        Ok(()) => tell(rt, Outcome::Accepted),
+        Err(LogError::Old(error)) => tell_head(rt, old, error),
+        Err(LogError::New(error)) => tell_head(rt, new, error),
+        Err(LogError::Proof(GrowthError::Invalid)) => tell(rt, Outcome::Invalid),
+        Err(LogError::Proof(GrowthError::Empty)) => {
+            Err(Failure::Told(old, "it has no entries, and every log grew from it"))
+        }
+        Err(LogError::Proof(GrowthError::Smaller)) => {
+            Err(Failure::Told(new, "it has fewer entries than the old checkpoint"))
+        }
+        Err(LogError::Proof(GrowthError::Length)) => Err(Failure::Told(proof, LENGTH)),
+    }
+}

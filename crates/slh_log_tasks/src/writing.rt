@@ -1,0 +1,176 @@
+//! Files of a log that are written, and the checkpoint last.
+ghost use Rattle.std.specs.Prelude.{◌≢◌, IfOk, string_bytes};
+
+use crate::lock::fault_of;
+use crate::log_folder::{CHECKPOINT, LogFolder};
+use log_files::{FolderError, LogFile, Piece, PublishError, are_separate, make_folder, publish};
+use slh_paths::{Failure, random};
+use std::alloc::AllocError;
+use std::io::{self, ErrorKind};
+use whole_files::{HostFiles, WriteError, Written, make_new, part_name};
+
+const NOT_REGULAR: &str = "a link or no regular file, which is not replaced";
+
+const SAME_NAME: &str = "the name of a file that is being written";
+
+const TAKEN: &str = "File exists, and stays";
+
+// The two names of a file.
+#[derive(Drop)]
+struct Names {
+    path: String,
+    part: String,
+}
+
+fn names_of<'a>(folder: LogFolder<'_, 'a>, name: &str) -> Result<Names, Failure<'a>>
+    ensures { IfOk result (λ names. string_bytes names.part ≢ string_bytes names.path) }
+{
+    let path = folder.path_of(name)?;
+    let number = u64::from_be_bytes(random::<8>(folder.rt)?);
+    let part = part_name(folder.rt.alloc(), path.as_str(), number)?;
+    Ok(Names { path, part })
+}
+
+/// Makes a folder below the folder of a log, or this one where the name is empty.
+pub fn need_folder<'a>(folder: LogFolder<'_, 'a>, name: &str) -> Result<(), Failure<'a>> {
+    let path = if name.is_empty() {
+        String::from_str(folder.rt.alloc(), folder.path)?
+    } else {
+        folder.path_of(name)?
+    };
+    let mut files = HostFiles::new(folder.rt);
+    match make_folder(&mut files, path.as_str()) {
+        Ok(()) => Ok(()),
+        Err(FolderError::NoFolder) => Err(folder.told(name, "a link or no folder")),
+        Err(_) => Err(folder.failed(name, fault_of(&mut files))),
+    }
+}
+
+// Makes the folders that a file stands in, but for those that were made already.
+fn need_parents<'n, 'a>(
+    folder: LogFolder<'_, 'a>,
+    name: &'n str,
+    made: &mut Vec<&'n str>,
+) -> Result<(), Failure<'a>> {
+    for (at, _) in name.match_indices('/') {
+        let Some(parent) = name.get(..at) else {
+            continue;
+        };
+        if !made.contains(&parent) {
+            need_folder(folder, parent)?;
+            made.push(parent).map_err(AllocError::from)?;
+        }
+    }
+    Ok(())
+}
+
+// Makes the folders that files stand in.
+fn need_folders<'a>(folder: LogFolder<'_, 'a>, log_files: &[LogFile]) -> Result<(), Failure<'a>> {
+    let mut made: Vec<&str> = Vec::new(folder.rt.alloc());
+    for file in log_files {
+        need_parents(folder, file.name.as_str(), &mut made)?;
+    }
+    Ok(())
+}
+
+// Why a file isn't written.
+fn refused<'a>(
+    folder: LogFolder<'_, 'a>,
+    name: &str,
+    error: WriteError,
+    fault: io::Error,
+) -> Failure<'a> {
+    match error {
+        WriteError::NotRegular => folder.told(name, NOT_REGULAR),
+        WriteError::Taken => folder.told(name, TAKEN),
+        WriteError::Failed | WriteError::Left => folder.failed(name, fault),
+    }
+}
+
+/// Makes the checkpoint of a new log, where nothing stands.
+pub fn make_checkpoint<'a>(folder: LogFolder<'_, 'a>, bytes: &[u8]) -> Result<(), Failure<'a>> {
+    let rt = folder.rt;
+    let path = folder.path_of(CHECKPOINT)?;
+    let number = u64::from_be_bytes(random::<8>(rt)?);
+    let part = part_name(rt.alloc(), path.as_str(), number)?;
+    let mut files = HostFiles::new(rt);
+    let mode = whole_files::Mode::Masked;
+    match make_new(&mut files, path.as_str(), part.as_str(), mode, bytes) {
+        Ok(Written::Settled) => Ok(()),
+        Ok(Written::Unsettled) => Err(Failure::Unsettled(
+            folder.path,
+            "/checkpoint",
+            fault_of(&mut files),
+        )),
+        Err(WriteError::Taken) => Err(Failure::Told(folder.path, "there is a log already")),
+        Err(error) => {
+            let fault = fault_of(&mut files);
+            Err(refused(folder, CHECKPOINT, error, fault))
+        }
+    }
+}
+
+fn name_at(log_files: &[LogFile], i: usize) -> &str {
+    match log_files.get(i) {
+        Some(file) => file.name.as_str(),
+        None => CHECKPOINT,
+    }
+}
+
+/// Writes files whole, in their order, and then the checkpoint.
+pub fn write_files<'a>(
+    folder: LogFolder<'_, 'a>,
+    log_files: &[LogFile],
+    checkpoint: &[u8],
+) -> Result<(), Failure<'a>> {
+    need_folders(folder, log_files)?;
+    let mut names = Vec::new(folder.rt.alloc());
+    for file in log_files {
+        names
+            .push(names_of(folder, file.name.as_str())?)
+            .map_err(AllocError::from)?;
+    }
+    let head = names_of(folder, CHECKPOINT)?;
+    let mut pieces = Vec::new(folder.rt.alloc());
+    for (file, names) in log_files.iter().zip(names.iter()) {
+        let piece = Piece {
+            path: names.path.as_str(),
+            part: names.part.as_str(),
+            bytes: file.bytes.as_slice(),
+        };
+        pieces.push(piece).map_err(AllocError::from)?;
+    }
+    let head = Piece {
+        path: head.path.as_str(),
+        part: head.part.as_str(),
+        bytes: checkpoint,
+    };
+    publish_pieces(folder, log_files, pieces.as_slice(), &head)
+}
+
+// Writes pieces, which are those of these files, and then the head.
+fn publish_pieces<'a>(
+    folder: LogFolder<'_, 'a>,
+    log_files: &[LogFile],
+    pieces: &[Piece<'_>],
+    head: &Piece<'_>,
+) -> Result<(), Failure<'a>> {
+    if !are_separate(pieces) {
+        return Err(Failure::Told(folder.path, SAME_NAME));
+    }
+    if head.part == head.path {
+        return Err(Failure::Told(folder.path, SAME_NAME));
+    }
+    let mut files = HostFiles::new(folder.rt);
+    let published = publish(&mut files, pieces, head);
+    let fault = fault_of(&mut files);
+    match published {
+        Ok(Written::Settled) => Ok(()),
+        Ok(Written::Unsettled) => Err(Failure::Unsettled(folder.path, "/checkpoint", fault)),
+        Err(PublishError::AtPiece(i, error)) => {
+            Err(refused(folder, name_at(log_files, i), error, fault))
+        }
+        Err(PublishError::Unsettled(i)) => Err(folder.failed(name_at(log_files, i), fault)),
+        Err(PublishError::AtHead(error)) => Err(refused(folder, CHECKPOINT, error, fault)),
+    }
+}

@@ -1,0 +1,138 @@
+//! The words of the commands for signed logs.
+use crate::words::{
+    DETERMINISTIC, FILE, Group, KEY_TEXT, Kind, OUTPUT, SIGNING_KEY, Subcommand, VERIFYING_KEY,
+    Word,
+};
+
+/// `slh log`.
+pub fn log() -> Group {
+    Group {
+        name: "log",
+        about: "A signed log that only grows",
+        subcommands: &[
+            Subcommand {
+                name: "init",
+                about: "Begins a log without entries in a folder",
+                example: "Example:\n    \
+                          slh log init --key log.key --origin example.org/releases releases",
+                words: &[SIGNING_KEY, ORIGIN, DETERMINISTIC, LOG],
+            },
+            Subcommand {
+                name: "append",
+                about: "Adds each file as an entry, and signs the head again",
+                example: "Example:\n    slh log append --key log.key releases notes.txt",
+                words: &[SIGNING_KEY, LINES, DETERMINISTIC, LOG, ENTRIES],
+            },
+            Subcommand {
+                name: "prove",
+                about: "Writes the proof that an entry is in the log, or that the log grew",
+                example: "Example:\n    \
+                          slh log prove releases 0 --output notes.proof\n    \
+                          slh log prove releases --from 1 --output growth.proof",
+                words: &[FROM, OUTPUT, LOG, INDEX],
+            },
+            Subcommand {
+                name: "verify",
+                about: "Tells whether a file is an entry of the log of a proof: accepted (0) or \
+                        invalid (1)",
+                example: "Example:\n    \
+                          slh log verify --key log.pub --origin example.org/releases --proof \
+                          notes.proof notes.txt",
+                words: &[VERIFYING_KEY, KEY_TEXT, ORIGIN, HEAD, PROOF, FILE],
+            },
+            Subcommand {
+                name: "growth",
+                about: "Tells whether a log kept all entries of an older checkpoint: accepted (0) \
+                        or invalid (1)",
+                example: "Example:\n    \
+                          slh log growth --key log.pub --origin example.org/releases --old \
+                          before --new releases/checkpoint --proof growth.proof",
+                words: &[VERIFYING_KEY, KEY_TEXT, ORIGIN, OLD, NEW, PROOF],
+            },
+            Subcommand {
+                name: "check",
+                about: "Makes everything again from the entries, and compares: accepted (0) or \
+                        invalid (1)",
+                example: "Example:\n    slh log check --key log.pub releases",
+                words: &[VERIFYING_KEY, KEY_TEXT, ANY_ORIGIN, LOG],
+            },
+        ],
+    }
+}
+
+const LOG: Word = Word {
+    kind: Kind::Operand,
+    name: "folder",
+    value: "FOLDER",
+    help: "The folder of the log",
+};
+
+const ENTRIES: Word = Word {
+    kind: Kind::Operands,
+    name: "files",
+    value: "FILE",
+    help: "The entries, each of up to 65535 bytes; - is standard input",
+};
+
+const INDEX: Word = Word {
+    kind: Kind::OptionalOperand,
+    name: "index",
+    value: "INDEX",
+    help: "Which entry, from 0; or --from",
+};
+
+const ORIGIN: Word = Word {
+    kind: Kind::Required,
+    name: "origin",
+    value: "ORIGIN",
+    help: "The name of the log",
+};
+
+const ANY_ORIGIN: Word = Word {
+    kind: Kind::Optional,
+    name: "origin",
+    value: "ORIGIN",
+    help: "The name of the log; that of its checkpoint if it is left out",
+};
+
+const LINES: Word = Word {
+    kind: Kind::Flag,
+    name: "lines",
+    value: "",
+    help: "Adds each line of a file as an entry, without its end",
+};
+
+const FROM: Word = Word {
+    kind: Kind::Optional,
+    name: "from",
+    value: "SIZE",
+    help: "Proves that the log grew from its first so many entries",
+};
+
+const HEAD: Word = Word {
+    kind: Kind::Optional,
+    name: "checkpoint",
+    value: "CHECKPOINT",
+    help: "The checkpoint; the one in the proof if it is left out",
+};
+
+const PROOF: Word = Word {
+    kind: Kind::Required,
+    name: "proof",
+    value: "PROOF",
+    help: "The proof",
+};
+
+const OLD: Word = Word {
+    kind: Kind::Required,
+    name: "old",
+    value: "CHECKPOINT",
+    help: "The older checkpoint",
+};
+
+const NEW: Word = Word {
+    kind: Kind::Required,
+    name: "new",
+    value: "CHECKPOINT",
+    help: "The newer checkpoint",
+};
