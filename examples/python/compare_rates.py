@@ -51,6 +51,18 @@ def openssl_times(openssl, name):
     return least
 
 
+def audit_ratio(ours, signing, audit):
+    """What auditing takes of signing, which take turns: the processor's clock isn't steady."""
+    least = [float("inf")] * 2
+    for _ in range(TURNS):
+        for i, lines in enumerate([signing, audit]):
+            replies, spent = answers(ours, lines)
+            least[i] = min(least[i], spent)
+    if set(replies) != {"genuine"}:
+        sys.exit("a signature is foreign")
+    return least[1] / least[0]
+
+
 def row(ours, rust, openssl, name, n):
     """A row of the table for a set whose values have n bytes."""
     kind = name[-1]
@@ -60,20 +72,19 @@ def row(ours, rust, openssl, name, n):
     made, keys = times([ours, rust], keygen)
     _, key, vk = keys[0].split()
     messages = [f"{i:08d}" for i in range(COUNTS["sign"][kind])]
-    signed, replies = times([ours, rust], [f"{name} sign {key} - {m} none" for m in messages])
+    signing = [f"{name} sign {key} - {m} none" for m in messages]
+    signed, replies = times([ours, rust], signing)
     verify = [f"{name} verify {vk} - {m} {reply.split()[1]}" for m, reply in zip(messages, replies)]
     verified, verdicts = times([ours, rust], (verify * COUNTS["verify"][kind])[:COUNTS["verify"][kind]])
     if set(verdicts) != {"accepted"}:
         sys.exit(f"a signature of {name} is refused")
     audit = [f"{name} audit {key} - {m} {reply.split()[1]}" for m, reply in zip(messages, replies)]
-    audited, verdicts = times([ours], audit)
-    if set(verdicts) != {"genuine"}:
-        sys.exit(f"a signature of {name} is foreign")
+    audited = audit_ratio(ours, signing, audit)
     _, other_sign, other_verify = openssl_times(openssl, name)
-    cells = [name, f"{made[0] * 1000:.3g} ms", f"{made[0] / made[1]:.3f}",
-             f"{signed[0] * 1000:.3g} ms", f"{signed[0] / signed[1]:.3f}", f"{signed[0] / other_sign:.2f}",
-             f"{verified[0] * 1000:.3g} ms", f"{verified[0] / verified[1]:.3f}",
-             f"{verified[0] / other_verify:.2f}", f"{audited[0] / signed[0]:.2f}"]
+    cells = [name, f"{made[0] * 1000:.3g} ms", f"{made[0] / made[1]:.2f}",
+             f"{signed[0] * 1000:.3g} ms", f"{signed[0] / signed[1]:.2f}", f"{signed[0] / other_sign:.2f}",
+             f"{verified[0] * 1000:.3g} ms", f"{verified[0] / verified[1]:.2f}",
+             f"{verified[0] / other_verify:.2f}", f"{audited:.2f}"]
     return "| " + " | ".join(cells) + " |"
 
 
