@@ -1,16 +1,19 @@
 //! Signatures of files, under the signing key of `--key`.
-use crate::words::{context, message, signature, signing_key};
+use crate::words::{context, mode, required, signature, signing_key};
 use clap::ArgMatches;
-use slh_files::{Key, Message};
+use slh_files::Key;
 use slh_paths::Failure;
-use slh_run::ByteString;
+use slh_paths::files::Reader;
+use slh_run::{ByteString, Mode};
 
 /// A signature of a file, and the key that it is to be under.
 #[derive(Drop)]
 pub struct Claim {
     pub key: Key,
+    pub mode: Mode,
+    pub context: ByteString,
     pub signature: ByteString,
-    pub message: Message,
+    pub reader: Reader,
 }
 
 /// What `--signature` says of the file under the signing key of `--key`.
@@ -18,10 +21,13 @@ pub fn own_claim<'a>(rt: &HostRuntime, words: &ArgMatches<'a>) -> Result<Claim, 
     let context = context(rt, words)?;
     let key = signing_key(rt, words)?;
     let signature = signature(rt, words, key.set)?;
-    let message = message(rt, words, context)?;
+    let mode = mode(words)?;
+    let reader = Reader::open(rt, required(words, "file")?)?;
     Ok(Claim {
         key,
+        mode,
+        context,
         signature,
-        message,
+        reader,
     })
 }

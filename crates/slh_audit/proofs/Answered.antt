@@ -10,9 +10,9 @@ use Rattle.slh_audit.proofs.Judging.{by_search, own_is_genuine}
 use Rattle.slh_audit.proofs.Meaning.{ChainStepShows, EarlyShows, IsShown, checked_at, collide_means, own_at}
 use Rattle.slh_audit.proofs.OwnLayers.{all_own}
 use Rattle.slh_audit.proofs.Shown.{says, told}
-use Rattle.slh_audit.specs.Evidence.{Dispute, IsOwnFrom, Parts, collide, dispute, dispute_of, dispute_on, fors_secret_shows, shows}
+use Rattle.slh_audit.specs.Evidence.{Dispute, IsOwnFrom, Parts, collide, dispute, dispute_on, fors_secret_shows, shows}
 use Rattle.slh_audit.specs.Places.{first_evidence}
-use Rattle.slh_audit.specs.Verdicts.{digest_verdict, foreign_by, message_audit}
+use Rattle.slh_audit.specs.Verdicts.{digest_audit, digest_of, digest_verdict, foreign_by, key_dispute, message_audit}
 use Rattle.slh_audit.specs.declared.evidence.AuditError.{AuditError}
 use Rattle.slh_audit.specs.declared.evidence.AuditError.TheVariants.{Invalid, KeyMismatch}
 use Rattle.slh_audit.specs.declared.evidence.Evidence.{Evidence}
@@ -72,8 +72,8 @@ module _ (Z Y : Scheme) (same : Z ≡ Y) (s sk digest sig : List ℕ) (x : Parts
       let sized = sized_dispute Y s sk digest sig lengths bytes n_high layers low size_now in
       rw (same, is_given, found_now) (by_search Y s sk digest sig lengths sized size_now)
 
--- the audit of a message, from the parts of a key of n bytes each
-module _ (Z : Scheme) (n : ℕ) (size : Z.n ≡ n) (key message sig sk s root own : List ℕ) (is_own : Bool)
+-- the audit for a digest, from the parts of a key of n bytes each
+module _ (Z : Scheme) (n : ℕ) (size : Z.n ≡ n) (key digest sig sk s root own : List ℕ) (is_own : Bool)
     (is_sk : sk ≡ part n key 0) (is_s : s ≡ part n key 2) (is_root : root ≡ part n key 3)
     (made : own ≡ top_root Z s sk) (compared : is_own ≡ bytes_eq root own) where
   part_is : (i : ℕ) → part Z.n key i ≡ part n key i
@@ -84,30 +84,33 @@ module _ (Z : Scheme) (n : ℕ) (size : Z.n ≡ n) (key message sig sk s root ow
       let at_n : bytes_eq (part n key 3) (top_root Z (part n key 2) (part n key 0)) ≡ b = rw (made, is_sk, is_s, is_root) at (sym compared ∙ holds) in
       rw (part_is 3, part_is 2, part_is 0) at_n
 
-  pub mismatch_told : is_own ≡ false → ◌≡◌ {A = Result Verdict AuditError} (Err KeyMismatch) (message_audit Z key message sig)
-  unfolding message_audit
+  pub mismatch_told : is_own ≡ false → ◌≡◌ {A = Result Verdict AuditError} (Err KeyMismatch) (digest_audit Z key digest sig)
+  unfolding digest_audit
   mismatch_told differs = rw (own_told false differs) refl
 
-  module _ (digest lead : List ℕ) (leads : Bool) (yes : is_own ≡ true) (is_digest : digest ≡ Z.suite.h_msg (take Z.n sig) s root message)
+  module _ (lead : List ℕ) (leads : Bool) (yes : is_own ≡ true)
       (is_lead : lead ≡ digest_root Z s digest sig) (lead_compared : leads ≡ bytes_eq lead root) where
-    leads_told : (b : Bool) → leads ≡ b
-        → bytes_eq (digest_root Z (part Z.n key 2) (Z.suite.h_msg (take Z.n sig) (part Z.n key 2) (part Z.n key 3) message) sig) (part Z.n key 3) ≡ b
+    leads_told : (b : Bool) → leads ≡ b → bytes_eq (digest_root Z (part Z.n key 2) digest sig) (part Z.n key 3) ≡ b
     leads_told b holds =
-        let at_n : bytes_eq (digest_root Z (part n key 2) (Z.suite.h_msg (take Z.n sig) (part n key 2) (part n key 3) message) sig) (part n key 3) ≡ b
-        = rw (is_lead, is_digest, is_s, is_root) at (sym lead_compared ∙ holds) in
+        let at_n : bytes_eq (digest_root Z (part n key 2) digest sig) (part n key 3) ≡ b = rw (is_lead, is_s, is_root) at (sym lead_compared ∙ holds) in
         rw (part_is 2, part_is 3) at_n
 
-    pub invalid_told : leads ≡ false → ◌≡◌ {A = Result Verdict AuditError} (Err Invalid) (message_audit Z key message sig)
-    unfolding message_audit
+    pub invalid_told : leads ≡ false → ◌≡◌ {A = Result Verdict AuditError} (Err Invalid) (digest_audit Z key digest sig)
+    unfolding digest_audit
     invalid_told differs = rw (own_told true yes, leads_told false differs) refl
 
     pub judged_told : (given : Verdict) → leads ≡ true → given ≡ digest_verdict Z s sk digest sig
-        → ◌≡◌ {A = Result Verdict AuditError} (Ok given) (message_audit Z key message sig)
-    unfolding message_audit
+        → ◌≡◌ {A = Result Verdict AuditError} (Ok given) (digest_audit Z key digest sig)
+    unfolding digest_audit
     judged_told given led is_given =
-        let at_n : given ≡ digest_verdict Z (part n key 2) (part n key 0) (Z.suite.h_msg (take Z.n sig) (part n key 2) (part n key 3) message) sig
-        = rw (is_digest, is_s, is_sk, is_root) at is_given in
-        rw (own_told true yes, leads_told true led, at_n, part_is 0, part_is 2, part_is 3) refl
+        let at_n : given ≡ digest_verdict Z (part n key 2) (part n key 0) digest sig = rw (is_s, is_sk) at is_given in
+        rw (own_told true yes, leads_told true led, at_n, part_is 0, part_is 2) refl
+
+-- the audit of a message is that for its digest
+pub by_digest : (Z : Scheme) (key message sig digest : List ℕ) (answer : Result Verdict AuditError) → digest ≡ digest_of Z key message sig
+    → answer ≡ digest_audit Z key digest sig → answer ≡ message_audit Z key message sig
+unfolding digest_audit message_audit
+by_digest Z key message sig digest answer is_digest is_answer = rw is_digest at is_answer
 
 -- the secret that is opened in tree i
 pub fors_secret_told : (K L : Seeded) → L ≡ K → (sk sig x : List ℕ) (t l a i y : ℕ) (secret own leaf own_leaf : List ℕ) (shown : Bool)
@@ -180,12 +183,11 @@ shows_by_parts Z Y same s sk digest sig x e shown set is_shown =
     let set_now = rw same at set in
     rw same (rw set_now at is_shown)
 
--- the same, for a message
-pub shows_told : (Z : Scheme) (n : ℕ) (size : Z.n ≡ n) (key message sig sk s root digest : List ℕ) (e : Evidence) (shown : Bool)
-    → sk ≡ part n key 0 → s ≡ part n key 2 → root ≡ part n key 3 → digest ≡ Z.suite.h_msg (take Z.n sig) s root message
-    → shown ≡ shows (dispute Z s sk digest sig) e → shown ≡ shows (dispute_of Z key message sig) e
-shows_told Z n size key message sig sk s root digest e shown is_sk is_s is_root is_digest is_shown =
+-- the same, from the parts of a key of n bytes each
+pub shows_told : (Z : Scheme) (n : ℕ) (size : Z.n ≡ n) (key digest sig sk s : List ℕ) (e : Evidence) (shown : Bool)
+    → sk ≡ part n key 0 → s ≡ part n key 2
+    → shown ≡ shows (dispute Z s sk digest sig) e → shown ≡ shows (key_dispute Z key digest sig) e
+shows_told Z n size key digest sig sk s e shown is_sk is_s is_shown =
     let part_is : (i : ℕ) → part Z.n key i ≡ part n key i = λ i. rw size refl in
-    let at_n : shown ≡ shows (dispute Z (part n key 2) (part n key 0) (Z.suite.h_msg (take Z.n sig) (part n key 2) (part n key 3) message) sig) e
-    = rw (is_digest, is_sk, is_s, is_root) at is_shown in
-    rw (part_is 0, part_is 2, part_is 3) at_n
+    let at_n : shown ≡ shows (dispute Z (part n key 2) (part n key 0) digest sig) e = rw (is_sk, is_s) at is_shown in
+    rw (part_is 0, part_is 2) at_n

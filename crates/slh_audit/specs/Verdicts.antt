@@ -9,11 +9,11 @@ use Rattle.slh_audit.specs.declared.evidence.AuditError.TheVariants.{Invalid}
 use Rattle.slh_audit.specs.declared.evidence.Evidence.{Evidence}
 use Rattle.slh_audit.specs.declared.evidence.Verdict.{Verdict}
 use Rattle.slh_audit.specs.declared.evidence.Verdict.TheVariants.{Genuine, Foreign}
-use Rattle.slh_audit.specs.Evidence.{dispute, dispute_of, shows}
+use Rattle.slh_audit.specs.Evidence.{Dispute, dispute, dispute_of, shows}
 use Rattle.slh_audit.specs.Places.{first_evidence}
 use Rattle.slh_core.specs.Bytes.{part}
 use Rattle.slh_core.specs.Parameters.{Scheme}
-use Rattle.slh_trees.specs.Checking.{checked_root, signature_size}
+use Rattle.slh_trees.specs.Checking.{checked_root, digest_root, signature_size}
 use Rattle.slh_frames.specs.Frames.{frame, mode_frame}
 use Rattle.slh_frames.specs.declared.frame.Mode.{Mode}
 use Rattle.slh_trees.specs.Keys.{top_root}
@@ -60,6 +60,26 @@ message_audit Z key message sig =
     else Err Invalid
     else Err KeyMismatch
 
+-- H_msg of a message under a signing key's public parts, with the randomizer of a signature
+abbrev pub digest_of : Scheme → List ℕ → List ℕ → List ℕ → List ℕ
+digest_of Z key message sig =
+    Z.suite.h_msg (take Z.n sig) (part Z.n key 2) (part Z.n key 3) message
+
+-- the same, where the digest of the message is given
+unfoldable pub digest_audit : Scheme → List ℕ → List ℕ → List ℕ → Result Verdict AuditError
+digest_audit Z key digest sig =
+    let s = part Z.n key 2 in
+    let root = part Z.n key 3 in
+    if bytes_eq root (top_root Z s (part Z.n key 0)) then
+    if bytes_eq (digest_root Z s digest sig) root
+    then Ok (digest_verdict Z s (part Z.n key 0) digest sig)
+    else Err Invalid
+    else Err KeyMismatch
+
+-- what a key and a signature stand against each other as, where the digest is given
+abbrev pub key_dispute : Scheme → List ℕ → List ℕ → List ℕ → Dispute
+key_dispute Z key digest sig = dispute Z (part Z.n key 2) (part Z.n key 0) digest sig
+
 -- a verdict is `Genuine` exactly where the bytes are what the key makes with their own randomizer
 abbrev pub IsGenuineExactly : Scheme → List ℕ → List ℕ → List ℕ → Verdict → Type 0
 IsGenuineExactly Z key message sig given =
@@ -80,6 +100,16 @@ abbrev pub framed_check_answer : Scheme → List ℕ → List ℕ → List ℕ �
     → Result Bool AuditError
 framed_check_answer Z key message sig e =
     unless_refused (length_refusals Z key sig) (Ok (shows (dispute_of Z key message sig) e))
+
+-- what is answered where the digest is given
+abbrev pub digest_audit_answer : Scheme → List ℕ → List ℕ → List ℕ → Result Verdict AuditError
+digest_audit_answer Z key digest sig =
+    unless_refused (length_refusals Z key sig) (digest_audit Z key digest sig)
+
+abbrev pub digest_check_answer : Scheme → List ℕ → List ℕ → List ℕ → Evidence
+    → Result Bool AuditError
+digest_check_answer Z key digest sig e =
+    unless_refused (length_refusals Z key sig) (Ok (shows (key_dispute Z key digest sig) e))
 
 abbrev pub audit_answer : Scheme → List ℕ → List ℕ → List ℕ → List ℕ → Result Verdict AuditError
 audit_answer Z key context message sig =

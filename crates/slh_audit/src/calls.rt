@@ -3,6 +3,8 @@ ghost use Rattle.std.specs.Prelude.{◌≡◌, ◌≤◌, ◌*◌, ◌+◌, ◌+
 ghost use Rattle.std.specs.Prelude.{◌↔◌, IfOk, IsTrue};
 ghost use Rattle.slh_audit.specs.Evidence.{dispute, dispute_of, shows};
 ghost use Rattle.slh_audit.specs.Verdicts.{IsGenuineExactly, audit_answer, check_answer};
+ghost use Rattle.slh_audit.specs.Verdicts.{digest_audit, digest_audit_answer};
+ghost use Rattle.slh_audit.specs.Verdicts.{digest_check_answer, digest_of, key_dispute};
 ghost use Rattle.slh_audit.specs.Verdicts.{message_audit};
 ghost use Rattle.slh_audit.specs.Verdicts.{framed_audit_answer, framed_check_answer};
 ghost use Rattle.slh_audit.specs.Verdicts.{hash_audit_answer, hash_check_answer};
@@ -117,6 +119,75 @@ fn digest_shows<P: ForsParams, L: Ledger>(
     dispute.shows::<L>(evidence, steps)
 }
 
+// The audit of the bytes of a signature, for a digest.
+fn audit_by_digest<P: ForsParams, L: Ledger>(
+    key: &[u8],
+    digest: &[u8],
+    sig: &SigView<'_, P>,
+    blank: Blank,
+) -> Result<Verdict, AuditError>
+    requires fresh { IsFresh blank L.name L.parts }
+    requires key { length key.now ≡ 4 * P.N.USIZE }
+    requires digest { length digest.now ≡ P.M.USIZE }
+    ensures { result ≡ digest_audit P.scheme key.now digest.now sig.now }
+{
+    forest_sizes::<P>();
+    let mut steps = Steps::<L>::new(blank);
+    let sk_seed = part_of::<P::N>(key, 0);
+    let pk_seed = part_of::<P::N>(key, 2);
+    let pk_root = part_of::<P::N>(key, 3);
+    let own = top_root::<P, L>(&sk_seed, &pk_seed, &mut steps);
+    if !same_value(&pk_root, &own) {
+        return Err(AuditError::KeyMismatch);
+    }
+    let root = root_for_digest::<P, L>(&pk_seed, digest, sig, &mut steps);
+    if !same_value(&root, &pk_root) {
+        return Err(AuditError::Invalid);
+    }
+    Ok(digest_verdict::<P, L>(&sk_seed, &pk_seed, digest, sig, &mut steps))
+}
+
+// Whether evidence shows against the bytes of a signature, for a digest.
+fn check_by_digest<P: ForsParams, L: Ledger>(
+    key: &[u8],
+    digest: &[u8],
+    sig: &SigView<'_, P>,
+    evidence: Evidence,
+    blank: Blank,
+) -> bool
+    requires fresh { IsFresh blank L.name L.parts }
+    requires key { length key.now ≡ 4 * P.N.USIZE }
+    requires digest { length digest.now ≡ P.M.USIZE }
+    ensures { result ≡ shows (key_dispute P.scheme key.now digest.now sig.now) evidence }
+{
+    forest_sizes::<P>();
+    let mut steps = Steps::<L>::new(blank);
+    let sk_seed = part_of::<P::N>(key, 0);
+    let pk_seed = part_of::<P::N>(key, 2);
+    digest_shows::<P, L>(&sk_seed, &pk_seed, digest, sig, evidence, &mut steps)
+}
+
+// Writes H_msg of the message that the three slices joined are, under a key's public parts.
+fn write_message_digest<P: ForsParams>(
+    key: &[u8],
+    head: &[u8],
+    ctx: &[u8],
+    msg: &[u8],
+    sig: &SigView<'_, P>,
+    out: &mut [u8],
+)
+    requires key { length key.now ≡ 4 * P.N.USIZE }
+    requires message { length head.now + length ctx.now + length msg.now ≤ MAX_MESSAGE_LEN }
+    requires room { length out.old ≡ P.M.USIZE }
+    ensures { let message = head.now ++ ctx.now ++ msg.now in
+        out.new ≡ digest_of P.scheme key.now message sig.now }
+{
+    forest_sizes::<P>();
+    let pk_seed = part_of::<P::N>(key, 2);
+    let pk_root = part_of::<P::N>(key, 3);
+    write_digest::<P>(&pk_seed, &pk_root, head, ctx, msg, sig, out);
+}
+
 /// The audit of the bytes of a signature of the message that the three slices joined are.
 fn audit_message<P: ForsParams, L: Ledger>(
     key: &[u8],
@@ -132,23 +203,10 @@ fn audit_message<P: ForsParams, L: Ledger>(
     ensures { let message = head.now ++ ctx.now ++ msg.now in
         result ≡ message_audit P.scheme key.now message sig.now }
 {
-    forest_sizes::<P>();
-    let mut steps = Steps::<L>::new(blank);
-    let sk_seed = part_of::<P::N>(key, 0);
-    let pk_seed = part_of::<P::N>(key, 2);
-    let pk_root = part_of::<P::N>(key, 3);
-    let own = top_root::<P, L>(&sk_seed, &pk_seed, &mut steps);
-    if !same_value(&pk_root, &own) {
-        return Err(AuditError::KeyMismatch);
-    }
     let mut store = [0u8; MAX_DIGEST_LEN];
     let digest = &mut store[..P::M::USIZE];
-    write_digest::<P>(&pk_seed, &pk_root, head, ctx, msg, sig, digest);
-    let root = root_for_digest::<P, L>(&pk_seed, digest, sig, &mut steps);
-    if !same_value(&root, &pk_root) {
-        return Err(AuditError::Invalid);
-    }
-    Ok(digest_verdict::<P, L>(&sk_seed, &pk_seed, digest, sig, &mut steps))
+    write_message_digest::<P>(key, head, ctx, msg, sig, digest);
+    audit_by_digest::<P, L>(key, digest, sig, blank)
 }
 
 /// Whether evidence shows against the bytes of a signature of the message that the three slices
@@ -168,15 +226,10 @@ fn check_message<P: ForsParams, L: Ledger>(
     ensures { let message = head.now ++ ctx.now ++ msg.now in
         result ≡ shows (dispute_of P.scheme key.now message sig.now) evidence }
 {
-    forest_sizes::<P>();
-    let mut steps = Steps::<L>::new(blank);
-    let sk_seed = part_of::<P::N>(key, 0);
-    let pk_seed = part_of::<P::N>(key, 2);
-    let pk_root = part_of::<P::N>(key, 3);
     let mut store = [0u8; MAX_DIGEST_LEN];
     let digest = &mut store[..P::M::USIZE];
-    write_digest::<P>(&pk_seed, &pk_root, head, ctx, msg, sig, digest);
-    digest_shows::<P, L>(&sk_seed, &pk_seed, digest, sig, evidence, &mut steps)
+    write_message_digest::<P>(key, head, ctx, msg, sig, digest);
+    check_by_digest::<P, L>(key, digest, sig, evidence, blank)
 }
 
 /// Audits the bytes of a signature of a message with a context, by the signing key of 4n bytes
@@ -296,6 +349,43 @@ pub fn check_evidence_framed<P: ForsParams>(
         Ok(sig) => {
             let place = *evidence;
             Ok(check_message::<P, Brand>(key, head, ctx, msg, &sig, place, Blank::new(1)))
+        }
+        Err(refusal) => Err(refusal),
+    }
+}
+
+/// As `audit`, of a signature of the message whose digest, as H_msg gives it with the signature's
+/// randomizer under the key, is given: for a message that came in pieces. `Length`, `KeyMismatch`,
+/// `Invalid`.
+pub fn audit_for_digest<P: ForsParams>(
+    key: &[u8],
+    digest: &[u8],
+    sig: &[u8],
+) -> Result<Verdict, AuditError>
+    requires { length digest.now ≡ P.M.USIZE }
+    ensures { result ≡ digest_audit_answer P.scheme key.now digest.now sig.now }
+{
+    match check_lengths::<P>(key, sig) {
+        Ok(sig) => audit_by_digest::<P, Brand>(key, digest, &sig, Blank::new(1)),
+        Err(refusal) => Err(refusal),
+    }
+}
+
+/// As `check_evidence`, of a signature of the message whose digest is given, as `audit_for_digest`
+/// has it. `Length`.
+pub fn check_evidence_for_digest<P: ForsParams>(
+    key: &[u8],
+    digest: &[u8],
+    sig: &[u8],
+    evidence: &Evidence,
+) -> Result<bool, AuditError>
+    requires { length digest.now ≡ P.M.USIZE }
+    ensures { result ≡ digest_check_answer P.scheme key.now digest.now sig.now evidence.now }
+{
+    match check_lengths::<P>(key, sig) {
+        Ok(sig) => {
+            let place = *evidence;
+            Ok(check_by_digest::<P, Brand>(key, digest, &sig, place, Blank::new(1)))
         }
         Err(refusal) => Err(refusal),
     }

@@ -47,6 +47,7 @@ mod showing;
 mod size_checks;
 
 pub use calls::{
-    audit, audit_framed, check_evidence, check_evidence_framed, hash_audit, hash_check_evidence,
+    audit, audit_for_digest, audit_framed, check_evidence, check_evidence_for_digest,
+    check_evidence_framed, hash_audit, hash_check_evidence,
 };
 pub use evidence::{AuditError, Evidence, Verdict};

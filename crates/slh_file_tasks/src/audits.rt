@@ -1,24 +1,30 @@
 //! `slh audit` and `slh evidence`.
 use clap::ArgMatches;
-use slh_arguments::{Claim, check_inputs, own_claim, report, required};
+use slh_arguments::{Claim, check_inputs, own_claim, read_failure, report, required};
 use slh_command::Detail;
 use slh_files::{Outcome, evidence_of};
 use slh_paths::Failure;
+use slh_readers::{ReadError, check_evidence};
 use slh_run::{ByteString, Error, Evidence, Verdict, push_evidence};
 
 /// Tells whether the holder of a key made a signature that the key accepts.
 pub fn audit<'a>(rt: &HostRuntime, words: &ArgMatches<'a>) -> Result<Outcome, Failure<'a>> {
     check_inputs(words)?;
+    let path = required(words, "file")?;
     let Claim {
         key,
+        mode,
+        context,
         signature,
-        message,
+        reader,
     } = own_claim(rt, words)?;
-    match slh_files::audit(rt.alloc(), key, message, signature) {
+    match slh_readers::audit(&key, mode, context.as_slice(), signature.as_slice(), reader) {
         Ok(Verdict::Genuine) => report(rt, words, Outcome::Genuine, Detail::Nothing),
         Ok(Verdict::Foreign(evidence)) => tell_foreign(rt, words, evidence),
-        Err(Error::Invalid) => report(rt, words, Outcome::Invalid, Detail::Nothing),
-        Err(error) => Err(Failure::Refused(required(words, "file")?, error)),
+        Err(ReadError::Refused(Error::Invalid)) => {
+            report(rt, words, Outcome::Invalid, Detail::Nothing)
+        }
+        Err(error) => Err(read_failure(path, error)),
     }
 }
 
@@ -43,14 +49,18 @@ pub fn evidence<'a>(rt: &HostRuntime, words: &ArgMatches<'a>) -> Result<Outcome,
     let Some(evidence) = evidence_of(rt.alloc(), required(words, "evidence")?.as_bytes())? else {
         return Err(Failure::Evidence);
     };
+    let path = required(words, "file")?;
     let Claim {
         key,
+        mode,
+        context,
         signature,
-        message,
+        reader,
     } = own_claim(rt, words)?;
-    match slh_files::check(rt.alloc(), key, message, signature, evidence) {
+    let (context, signature) = (context.as_slice(), signature.as_slice());
+    match check_evidence(&key, mode, context, signature, evidence, reader) {
         Ok(true) => report(rt, words, Outcome::Shown, Detail::Nothing),
         Ok(false) => report(rt, words, Outcome::NotShown, Detail::Nothing),
-        Err(error) => Err(Failure::Refused(required(words, "file")?, error)),
+        Err(error) => Err(read_failure(path, error)),
     }
 }

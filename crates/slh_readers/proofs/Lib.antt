@@ -5,3 +5,4 @@ mod Causes
 mod Answered
 mod Verdicts
 mod Signatures
+mod Audits

@@ -1,14 +1,15 @@
-//! Why what a reader gives isn't signed or verified.
+//! Why what a reader gives isn't signed, verified or audited.
 ghost use Rattle.std.specs.Prelude.{◌≡◌};
 ghost use Rattle.slh_readers.specs.declared.error.ReadError.TheVariants.{Read, Refused};
-ghost use Rattle.slh_run.specs.Errors.{error_of};
+ghost use Rattle.slh_run.specs.Errors.{audit_error_of, error_of};
 ghost use Rattle.slh_run.specs.declared.job.Error.TheVariants.{Memory};
 
+use slh_audit::AuditError;
 use slh_run::Error;
 use std::alloc::AllocError;
 use std::io;
 
-/// Why what a reader gives isn't signed or verified.
+/// Why what a reader gives isn't signed, verified or audited.
 #[derive(Drop)]
 pub enum ReadError {
     /// The reader failed.
@@ -31,6 +32,14 @@ impl From<slh_dsa::Error> for ReadError {
     ghost from_gives = { λ e f. f ≡ Refused (error_of e) };
 
     fn from(error: slh_dsa::Error) -> Self {
+        ReadError::Refused(Error::from(error))
+    }
+}
+
+impl From<AuditError> for ReadError {
+    ghost from_gives = { λ e f. f ≡ Refused (audit_error_of e) };
+
+    fn from(error: AuditError) -> Self {
         ReadError::Refused(Error::from(error))
     }
 }

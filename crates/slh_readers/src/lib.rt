@@ -1,6 +1,7 @@
-//! Signing and verifying what a reader gives, of any size, in pieces of 64 KiB.
+//! Signing, verifying and auditing what a reader gives, of any size, in pieces of 64 KiB.
 //!
-//! The bytes of a file are never whole in memory: [`verify`] and [`sign_digest`] read them once.
+//! The bytes of a file are never whole in memory: [`verify`], [`sign_digest`], [`audit`] and
+//! [`check_evidence`] read them once.
 //! [`sign_twice`], for the mode in which the message itself is signed, reads them twice, by two
 //! readers, and signs what the second one gives; where that isn't what the first one gave, it is
 //! refused as changed. What is answered is what `slh_run` answers to the job with these bytes:
@@ -22,12 +23,14 @@
 #![tactic(auto)]
 
 mod absorber;
+mod auditing;
 mod error;
 pub mod laws;
 mod reading;
 mod signing;
 mod verifying;
 
+pub use auditing::{audit, check_evidence};
 pub use error::ReadError;
 pub use signing::{sign_digest, sign_twice};
 pub use verifying::verify;

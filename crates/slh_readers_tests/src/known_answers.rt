@@ -2,8 +2,8 @@
 use crate::readers::{public, signing, slowly};
 use hmac_sha256::Hash;
 use slh_files::Key;
-use slh_readers::{ReadError, sign_digest, sign_twice, verify};
-use slh_run::{ByteString, Error, Mode};
+use slh_readers::{ReadError, audit, sign_digest, sign_twice, verify};
+use slh_run::{ByteString, Error, Mode, Verdict};
 use std::alloc::Global;
 
 // The numbers from 0 on, which are a randomizer.
@@ -36,6 +36,13 @@ fn is_accepted(public: &Key, mode: Mode, context: &[u8], signature: &[u8], messa
     matches!(whole, Ok(true)) && matches!(in_pieces, Ok(true))
 }
 
+// Whether it is the key's own, and is refused for another message.
+fn is_genuine(key: &Key, mode: Mode, context: &[u8], signature: &[u8], message: &[u8]) -> bool {
+    let own = audit(key, mode, context, signature, slowly(message));
+    let other = audit(key, mode, context, signature, slowly(b"another"));
+    matches!(own, Ok(Verdict::Genuine)) && matches!(other, Err(ReadError::Refused(Error::Invalid)))
+}
+
 fn is_known(
     alloc: Global,
     mode: Mode,
@@ -50,7 +57,8 @@ fn is_known(
             let signature = signature.as_slice();
             Ok(
                 has_digest(signature, wanted)
-                    && is_accepted(&public, mode, context, signature, message),
+                    && is_accepted(&public, mode, context, signature, message)
+                    && is_genuine(&key, mode, context, signature, message),
             )
         }
         Err(_) => Ok(false),

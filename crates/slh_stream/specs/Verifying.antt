@@ -1,7 +1,8 @@
 -- What a verifier of a message in pieces stands for.
 use Rattle.std.specs.Prelude.{◌≡◌, ℕ, ◌≤◌, List, ◌++◌, length, take}
 use Rattle.slh_core.specs.Bytes.{part}
-use Rattle.slh_frames.specs.Frames.{head_of}
+use Rattle.slh_core.specs.Parameters.{Scheme}
+use Rattle.slh_frames.specs.Frames.{head_of, mode_frame}
 use Rattle.slh_frames.specs.declared.frame.Mode.{Mode}
 use Rattle.slh_stream.specs.Tails.{StandsAfter, mode_of}
 use Rattle.slh_stream.specs.declared.tail.Tail.{Tail}
@@ -20,3 +21,8 @@ pub record IsVerifying (n : ℕ) (digests : List ℕ → List ℕ → List ℕ �
   pub taken_is : taken ≡ length message
   pub stands :
       StandsAfter (digests (take n sig) seed root) tail (head_of mode context ++ context) message
+
+-- H_msg of a message that is signed in a mode, with a signature's randomizer, under a verifying key
+abbrev pub message_digest : Scheme → Mode → List ℕ → List ℕ → List ℕ → List ℕ → List ℕ
+message_digest Z mode key context message sig = Z.suite.h_msg (take Z.n sig)
+    (part Z.n key 0) (part Z.n key 1) (mode_frame mode context message)

@@ -7,7 +7,7 @@ ghost use Rattle.slh_dsa.specs.Calls.{hash_verify_error, verify_refusal};
 ghost use Rattle.slh_dsa.specs.declared.error.Error.TheVariants.{MessageTooLong, Invalid};
 ghost use Rattle.slh_frames.specs.declared.frame.Mode.{Mode as SigningMode};
 ghost use Rattle.slh_stream.specs.Tails.{hashed_count};
-ghost use Rattle.slh_stream.specs.Verifying.{IsVerifying};
+ghost use Rattle.slh_stream.specs.Verifying.{IsVerifying, message_digest};
 ghost use Rattle.slh_trees.specs.Checking.{digest_root};
 ghost use Rattle.slh_trees.specs.Refusals.{RefusedExactly, message_refusal};
 
@@ -121,6 +121,19 @@ impl<'a, P: ParameterSet + MessageSuite> MessageVerifier<'a, P> {
             return Err(Error::Invalid);
         }
         Ok(())
+    }
+
+    /// Writes the digest of what was absorbed, of m bytes: H_msg with the signature's randomizer under
+    /// the key, of which an audit goes on.
+    pub fn finish_digest(self, out: &mut [u8])
+        requires { length out.old ≡ P.M.USIZE }
+        ensures { (mode : SigningMode) (key context sig m : List ℕ)
+            → ⟦<MessageVerifier<'a, P> as Verifying>⟧.verifies self.entry mode key context sig m
+            → out.new ≡ message_digest P.scheme mode key context m sig }
+    {
+        let MessageVerifier { digest, tail, .. } = self;
+        forest_sizes::<P>();
+        P::end_digest(end_tail::<P>(digest, tail), out);
     }
 
     /// As `finish_counted`, with no counter.

@@ -1,0 +1,145 @@
+//! Auditing a signature of what a reader gives.
+ghost use Rattle.std.specs.Prelude.{◌≡◌, length};
+ghost use Rattle.slh_files.specs.Jobs.{shown_by, verdict_by};
+ghost use Rattle.slh_readers.specs.Answers.{IsAnswer};
+ghost use Rattle.slh_readers.specs.Digested.{IsDigested};
+ghost use Rattle.slh_run.specs.Judgement.{judgement};
+ghost use Rattle.slh_run.specs.declared.job.Job.TheVariants.{Audit, Check};
+ghost use Rattle.slh_sets.specs.Sets.{scheme_for};
+
+use crate::error::ReadError;
+use crate::reading::absorb_all;
+use hybrid_array::ArraySize;
+use slh_audit::{Evidence, Verdict, audit_for_digest, check_evidence_for_digest};
+use slh_core::params::{MAX_DIGEST_LEN, forest_sizes};
+use slh_dsa::{Mode, SigningKey};
+use slh_files::Key;
+use slh_sets::{OnSet, SetSuite};
+use slh_stream::MessageVerifier;
+use std::io::Read;
+
+// A signature of what a reader gives, and the key whose holder is said to have made it.
+#[derive(Drop)]
+struct Doubted<'a, R> {
+    mode: Mode,
+    key: &'a [u8],
+    context: &'a [u8],
+    signature: &'a [u8],
+    reader: R,
+}
+
+// Writes the digest of what the reader gives, with the signature's randomizer under the key.
+fn digest_read<P: SetSuite, R: Read + Drop>(
+    doubted: Doubted<'_, R>,
+    out: &mut [u8],
+) -> Result<(), ReadError>
+    requires { length out.old ≡ P.M.USIZE }
+    ensures { IsDigested P.scheme doubted.mode doubted.key.now doubted.context.now
+        doubted.signature.now (R.remaining doubted.reader) out.new result }
+{
+    let Doubted {
+        mode,
+        key,
+        context,
+        signature,
+        reader,
+    } = doubted;
+    let mut reader = reader;
+    let signing = SigningKey::<P>::try_from(key)?;
+    let public = signing.verifying_key();
+    let mut verifier = MessageVerifier::<P>::new(&public, mode, context, signature)?;
+    absorb_all(&mut reader, &mut verifier)?;
+    verifier.finish_digest(out);
+    Ok(())
+}
+
+// An audit.
+#[derive(Drop)]
+struct Auditing<'a, R> {
+    doubted: Doubted<'a, R>,
+}
+
+impl<'a, R: Read + Drop> OnSet for Auditing<'a, R> {
+    type Out = Result<Verdict, ReadError>;
+
+    ghost gives = { λ c Z _ result. let d = c.doubted in
+        IsAnswer (R.remaining d.reader) (λ m. verdict_by
+        (judgement Z (Audit d.mode d.key.now d.context.now m d.signature.now))) result };
+
+    fn on<P: SetSuite>(self) -> Result<Verdict, ReadError> {
+        forest_sizes::<P>();
+        let (key, signature) = (self.doubted.key, self.doubted.signature);
+        let mut store = [0u8; MAX_DIGEST_LEN];
+        let digest = &mut store[..P::M::USIZE];
+        digest_read::<P, R>(self.doubted, digest)?;
+        Ok(audit_for_digest::<P>(key, digest, signature)?)
+    }
+}
+
+// A check of evidence.
+#[derive(Drop)]
+struct Checking<'a, R> {
+    doubted: Doubted<'a, R>,
+    evidence: Evidence,
+}
+
+impl<'a, R: Read + Drop> OnSet for Checking<'a, R> {
+    type Out = Result<bool, ReadError>;
+
+    ghost gives = { λ c Z _ result. let d = c.doubted in
+        IsAnswer (R.remaining d.reader) (λ m. shown_by
+        (judgement Z (Check d.mode d.key.now d.context.now m d.signature.now c.evidence))) result };
+
+    fn on<P: SetSuite>(self) -> Result<bool, ReadError> {
+        forest_sizes::<P>();
+        let Checking { doubted, evidence } = self;
+        let (key, signature) = (doubted.key, doubted.signature);
+        let mut store = [0u8; MAX_DIGEST_LEN];
+        let digest = &mut store[..P::M::USIZE];
+        digest_read::<P, R>(doubted, digest)?;
+        Ok(check_evidence_for_digest::<P>(key, digest, signature, &evidence)?)
+    }
+}
+
+/// Whether a signing key made a signature of what a reader gives, which it accepts. Reads once.
+pub fn audit<R: Read + Drop>(
+    key: &Key,
+    mode: Mode,
+    context: &[u8],
+    signature: &[u8],
+    reader: R,
+) -> Result<Verdict, ReadError>
+    ensures { IsAnswer (R.remaining reader) (λ m. verdict_by (judgement (scheme_for key.now.set)
+        (Audit mode key.now.bytes context.now m signature.now))) result }
+{
+    let doubted = Doubted {
+        mode,
+        key: key.bytes.as_slice(),
+        context,
+        signature,
+        reader,
+    };
+    key.set.run(Auditing { doubted })
+}
+
+/// Whether evidence shows against a signature of what a reader gives. Reads once.
+pub fn check_evidence<R: Read + Drop>(
+    key: &Key,
+    mode: Mode,
+    context: &[u8],
+    signature: &[u8],
+    evidence: Evidence,
+    reader: R,
+) -> Result<bool, ReadError>
+    ensures { IsAnswer (R.remaining reader) (λ m. shown_by (judgement (scheme_for key.now.set)
+        (Check mode key.now.bytes context.now m signature.now evidence))) result }
+{
+    let doubted = Doubted {
+        mode,
+        key: key.bytes.as_slice(),
+        context,
+        signature,
+        reader,
+    };
+    key.set.run(Checking { doubted, evidence })
+}
