@@ -1,5 +1,3 @@
-ghost use Rattle.std.specs.Prelude.{◌<◌};
-
 use hex::FromHex;
 use merkle_store::{Leaves, StoreError, push_path, push_proof};
 use merkle_tree::{
@@ -98,11 +96,49 @@ fn path_of_entry_4_of_5(rt: HostRuntime) {
     assert!(rt; !is_last_of_five(ROOTS[4], 6), "another size");
 }
 
-// Whether the proof shows that the tree of m entries grew into that of n.
-fn grew(m: usize, n: usize, proof: &[[u8; 32]]) -> bool
-    requires old { m < 9 }
-    requires new { n < 9 }
-{
+// A tree that grew, and the proof of it.
+struct Growth {
+    old: usize,
+    new: usize,
+    proof: &'static [&'static str],
+}
+
+const GROWTHS: [Growth; 3] = [
+    Growth {
+        old: 6,
+        new: 8,
+        proof: &[
+            "0ebc5d3437fbe2db158b9f126a1d118e308181031d0a949f8dededebc558ef6a",
+            "ca854ea128ed050b41b35ffc1b87b8eb2bde461e9e3b5596ece6b9d5975a0ae0",
+            "d37ee418976dd95753c1c73862b9398fa2a2cf9b4ff0fdfe8b30cd95209614b7",
+        ],
+    },
+    Growth {
+        old: 2,
+        new: 5,
+        proof: &[
+            "5f083f0a1a33ca076a95279832580db3e0ef4584bdff1f54c8a360f50de3031e",
+            "bc1a0643b12e4d2d7c77918f44e0f4f79a838b6cf9ec5b5c283e1f4d88599e6b",
+        ],
+    },
+    Growth {
+        old: 3,
+        new: 7,
+        proof: &[
+            "0298d122906dcfc10892cb53a73992fc5b9f493ea4c9badb27b791b4127a7fe7",
+            "07506a85fd9dd2f120eb694f86011e5bb4662e5c415a62917033d4a9624487e7",
+            "fac54203e7cc696cf0dfcb42c92a1d9dbaf70ad9e621f4bd8d98662f00e3c125",
+            "837dbb152e9b079010717e84e865da4ebc0fa198a806d59d31bf15accef22d0e",
+        ],
+    },
+];
+
+// Whether the proof shows that the tree of m entries grew into that of n; no where there is no such
+// tree here.
+fn grew(m: usize, n: usize, proof: &[[u8; 32]]) -> bool {
+    if m >= ROOTS.len() || n >= ROOTS.len() {
+        return false;
+    }
     check_consistency::<Sha256>(
         m as u64,
         n as u64,
@@ -113,51 +149,37 @@ fn grew(m: usize, n: usize, proof: &[[u8; 32]]) -> bool
 }
 
 #[test]
-fn six_entries_grew_into_eight(rt: HostRuntime) {
-    let proof = [
-        digest("0ebc5d3437fbe2db158b9f126a1d118e308181031d0a949f8dededebc558ef6a"),
-        digest("ca854ea128ed050b41b35ffc1b87b8eb2bde461e9e3b5596ece6b9d5975a0ae0"),
-        digest("d37ee418976dd95753c1c73862b9398fa2a2cf9b4ff0fdfe8b30cd95209614b7"),
-    ];
-    assert!(rt; grew(6, 8, &proof));
-    assert!(rt; !grew(5, 8, &proof), "fewer entries before");
-    assert!(rt; !grew(7, 8, &proof), "more entries before");
-    assert!(rt; !grew(6, 7, &proof), "fewer entries after");
-    assert!(rt; !grew(8, 6, &proof), "the other way round");
-    assert!(rt; !grew(6, 8, &proof[..2]), "a digest short");
-    assert!(rt; !grew(6, 8, &proof[1..]), "no first digest");
-}
-
-#[test]
-fn two_entries_grew_into_five(rt: HostRuntime) {
-    let proof = [
-        digest("5f083f0a1a33ca076a95279832580db3e0ef4584bdff1f54c8a360f50de3031e"),
-        digest("bc1a0643b12e4d2d7c77918f44e0f4f79a838b6cf9ec5b5c283e1f4d88599e6b"),
-    ];
-    assert!(rt; grew(2, 5, &proof));
-    assert!(rt; !grew(1, 5, &proof), "fewer entries before");
-    assert!(rt; !grew(3, 5, &proof), "more entries before");
-    assert!(rt; !grew(2, 4, &proof), "fewer entries after");
-    assert!(rt; !grew(5, 2, &proof), "the other way round");
-    assert!(rt; !grew(2, 5, &proof[..1]), "a digest short");
-    assert!(rt; !grew(2, 5, &proof[1..]), "no first digest");
-}
-
-#[test]
-fn three_entries_grew_into_seven(rt: HostRuntime) {
-    let proof = [
-        digest("0298d122906dcfc10892cb53a73992fc5b9f493ea4c9badb27b791b4127a7fe7"),
-        digest("07506a85fd9dd2f120eb694f86011e5bb4662e5c415a62917033d4a9624487e7"),
-        digest("fac54203e7cc696cf0dfcb42c92a1d9dbaf70ad9e621f4bd8d98662f00e3c125"),
-        digest("837dbb152e9b079010717e84e865da4ebc0fa198a806d59d31bf15accef22d0e"),
-    ];
-    assert!(rt; grew(3, 7, &proof));
-    assert!(rt; !grew(2, 7, &proof), "fewer entries before");
-    assert!(rt; !grew(4, 7, &proof), "more entries before");
-    assert!(rt; !grew(3, 6, &proof), "fewer entries after");
-    assert!(rt; !grew(7, 3, &proof), "the other way round");
-    assert!(rt; !grew(3, 7, &proof[..3]), "a digest short");
-    assert!(rt; !grew(3, 7, &proof[1..]), "no first digest");
+fn a_proof_is_for_one_growth(rt: HostRuntime) {
+    for Growth { old, new, proof } in &GROWTHS {
+        let (m, n, len) = (*old, *new, proof.len());
+        let mut digests = [[0; 32]; 4];
+        for (place, text) in digests.iter_mut().zip(*proof) {
+            *place = digest(text);
+        }
+        let proof = &digests[..len.min(4)];
+        assert!(rt; grew(m, n, proof), "{m} into {n}");
+        assert!(rt;
+            !grew(m.wrapping_sub(1), n, proof),
+            "{m} into {n}: fewer entries before"
+        );
+        assert!(rt;
+            !grew(m.wrapping_add(1), n, proof),
+            "{m} into {n}: more entries before"
+        );
+        assert!(rt;
+            !grew(m, n.wrapping_sub(1), proof),
+            "{m} into {n}: fewer entries after"
+        );
+        assert!(rt; !grew(n, m, proof), "{m} into {n}: the other way round");
+        assert!(rt;
+            !grew(m, n, &proof[..proof.len().saturating_sub(1)]),
+            "{m}: a digest short"
+        );
+        assert!(rt;
+            !grew(m, n, &proof[proof.len().min(1)..]),
+            "{m}: no first digest"
+        );
+    }
 }
 
 #[test]
@@ -227,49 +249,97 @@ where
     true
 }
 
+// What is made for a tree of `size` entries: the path of the entry at an index, and the proof that
+// it grew from `old` entries.
+struct Making {
+    size: usize,
+    index: usize,
+    old: usize,
+    digests: &'static [&'static str],
+}
+
+const MAKINGS: [Making; 6] = [
+    Making {
+        size: 8,
+        index: 5,
+        old: 6,
+        digests: &[
+            "bc1a0643b12e4d2d7c77918f44e0f4f79a838b6cf9ec5b5c283e1f4d88599e6b",
+            "ca854ea128ed050b41b35ffc1b87b8eb2bde461e9e3b5596ece6b9d5975a0ae0",
+            "d37ee418976dd95753c1c73862b9398fa2a2cf9b4ff0fdfe8b30cd95209614b7",
+            "0ebc5d3437fbe2db158b9f126a1d118e308181031d0a949f8dededebc558ef6a",
+            "ca854ea128ed050b41b35ffc1b87b8eb2bde461e9e3b5596ece6b9d5975a0ae0",
+            "d37ee418976dd95753c1c73862b9398fa2a2cf9b4ff0fdfe8b30cd95209614b7",
+        ],
+    },
+    Making {
+        size: 7,
+        index: 2,
+        old: 3,
+        digests: &[
+            "07506a85fd9dd2f120eb694f86011e5bb4662e5c415a62917033d4a9624487e7",
+            "fac54203e7cc696cf0dfcb42c92a1d9dbaf70ad9e621f4bd8d98662f00e3c125",
+            "837dbb152e9b079010717e84e865da4ebc0fa198a806d59d31bf15accef22d0e",
+            "0298d122906dcfc10892cb53a73992fc5b9f493ea4c9badb27b791b4127a7fe7",
+            "07506a85fd9dd2f120eb694f86011e5bb4662e5c415a62917033d4a9624487e7",
+            "fac54203e7cc696cf0dfcb42c92a1d9dbaf70ad9e621f4bd8d98662f00e3c125",
+            "837dbb152e9b079010717e84e865da4ebc0fa198a806d59d31bf15accef22d0e",
+        ],
+    },
+    Making {
+        size: 6,
+        index: 5,
+        old: 5,
+        digests: &[
+            "bc1a0643b12e4d2d7c77918f44e0f4f79a838b6cf9ec5b5c283e1f4d88599e6b",
+            "d37ee418976dd95753c1c73862b9398fa2a2cf9b4ff0fdfe8b30cd95209614b7",
+            "bc1a0643b12e4d2d7c77918f44e0f4f79a838b6cf9ec5b5c283e1f4d88599e6b",
+            "4271a26be0d8a84f0bd54c8c302e7cb3a3b5d1fa6780a40bcce2873477dab658",
+            "d37ee418976dd95753c1c73862b9398fa2a2cf9b4ff0fdfe8b30cd95209614b7",
+        ],
+    },
+    Making {
+        size: 5,
+        index: 4,
+        old: 2,
+        digests: &[
+            "d37ee418976dd95753c1c73862b9398fa2a2cf9b4ff0fdfe8b30cd95209614b7",
+            "5f083f0a1a33ca076a95279832580db3e0ef4584bdff1f54c8a360f50de3031e",
+            "bc1a0643b12e4d2d7c77918f44e0f4f79a838b6cf9ec5b5c283e1f4d88599e6b",
+        ],
+    },
+    Making {
+        size: 5,
+        index: 4,
+        old: 4,
+        digests: &[
+            "d37ee418976dd95753c1c73862b9398fa2a2cf9b4ff0fdfe8b30cd95209614b7",
+            "bc1a0643b12e4d2d7c77918f44e0f4f79a838b6cf9ec5b5c283e1f4d88599e6b",
+        ],
+    },
+    Making {
+        size: 1,
+        index: 0,
+        old: 1,
+        digests: &[],
+    },
+];
+
 #[test]
 fn paths_and_proofs_are_made(rt: HostRuntime) {
-    let made_8 = made(rt.alloc(), 8, 5, 6);
-    assert!(rt;
-        is_made(
-            made_8,
-            &[
-                "bc1a0643b12e4d2d7c77918f44e0f4f79a838b6cf9ec5b5c283e1f4d88599e6b",
-                "ca854ea128ed050b41b35ffc1b87b8eb2bde461e9e3b5596ece6b9d5975a0ae0",
-                "d37ee418976dd95753c1c73862b9398fa2a2cf9b4ff0fdfe8b30cd95209614b7",
-                "0ebc5d3437fbe2db158b9f126a1d118e308181031d0a949f8dededebc558ef6a",
-                "ca854ea128ed050b41b35ffc1b87b8eb2bde461e9e3b5596ece6b9d5975a0ae0",
-                "d37ee418976dd95753c1c73862b9398fa2a2cf9b4ff0fdfe8b30cd95209614b7",
-            ]
-        )
-    );
-    let made_7 = made(rt.alloc(), 7, 2, 3);
-    assert!(rt;
-        is_made(
-            made_7,
-            &[
-                "07506a85fd9dd2f120eb694f86011e5bb4662e5c415a62917033d4a9624487e7",
-                "fac54203e7cc696cf0dfcb42c92a1d9dbaf70ad9e621f4bd8d98662f00e3c125",
-                "837dbb152e9b079010717e84e865da4ebc0fa198a806d59d31bf15accef22d0e",
-                "0298d122906dcfc10892cb53a73992fc5b9f493ea4c9badb27b791b4127a7fe7",
-                "07506a85fd9dd2f120eb694f86011e5bb4662e5c415a62917033d4a9624487e7",
-                "fac54203e7cc696cf0dfcb42c92a1d9dbaf70ad9e621f4bd8d98662f00e3c125",
-                "837dbb152e9b079010717e84e865da4ebc0fa198a806d59d31bf15accef22d0e",
-            ]
-        )
-    );
-    let made_5 = made(rt.alloc(), 5, 4, 4);
-    assert!(rt;
-        is_made(
-            made_5,
-            &[
-                "d37ee418976dd95753c1c73862b9398fa2a2cf9b4ff0fdfe8b30cd95209614b7",
-                "bc1a0643b12e4d2d7c77918f44e0f4f79a838b6cf9ec5b5c283e1f4d88599e6b",
-            ]
-        )
-    );
-    let made_1 = made(rt.alloc(), 1, 0, 1);
-    assert!(rt; is_made(made_1, &[]));
+    for making in &MAKINGS {
+        let (n, i, m) = (making.size, making.index, making.old);
+        let of_levels = made(rt.alloc(), n, i, m);
+        assert!(rt;
+            is_made(of_levels, making.digests),
+            "of {n} entries, from {m}"
+        );
+        let of_store = stored(rt.alloc(), n as u64, i as u64, m as u64);
+        assert!(rt;
+            is_made(of_store, making.digests),
+            "of a store of {n} entries, from {m}"
+        );
+    }
 }
 
 #[test]
@@ -290,61 +360,4 @@ fn a_tree_is_resumed(rt: HostRuntime) {
         resumed.push(&leaf(ENTRIES[7]));
     }
     assert!(rt; resumed.root() == digest(ROOTS[8]));
-}
-
-#[test]
-fn paths_and_proofs_of_a_store(rt: HostRuntime) {
-    let made_8 = stored(rt.alloc(), 8, 5, 6);
-    assert!(rt;
-        is_made(
-            made_8,
-            &[
-                "bc1a0643b12e4d2d7c77918f44e0f4f79a838b6cf9ec5b5c283e1f4d88599e6b",
-                "ca854ea128ed050b41b35ffc1b87b8eb2bde461e9e3b5596ece6b9d5975a0ae0",
-                "d37ee418976dd95753c1c73862b9398fa2a2cf9b4ff0fdfe8b30cd95209614b7",
-                "0ebc5d3437fbe2db158b9f126a1d118e308181031d0a949f8dededebc558ef6a",
-                "ca854ea128ed050b41b35ffc1b87b8eb2bde461e9e3b5596ece6b9d5975a0ae0",
-                "d37ee418976dd95753c1c73862b9398fa2a2cf9b4ff0fdfe8b30cd95209614b7",
-            ]
-        )
-    );
-    let made_7 = stored(rt.alloc(), 7, 2, 3);
-    assert!(rt;
-        is_made(
-            made_7,
-            &[
-                "07506a85fd9dd2f120eb694f86011e5bb4662e5c415a62917033d4a9624487e7",
-                "fac54203e7cc696cf0dfcb42c92a1d9dbaf70ad9e621f4bd8d98662f00e3c125",
-                "837dbb152e9b079010717e84e865da4ebc0fa198a806d59d31bf15accef22d0e",
-                "0298d122906dcfc10892cb53a73992fc5b9f493ea4c9badb27b791b4127a7fe7",
-                "07506a85fd9dd2f120eb694f86011e5bb4662e5c415a62917033d4a9624487e7",
-                "fac54203e7cc696cf0dfcb42c92a1d9dbaf70ad9e621f4bd8d98662f00e3c125",
-                "837dbb152e9b079010717e84e865da4ebc0fa198a806d59d31bf15accef22d0e",
-            ]
-        )
-    );
-    let made_5 = stored(rt.alloc(), 5, 4, 2);
-    assert!(rt;
-        is_made(
-            made_5,
-            &[
-                "d37ee418976dd95753c1c73862b9398fa2a2cf9b4ff0fdfe8b30cd95209614b7",
-                "5f083f0a1a33ca076a95279832580db3e0ef4584bdff1f54c8a360f50de3031e",
-                "bc1a0643b12e4d2d7c77918f44e0f4f79a838b6cf9ec5b5c283e1f4d88599e6b",
-            ]
-        )
-    );
-    let made_6 = stored(rt.alloc(), 6, 5, 5);
-    assert!(rt;
-        is_made(
-            made_6,
-            &[
-                "bc1a0643b12e4d2d7c77918f44e0f4f79a838b6cf9ec5b5c283e1f4d88599e6b",
-                "d37ee418976dd95753c1c73862b9398fa2a2cf9b4ff0fdfe8b30cd95209614b7",
-                "bc1a0643b12e4d2d7c77918f44e0f4f79a838b6cf9ec5b5c283e1f4d88599e6b",
-                "4271a26be0d8a84f0bd54c8c302e7cb3a3b5d1fa6780a40bcce2873477dab658",
-                "d37ee418976dd95753c1c73862b9398fa2a2cf9b4ff0fdfe8b30cd95209614b7",
-            ]
-        )
-    );
 }
