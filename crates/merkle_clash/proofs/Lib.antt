@@ -2,3 +2,4 @@ pub mod Finding
 pub mod Proving
 pub mod Fitting
 pub mod Paths
+pub mod EntryPairs

@@ -1,5 +1,5 @@
 //! `slh log init` and `slh log append`.
-use crate::heads::{open_head, sign_head};
+use crate::heads::{SignHeadError, open_head, sign_head};
 use crate::lock;
 use crate::log_folder::LogFolder;
 use crate::resuming::resume;
@@ -9,10 +9,21 @@ use clap::ArgMatches;
 use log_files::{AppendError, Appending};
 use merkle_tree::{Sha256, TreeHash};
 use slh_arguments::{Randomness, required, required_all, signing_key};
-use slh_files::{Key, Outcome};
+use slh_files::{Key, KeyFileError, Outcome};
 use slh_log::{Checkpoint, CheckpointError};
 use slh_paths::{Failure, files};
 use slh_run::ByteString;
+
+// Why a checkpoint isn't made. The randomizer has as many bytes as its set's have.
+fn unsigned(error: CheckpointError) -> Failure<'static> {
+    match error {
+        CheckpointError::Origin => Failure::Told(
+            "--origin",
+            "not 1 to 255 bytes without spaces, plus signs and control characters",
+        ),
+        CheckpointError::Randomizer | CheckpointError::Memory => Failure::Memory,
+    }
+}
 
 // The checkpoint of a head.
 fn signed<'a>(
@@ -25,11 +36,8 @@ fn signed<'a>(
     let (bytes, random) = (key.bytes.as_slice(), randomness.of_set(key.set));
     match sign_head(folder.rt.alloc(), key.set, bytes, origin, head, random) {
         Ok(checkpoint) => Ok(checkpoint),
-        Err(CheckpointError::Origin) => Err(Failure::Told(
-            "--origin",
-            "not 1 to 255 bytes without spaces, plus signs and control characters",
-        )),
-        Err(CheckpointError::Randomizer | CheckpointError::Memory) => Err(Failure::Memory),
+        Err(SignHeadError::Key) => Err(Failure::Key("--key", KeyFileError::Length)),
+        Err(SignHeadError::Head(error)) => Err(unsigned(error)),
     }
 }
 
@@ -38,10 +46,7 @@ pub fn init<'s, 'a>(
     rt: &'s HostRuntime,
     words: &'s ArgMatches<'a>,
 ) -> Result<Outcome, Failure<'a>> {
-    let folder = LogFolder {
-        rt,
-        path: required(words, "folder")?,
-    };
+    let folder = LogFolder::of(rt, words)?;
     let origin = required(words, "origin")?;
     let key = signing_key(rt, words)?;
     let randomness = Randomness::new(rt, words)?;
@@ -53,10 +58,7 @@ pub fn init<'s, 'a>(
     need_folder(folder, "")?;
     lock::take(folder)?;
     let made = make_checkpoint(folder, checkpoint.as_slice());
-    let freed = lock::free(folder);
-    made?;
-    freed?;
-    Ok(Outcome::Done)
+    lock::free_after(folder, made)
 }
 
 // Adds an entry.
@@ -160,10 +162,7 @@ pub fn append<'s, 'a>(
     rt: &'s HostRuntime,
     words: &'s ArgMatches<'a>,
 ) -> Result<Outcome, Failure<'a>> {
-    let folder = LogFolder {
-        rt,
-        path: required(words, "folder")?,
-    };
+    let folder = LogFolder::of(rt, words)?;
     let paths = required_all(words, "files")?;
     check_standard(words, paths)?;
     let key = signing_key(rt, words)?;
@@ -171,8 +170,5 @@ pub fn append<'s, 'a>(
     folder.head()?;
     lock::take(folder)?;
     let done = append_to(folder, words, &key, &randomness, paths);
-    let freed = lock::free(folder);
-    done?;
-    freed?;
-    Ok(Outcome::Done)
+    lock::free_after(folder, done)
 }

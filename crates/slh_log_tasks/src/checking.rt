@@ -8,7 +8,7 @@ use crate::watching::refused_head;
 use clap::ArgMatches;
 use log_tiles::{Bundle, FULL, GrowingTiles, LEVELS, last_tile};
 use merkle_tree::{DIGEST_LEN, Sha256};
-use slh_arguments::{required, tell, verifying_key};
+use slh_arguments::{tell, verifying_key};
 use slh_files::Outcome;
 use slh_log::OpenError;
 use slh_paths::Failure;
@@ -124,10 +124,7 @@ fn tell_ahead<'a>(folder: LogFolder<'_, 'a>, size: u64) -> Result<(), Failure<'a
 
 /// Tells whether the files of a log are those of its entries, and its checkpoint that of them.
 pub fn check<'a>(rt: &HostRuntime, words: &ArgMatches<'a>) -> Result<Outcome, Failure<'a>> {
-    let folder = LogFolder {
-        rt,
-        path: required(words, "folder")?,
-    };
+    let folder = LogFolder::of(rt, words)?;
     let head = folder.head()?;
     let is_opened = opened(folder, words, &head)?;
     let size = head.checkpoint.size;

@@ -2,8 +2,9 @@
 ghost use Rattle.std.specs.Prelude.{◌≡◌, IfOk};
 ghost use Rattle.std.specs.Option.{option_copied};
 ghost use Rattle.slh_log.specs.Texts.{signed_checkpoint};
-ghost use Rattle.slh_log_tasks.specs.Heads.{IsHeadBy};
+ghost use Rattle.slh_log_tasks.specs.Heads.{IsHeadBy, no_memory, sign_refusal};
 ghost use Rattle.slh_sets.specs.Sets.{name_of, scheme_for};
+ghost use Rattle.slh_trees.specs.Refusals.{RefusedOrNoMemory};
 
 use slh_dsa::{ParameterSet, SigningKey, VerifyingKey};
 use slh_log::{Checkpoint, CheckpointError, OpenError, checkpoint, open};
@@ -47,6 +48,15 @@ pub fn open_head(set: Set, key: &[u8], origin: &str, bytes: &[u8]) -> Result<Che
     set.run(Opening { key, origin, bytes })
 }
 
+/// Why a head isn't signed, the first of the causes in this order.
+#[derive(Clone, Copy, Debug, PartialEq, Eq)]
+pub enum SignHeadError {
+    /// The bytes are no key of the set.
+    Key,
+    /// The checkpoint isn't made.
+    Head(CheckpointError),
+}
+
 // A head that is to be signed.
 #[derive(Drop)]
 struct Signing<'a> {
@@ -64,31 +74,38 @@ fn sign_by<P: ParameterSet>(
     origin: &str,
     head: Checkpoint,
     opt_rand: Option<&[u8]>,
-) -> Result<Vec<u8>, CheckpointError>
-    ensures { let opt_rand = option_copied opt_rand.entry in
+) -> Result<Vec<u8>, SignHeadError>
+    ensures refusal { let opt_rand = option_copied opt_rand.entry in
+        RefusedOrNoMemory no_memory result
+        (sign_refusal P.scheme key.now origin.now opt_rand) }
+    ensures value { let opt_rand = option_copied opt_rand.entry in
         IfOk result (λ note. note.items
         ≡ signed_checkpoint P.scheme P.set_name key.now opt_rand origin.now head.size head.root) }
 {
     let Ok(key) = SigningKey::<P>::try_from(key) else {
-        return Err(CheckpointError::Memory);
+        return Err(SignHeadError::Key);
     };
-    checkpoint(alloc, &key, origin, head.size, &head.root, opt_rand)
+    match checkpoint(alloc, &key, origin, head.size, &head.root, opt_rand) {
+        Ok(note) => Ok(note),
+        Err(error) => Err(SignHeadError::Head(error)),
+    }
 }
 
 impl<'a> OnSet for Signing<'a> {
-    type Out = Result<Vec<u8>, CheckpointError>;
+    type Out = Result<Vec<u8>, SignHeadError>;
 
     ghost gives = { λ c Z name result. let opt_rand = option_copied c.opt_rand in
-        IfOk result (λ note. note.items ≡ signed_checkpoint Z name c.key.now opt_rand c.origin.now
+        RefusedOrNoMemory no_memory result (sign_refusal Z c.key.now c.origin.now opt_rand)
+        × IfOk result (λ note. note.items ≡ signed_checkpoint Z name c.key.now opt_rand c.origin.now
         c.head.size c.head.root) };
 
-    fn on<P: SetSuite>(self) -> Result<Vec<u8>, CheckpointError> {
+    fn on<P: SetSuite>(self) -> Result<Vec<u8>, SignHeadError> {
         sign_by::<P>(self.alloc, self.key, self.origin, self.head, self.opt_rand)
     }
 }
 
 /// The checkpoint of a head under an origin, by a signing key of a set, as [`slh_log::checkpoint`]
-/// makes it. Bytes that are no key of the set are refused as want of memory is.
+/// makes it. `Key`; `Head` with the cause that it tells.
 pub fn sign_head(
     alloc: Global,
     set: Set,
@@ -96,8 +113,11 @@ pub fn sign_head(
     origin: &str,
     head: Checkpoint,
     opt_rand: Option<&[u8]>,
-) -> Result<Vec<u8>, CheckpointError>
-    ensures { let opt_rand = option_copied opt_rand.entry in
+) -> Result<Vec<u8>, SignHeadError>
+    ensures refusal { let opt_rand = option_copied opt_rand.entry in
+        RefusedOrNoMemory no_memory result
+        (sign_refusal (scheme_for set) key.now origin.now opt_rand) }
+    ensures value { let opt_rand = option_copied opt_rand.entry in
         IfOk result (λ note. note.items ≡ signed_checkpoint (scheme_for set) (name_of set)
         key.now opt_rand origin.now head.size head.root) }
 {

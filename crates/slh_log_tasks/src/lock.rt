@@ -1,6 +1,7 @@
 //! One writer at a time.
 use crate::log_folder::{LOCK, LogFolder};
 use log_files::{Piece, free_lock, take_lock};
+use slh_files::Outcome;
 use slh_paths::files::read_front;
 use slh_paths::{Failure, random};
 use std::alloc::AllocError;
@@ -71,12 +72,23 @@ pub fn take<'a>(folder: LogFolder<'_, 'a>) -> Result<(), Failure<'a>> {
     }
 }
 
-/// Frees the lock of a folder.
-pub fn free<'a>(folder: LogFolder<'_, 'a>) -> Result<(), Failure<'a>> {
+// Frees the lock of a folder.
+fn free<'a>(folder: LogFolder<'_, 'a>) -> Result<(), Failure<'a>> {
     let path = folder.path_of(LOCK)?;
     let mut files = HostFiles::new(folder.rt);
     match free_lock(&mut files, path.as_str()) {
         Ok(()) => Ok(()),
         Err(_) => Err(folder.failed(LOCK, fault_of(&mut files))),
     }
+}
+
+/// Frees the lock of a folder, and tells what came of what was done under it.
+pub fn free_after<'a>(
+    folder: LogFolder<'_, 'a>,
+    done: Result<(), Failure<'a>>,
+) -> Result<Outcome, Failure<'a>> {
+    let freed = free(folder);
+    done?;
+    freed?;
+    Ok(Outcome::Done)
 }

@@ -1,5 +1,7 @@
 //! The files of a log below a folder.
+use clap::ArgMatches;
 use log_tiles::{Bundle, MAX_ENTRY_LEN, NameError, Tile, TileSource};
+use slh_arguments::required;
 use slh_log::{Checkpoint, read_unverified};
 use slh_paths::Failure;
 use slh_paths::files::read_front;
@@ -37,6 +39,14 @@ pub struct Head {
 }
 
 impl<'s, 'a> LogFolder<'s, 'a> {
+    /// The folder that the words name.
+    pub fn of(rt: &'s HostRuntime, words: &ArgMatches<'a>) -> Result<Self, Failure<'a>> {
+        Ok(LogFolder {
+            rt,
+            path: required(words, "folder")?,
+        })
+    }
+
     /// The path of a file below the folder.
     pub fn path_of(&self, name: &str) -> Result<String, AllocError> {
         let folder = self.path;

@@ -1,8 +1,13 @@
 //! Proofs as the text that they are kept and sent in.
-ghost use Rattle.std.specs.Prelude.{◌≡◌, ◌++◌, ◌∷◌, [], IfOk, OnOk, take, decimal};
+ghost use Rattle.std.specs.Prelude.{◌≡◌, ℕ, ◌+◌, ◌≤◌, ◌++◌, ◌∷◌, [], List, length, take, decimal};
+ghost use Rattle.std.specs.Prelude.{IfErr, IfOk, IfSome, MatchOption, MatchResult, OnOk};
+ghost use Rattle.line_serve.specs.Lines.{parts};
+ghost use Rattle.slh_log.specs.Reading.{bytes_value};
 ghost use Rattle.slh_log.specs.Texts.{base64_of};
-ghost use Rattle.slh_log_tasks.specs.ProofFiles.{digest_line, digest_lines, front_of};
+ghost use Rattle.slh_log_tasks.specs.ProofFiles.{AreDigests, IsProofText, digest_line};
+ghost use Rattle.slh_log_tasks.specs.ProofFiles.{digest_lines, front_of};
 ghost use Rattle.slh_log_tasks.specs.ProofFiles.{proof_text as spec_proof_text};
+ghost use Rattle.slh_log_tasks.specs.declared.proof_files.ProofError.TheVariants.{Memory};
 
 use base64::engine::general_purpose::STANDARD;
 use itoa::Buffer;
@@ -56,6 +61,11 @@ pub enum ProofError {
 }
 
 impl From<AllocError> for ProofError {
+    ghost use Rattle.std.specs.Prelude.{◌≡◌};
+    ghost use Rattle.slh_log_tasks.specs.declared.proof_files.ProofError.TheVariants.{Memory};
+
+    ghost from_gives = { λ _ e. e ≡ Memory };
+
     fn from(_error: AllocError) -> Self {
         ProofError::Memory
     }
@@ -110,23 +120,45 @@ pub fn proof_text(
     Ok(text)
 }
 
-// The first line, and what follows its line feed.
-fn cut_line(bytes: &[u8]) -> Option<(&[u8], &[u8])> {
+// The first line, and what follows its line feed. `None`: there is no line feed.
+fn cut_line(bytes: &[u8]) -> Option<(&[u8], &[u8])>
+    ensures cut { MatchOption result (parts bytes.now ≡ bytes.now ∷ [])
+        (λ cut. parts bytes.now ≡ cut.0.now ∷ parts cut.1.now) }
+    ensures shorter { IfSome result
+        (λ cut. length cut.0.now + 1 + length cut.1.now ≡ length bytes.now) }
+{
     match memchr(b'\n', bytes) {
         Some(at) => Some((&bytes[..at], &bytes[at + 1..])),
         None => None,
     }
 }
 
-// The digest of a line.
-fn digest_of(line: &[u8]) -> Option<[u8; DIGEST_LEN]> {
+// The digest that a line is the base64 of.
+fn digest_of(line: &[u8]) -> Option<[u8; DIGEST_LEN]>
+    ensures { result ≡ bytes_value 32 line.now }
+{
     let mut digest = [0u8; DIGEST_LEN];
     if line.len() != DIGEST_LEN.div_ceil(3) * 4 {
         return None;
     }
-    match STANDARD.decode_slice(line, &mut digest) {
-        Ok(DIGEST_LEN) => Some(digest),
-        _ => None,
+    let Ok(len) = STANDARD.decode_slice(line, &mut digest) else {
+        return None;
+    };
+    if len == DIGEST_LEN {
+        Some(digest)
+    } else {
+        None
+    }
+}
+
+// Puts a digest at the end.
+fn push(all: &mut Vec<[u8; DIGEST_LEN]>, digest: [u8; DIGEST_LEN]) -> Result<(), ProofError>
+    ensures ok { OnOk result (all.new.items ≡ all.old.items ++ digest ∷ []) }
+    ensures err { IfErr result (λ e. e ≡ Memory) }
+{
+    match all.push(digest) {
+        Ok(()) => Ok(()),
+        Err(_) => Err(ProofError::Memory),
     }
 }
 
@@ -134,29 +166,41 @@ fn digest_of(line: &[u8]) -> Option<[u8; DIGEST_LEN]> {
 fn read_digests<'a>(
     alloc: Global,
     bytes: &'a [u8],
-) -> Result<(Vec<[u8; DIGEST_LEN]>, &'a [u8]), ProofError> {
+) -> Result<(Vec<[u8; DIGEST_LEN]>, &'a [u8]), ProofError>
+    ensures few { IfOk result (λ read. length read.0.items ≤ 64) }
+    ensures read { (digests : List (List ℕ)) (rest : List ℕ) → AreDigests digests
+        → bytes.now ≡ digest_lines digests ++ 10 ∷ rest
+        → MatchResult result (λ read. (read.0.items ≡ digests) × (read.1.now ≡ rest))
+        (λ e. e ≡ Memory) }
+{
     let mut digests = Vec::new(alloc);
     let mut rest = bytes;
-    for _ in 0..=MAX_DIGESTS {
-        let Some((line, later)) = cut_line(rest) else {
-            return Err(ProofError::Form);
-        };
+    'each_line: while let Some((line, later)) = cut_line(rest) {
         if line.is_empty() {
             return Ok((digests, later));
         }
         let Some(digest) = digest_of(line) else {
             return Err(ProofError::Form);
         };
-        if digests.push(digest).is_err() {
-            return Err(ProofError::Memory);
+        if digests.len() == MAX_DIGESTS {
+            return Err(ProofError::Form);
         }
+        push(&mut digests, digest)?;
         rest = later;
     }
     Err(ProofError::Form)
 }
 
-// What a proof has, read without care.
-fn parts_of<'a>(alloc: Global, purpose: Purpose, bytes: &'a [u8]) -> Result<Proof<'a>, ProofError> {
+// What a proof has, where its text is written again as it stands.
+fn parts_of<'a>(alloc: Global, purpose: Purpose, bytes: &'a [u8]) -> Result<Proof<'a>, ProofError>
+    ensures few { IfOk result (λ proof. length proof.digests.items ≤ 64) }
+    ensures read { (number : ℕ) (digests : List (List ℕ)) (checkpoint : List ℕ)
+        → IsProofText purpose bytes.now number digests checkpoint
+        → MatchResult result
+        (λ proof. (proof.number ≡ number) × (proof.digests.items ≡ digests)
+        × (proof.checkpoint.now ≡ checkpoint))
+        (λ e. e ≡ Memory) }
+{
     let Some(rest) = bytes.strip_prefix(purpose.front()) else {
         return Err(ProofError::Form);
     };
@@ -174,14 +218,22 @@ fn parts_of<'a>(alloc: Global, purpose: Purpose, bytes: &'a [u8]) -> Result<Proo
     })
 }
 
-/// What the text of a proof has. It is the one text of what was read: no other spelling passes.
+/// What the text of a proof has. It is the one text of what was read: no other spelling passes, and
+/// each such text does. `Form`; `Memory`.
 pub fn read_proof<'a>(
     alloc: Global,
     purpose: Purpose,
     bytes: &'a [u8],
 ) -> Result<Proof<'a>, ProofError>
-    ensures { IfOk result (λ proof. bytes.now
+    ensures text { IfOk result (λ proof. bytes.now
         ≡ spec_proof_text purpose proof.number proof.digests.items proof.checkpoint.now) }
+    ensures few { IfOk result (λ proof. length proof.digests.items ≤ 64) }
+    ensures read { (number : ℕ) (digests : List (List ℕ)) (checkpoint : List ℕ)
+        → IsProofText purpose bytes.now number digests checkpoint
+        → MatchResult result
+        (λ proof. (proof.number ≡ number) × (proof.digests.items ≡ digests)
+        × (proof.checkpoint.now ≡ checkpoint))
+        (λ e. e ≡ Memory) }
 {
     let proof = parts_of(alloc, purpose, bytes)?;
     let digests = proof.digests.as_slice();

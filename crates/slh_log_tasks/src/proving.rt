@@ -6,7 +6,6 @@ use crate::resuming::last_tiles;
 use clap::ArgMatches;
 use log_tiles::{TileError, prove_growth, prove_presence};
 use merkle_tree::{Sha256, TreeHash};
-use slh_arguments::required;
 use slh_files::Outcome;
 use slh_log::decimal_size;
 use slh_paths::{Failure, files, outputs};
@@ -91,10 +90,7 @@ fn growth<'a>(
 
 /// Writes the proof that an entry is in a log, or that the log grew from some size.
 pub fn prove<'a>(rt: &HostRuntime, words: &ArgMatches<'a>) -> Result<Outcome, Failure<'a>> {
-    let folder = LogFolder {
-        rt,
-        path: required(words, "folder")?,
-    };
+    let folder = LogFolder::of(rt, words)?;
     let head = folder.head()?;
     let proof = match (words.get_str("index"), words.get_str("from")) {
         (Some(index), None) => presence(folder, &head, number_of("INDEX", index)?)?,

@@ -3,7 +3,7 @@ use crate::proof_files::{Proof, ProofError, Purpose, read_proof};
 use crate::verdicts::{EntryError, LogError, Signer, check_entry, check_log};
 use clap::ArgMatches;
 use slh_arguments::{required, tell, verifying_key};
-use slh_files::Outcome;
+use slh_files::{Key, Outcome};
 use slh_log::{GrowthError, OpenError, PresenceError, read_unverified};
 use slh_paths::{Failure, files};
 use std::alloc::Global;
@@ -46,6 +46,15 @@ fn check_standard(words: &ArgMatches<'_>, names: &[&str]) -> Result<(), Failure<
     Ok(())
 }
 
+// The signer with a key and an origin.
+fn signer_of<'k>(key: &'k Key, origin: &'k str) -> Signer<'k> {
+    Signer {
+        set: key.set,
+        key: key.bytes.as_slice(),
+        origin,
+    }
+}
+
 // The proof that the bytes of a file are.
 fn proof_of<'b, 'a>(
     alloc: Global,
@@ -69,11 +78,7 @@ pub fn verify<'a>(rt: &HostRuntime, words: &ArgMatches<'a>) -> Result<Outcome, F
     check_standard(words, &["key", "checkpoint", "proof", "file"])?;
     let key = verifying_key(rt, words)?;
     let (path, file) = (required(words, "proof")?, required(words, "file")?);
-    let signer = Signer {
-        set: key.set,
-        key: key.bytes.as_slice(),
-        origin: required(words, "origin")?,
-    };
+    let signer = signer_of(&key, required(words, "origin")?);
     let bytes = files::read_limited(rt, path)?;
     let proof = proof_of(rt.alloc(), path, Purpose::Presence, bytes.as_slice())?;
     let entry = files::read_limited(rt, file)?;
@@ -115,11 +120,7 @@ pub fn growth<'a>(rt: &HostRuntime, words: &ArgMatches<'a>) -> Result<Outcome, F
     let key = verifying_key(rt, words)?;
     let (old, new) = (required(words, "old")?, required(words, "new")?);
     let path = required(words, "proof")?;
-    let signer = Signer {
-        set: key.set,
-        key: key.bytes.as_slice(),
-        origin: required(words, "origin")?,
-    };
+    let signer = signer_of(&key, required(words, "origin")?);
     let old_bytes = files::read_limited(rt, old)?;
     let new_bytes = files::read_limited(rt, new)?;
     let bytes = files::read_limited(rt, path)?;
