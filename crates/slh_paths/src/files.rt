@@ -1,6 +1,7 @@
 //! Inputs: the file that is signed is read in pieces or whole, and each other one whole, up to a
 //! limit.
 use crate::failure::Failure;
+use crate::progress::Progress;
 use slh_files::gather;
 use slh_run::ByteString;
 use std::alloc::AllocError;
@@ -14,39 +15,60 @@ pub const STANDARD: &str = "-";
 /// The most bytes of a key, a signature, a receipt, a chain, a manifest, a master or a record.
 const MOST: u64 = 1 << 24;
 
-/// Where the bytes of an input come from.
+// Where the bytes of an input come from.
 #[derive(Drop)]
-pub enum Reader {
+enum Source {
     Standard(StdinLock<'static>),
     File(File),
 }
 
-impl Read for Reader {
+impl Read for Source {
     fn read(&mut self, buf: &mut [u8]) -> io::Result<usize> {
         match self {
-            Reader::Standard(input) => input.read(buf),
-            Reader::File(file) => file.read(buf),
+            Source::Standard(input) => input.read(buf),
+            Source::File(file) => file.read(buf),
         }
+    }
+}
+
+/// The bytes of an input. How many were read is told on a terminal.
+#[derive(Drop)]
+pub struct Reader {
+    source: Source,
+    progress: Progress,
+}
+
+impl Read for Reader {
+    fn read(&mut self, buf: &mut [u8]) -> io::Result<usize> {
+        let read = self.source.read(buf);
+        self.progress.count(&read);
+        read
     }
 }
 
 impl Reader {
     /// A file, or standard input where the path is `-`.
     pub fn open<'a>(rt: &HostRuntime, path: &'a str) -> Result<Reader, Failure<'a>> {
-        if path == STANDARD {
-            return Ok(Reader::Standard(rt.reader()));
-        }
-        match fs::open(rt, path) {
-            Ok(file) => Ok(Reader::File(file)),
-            Err(error) => Err(Failure::File(path, error)),
-        }
+        let source = if path == STANDARD {
+            Source::Standard(rt.reader())
+        } else {
+            match fs::open(rt, path) {
+                Ok(file) => Source::File(file),
+                Err(error) => return Err(Failure::File(path, error)),
+            }
+        };
+        Ok(Reader {
+            source,
+            progress: Progress::new(rt),
+        })
     }
 
     /// The regular file that it is, which can be read twice, or the reader again.
     pub fn into_regular(self) -> Result<File, Reader> {
-        match self {
-            Reader::File(file) if is_regular(&file) => Ok(file),
-            reader => Err(reader),
+        let Reader { source, progress } = self;
+        match source {
+            Source::File(file) if is_regular(&file) => Ok(file),
+            source => Err(Reader { source, progress }),
         }
     }
 
@@ -67,16 +89,22 @@ fn is_regular(file: &File) -> bool {
     }
 }
 
-/// A file from its start on, whatever was read of it before.
+/// A file from its start on, whatever was read of it before. How much was read is told on a
+/// terminal.
 #[derive(Drop)]
 pub struct FromStart<'f> {
     file: &'f File,
     begun: bool,
+    progress: Progress,
 }
 
 impl<'f> FromStart<'f> {
-    pub fn new(file: &'f File) -> Self {
-        FromStart { file, begun: false }
+    pub fn new(rt: &HostRuntime, file: &'f File) -> Self {
+        FromStart {
+            file,
+            begun: false,
+            progress: Progress::new(rt),
+        }
     }
 }
 
@@ -87,7 +115,9 @@ impl<'f> Read for FromStart<'f> {
             file.seek(SeekFrom::Start(0))?;
             self.begun = true;
         }
-        file.read(buf)
+        let read = file.read(buf);
+        self.progress.count(&read);
+        read
     }
 }
 

@@ -2,17 +2,20 @@
 //! it tells of one that can't be read or written.
 //!
 //! An input is read whole or in pieces ([`files`]), an output is written whole or not at all and
-//! never in the place of a secret ([`outputs`]), and the files below a folder are a store that
-//! follows no link ([`folder`]).
+//! never in the place of a secret ([`put_whole`] over any file system, [`outputs`] on the system),
+//! and the files below a folder are a store that follows no link ([`folder`]).
 #![tactic(auto)]
 
 mod failure;
 pub mod files;
 pub mod folder;
 pub mod outputs;
+mod progress;
 mod randomness;
 mod secrets;
 pub mod shown;
+mod whole_outputs;
 
 pub use failure::Failure;
 pub use randomness::random;
+pub use whole_outputs::{Fronts, PutError, put_whole};

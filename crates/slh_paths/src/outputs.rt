@@ -1,14 +1,16 @@
-//! Outputs: each file is written whole or not at all, and no secret is replaced.
+//! Outputs on the system: each file is written whole or not at all, and no secret is replaced.
 ghost use Rattle.std.specs.Prelude.{◌≢◌, IfOk, string_bytes};
 
 use crate::failure::Failure;
 use crate::files::{STANDARD, read_front};
 use crate::randomness::random;
-use crate::secrets::{FRONT, holds_secret};
+use crate::secrets::FRONT;
+use crate::whole_outputs::{Fronts, PutError, put_whole};
+use slh_run::ByteString;
 use std::fs::{self, OpenFile, OpenOptions};
 use std::io::{self, ErrorKind, Write};
 use whole_files::{
-    HostFiles, WriteError, Written, are_apart, make_pair, make_secret, part_name, write_whole,
+    Failed, HostFiles, WriteError, Written, are_apart, make_pair, make_secret, part_name,
 };
 
 // Another name of standard output. A whole write would take the place of the file behind it.
@@ -29,7 +31,7 @@ pub fn put<'a>(rt: &HostRuntime, path: &'a str, bytes: &[u8]) -> Result<(), Fail
         };
     }
     match target_of(rt, path) {
-        Ok(Target::Whole(target)) => put_whole(rt, (path, ""), target.as_str(), bytes),
+        Ok(Target::Whole(target)) => put_at(rt, (path, ""), target.as_str(), bytes),
         Ok(Target::InPlace) => match write_in_place(rt, path, bytes) {
             Ok(()) => Ok(()),
             Err(error) => Err(Failure::File(path, error)),
@@ -47,7 +49,7 @@ pub fn put_beside<'a>(
     bytes: &[u8],
 ) -> Result<(), Failure<'a>> {
     let output = format!(in rt.alloc(); "{path}{end}")?;
-    put_whole(rt, (path, end), output.as_str(), bytes)
+    put_at(rt, (path, end), output.as_str(), bytes)
 }
 
 // What an output's path leads to.
@@ -99,36 +101,56 @@ fn write_in_place(rt: &HostRuntime, path: &str, bytes: &[u8]) -> io::Result<()> 
     file.write_all(bytes)
 }
 
+// The first bytes of the system's files.
+#[derive(Drop)]
+struct HostFronts<'r> {
+    // why some couldn't be read: the last ones that couldn't
+    fault: Option<io::Error>,
+    rt: &'r HostRuntime,
+}
+
+impl<'r> Fronts<HostFiles<'r>> for HostFronts<'r> {
+    fn front(&mut self, _files: &HostFiles<'r>, path: &str) -> Result<ByteString, Failed> {
+        match read_front(self.rt, path, FRONT) {
+            Ok(front) => Ok(front),
+            Err(error) => {
+                self.fault = Some(error);
+                Err(Failed)
+            }
+        }
+    }
+}
+
 // Writes a file, which is told of under a path and an ending, at the path where it stands.
-fn put_whole<'a>(
+fn put_at<'a>(
     rt: &HostRuntime,
     name: (&'a str, &'static str),
     path: &str,
     bytes: &[u8],
 ) -> Result<(), Failure<'a>> {
-    check_secret(rt, name, path)?;
     let part = part_of(rt, path)?;
     let mut files = HostFiles::new(rt);
-    let written = write_whole(&mut files, path, part.as_str(), bytes);
-    told(name, written, files.fault.take())
-}
-
-// Refuses to replace a secret.
-fn check_secret<'a>(
-    rt: &HostRuntime,
-    name: (&'a str, &'static str),
-    path: &str,
-) -> Result<(), Failure<'a>> {
-    match fs::symlink_metadata(rt, path) {
-        Ok(found) if found.is_file() => (),
-        _ => return Ok(()),
-    }
-    match read_front(rt, path, FRONT) {
-        Ok(bytes) if holds_secret(rt.alloc(), bytes.as_slice())? => {
+    let mut fronts = HostFronts { fault: None, rt };
+    let (alloc, part) = (rt.alloc(), part.as_str());
+    match put_whole(alloc, &mut files, &mut fronts, path, part, bytes) {
+        Ok(written) => told(name, Ok(written), files.fault.take()),
+        Err(PutError::Write(error)) => told(name, Err(error), files.fault.take()),
+        Err(PutError::Secret) => {
             Err(Failure::NewTold(name.0, name.1, "a secret, which is not replaced"))
         }
-        Ok(_) => Ok(()),
-        Err(error) => Err(Failure::NewFile(name.0, name.1, error)),
+        Err(PutError::Unread) => {
+            let fault = known(fronts.fault.take());
+            Err(Failure::NewFile(name.0, name.1, fault))
+        }
+        Err(PutError::Memory) => Err(Failure::Memory),
+    }
+}
+
+// The error of a call that failed.
+fn known(fault: Option<io::Error>) -> io::Error {
+    match fault {
+        Some(fault) => fault,
+        None => io::Error::from(ErrorKind::Other),
     }
 }
 
@@ -186,10 +208,7 @@ fn told<'a>(
     fault: Option<io::Error>,
 ) -> Result<(), Failure<'a>> {
     let (path, end) = name;
-    let fault = match fault {
-        Some(fault) => fault,
-        None => io::Error::from(ErrorKind::Other),
-    };
+    let fault = known(fault);
     match written {
         Ok(Written::Settled) => Ok(()),
         Ok(Written::Unsettled) => Err(Failure::Unsettled(path, end, fault)),

@@ -1,9 +1,14 @@
 //! Files that are never replaced, since they hold a secret.
-use slh_files::{Kind, digits_of, read_key};
+ghost use Rattle.std.specs.Prelude.{◌≡◌, IfOk, is_some};
+ghost use Rattle.slh_files.specs.Places.{first_place};
+ghost use Rattle.slh_paths.specs.Secrets.{is_key as spec_is_key, is_master as spec_is_master};
+ghost use Rattle.slh_paths.specs.Secrets.{is_secret};
+
+use slh_files::{KeyFileError, Kind, digits_of, read_key};
 use std::alloc::{AllocError, Global};
 
 /// How many of a file's first bytes are looked into.
-pub const FRONT: u64 = 1 << 16;
+pub(crate) const FRONT: u64 = 1 << 16;
 
 // The most bytes of a master's file.
 const MOST_MASTER: usize = 1 << 12;
@@ -13,17 +18,44 @@ const LABEL: &[u8] = b"PRIVATE KEY";
 
 /// Whether bytes may be a secret key in PEM, a line `SET KEY` of a signing key, or a master secret:
 /// up to 4096 bytes of nothing but hexadecimal digits and blanks.
-pub fn holds_secret(alloc: Global, bytes: &[u8]) -> Result<bool, AllocError> {
-    if bytes.windows(LABEL.len()).any(|part| part == LABEL) {
+#[tactic(auto, unfolding(crate::specs::Secrets::is_secret))]
+pub(crate) fn holds_secret(alloc: Global, bytes: &[u8]) -> Result<bool, AllocError>
+    ensures { IfOk result (λ is. is ≡ is_secret bytes.now) }
+{
+    if stands_in(bytes, LABEL) {
         return Ok(true);
     }
-    if read_key(alloc, Kind::Signing, bytes).is_ok() {
+    if is_key(alloc, bytes)? {
         return Ok(true);
     }
-    holds_master(alloc, bytes)
+    is_master(alloc, bytes)
 }
 
-fn holds_master(alloc: Global, bytes: &[u8]) -> Result<bool, AllocError> {
+// Whether a mark stands in a text.
+fn stands_in(text: &[u8], mark: &[u8]) -> bool
+    ensures { result ≡ is_some (first_place mark.now text.now) }
+{
+    for at in 0..text.len() {
+        if text[at..].starts_with(mark) {
+            return true;
+        }
+    }
+    false
+}
+
+fn is_key(alloc: Global, bytes: &[u8]) -> Result<bool, AllocError>
+    ensures { IfOk result (λ is. is ≡ spec_is_key bytes.now) }
+{
+    match read_key(alloc, Kind::Signing, bytes) {
+        Ok(_) => Ok(true),
+        Err(KeyFileError::Memory) => Err(AllocError),
+        Err(_) => Ok(false),
+    }
+}
+
+fn is_master(alloc: Global, bytes: &[u8]) -> Result<bool, AllocError>
+    ensures { IfOk result (λ is. is ≡ spec_is_master bytes.now) }
+{
     if bytes.len() > MOST_MASTER {
         return Ok(false);
     }

@@ -1,0 +1,29 @@
+-- What the files begin with that are never replaced.
+use Rattle.std.specs.Prelude.{◌==◌, ◌||◌, ℕ, Bool, false, List, Option, None, Some, codes, length, not}
+use Rattle.std.specs.Prelude.{if◌then◌else◌, is_ok, is_some, nat_lt}
+use Rattle.slh_files.specs.Lines.{squeezed}
+use Rattle.slh_files.specs.Places.{first_place}
+use Rattle.slh_files.specs.Reading.{key_in}
+use Rattle.slh_files.specs.Signatures.{digits_value}
+use Rattle.slh_files.specs.declared.key.Kind.TheVariants.{Signing}
+
+-- what stands in each PEM label of a secret key (RFC 7468), whatever its kind and form
+abbrev pub secret_label : List ℕ
+secret_label = codes "PRIVATE KEY"
+
+-- a key in PEM, or a line SET KEY, of a signing key
+abbrev pub is_key : List ℕ → Bool
+is_key bytes = is_ok (key_in Signing bytes)
+
+abbrev pub has_bytes : Option (List ℕ) → Bool
+has_bytes None = false
+has_bytes (Some bytes) = not (length bytes == 0)
+
+-- up to 4096 bytes of nothing but hexadecimal digits and blanks
+abbrev pub is_master : List ℕ → Bool
+is_master bytes =
+    if nat_lt 4096 (length bytes) then false else has_bytes (digits_value (squeezed bytes))
+
+-- a secret key in PEM, a line SET KEY of a signing key, or a master
+unfoldable pub is_secret : List ℕ → Bool
+is_secret bytes = is_some (first_place secret_label bytes) || (is_key bytes || is_master bytes)
