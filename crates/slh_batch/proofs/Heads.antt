@@ -94,7 +94,7 @@ says head i path h few = record {
 abbrev pub fits : BatchHead → ℕ → List (List ℕ) → Bool
 fits head i path = nat_lt i head.count && length path == path_len i head.count
 
-fits-Decides : (head : BatchHead) (i : ℕ) (path : List (List ℕ)) → Decides (fits head i path) ((i < head.count) × (length path ≡ path_len i head.count))
+pub fits-Decides : (head : BatchHead) (i : ℕ) (path : List (List ℕ)) → Decides (fits head i path) ((i < head.count) × (length path ≡ path_len i head.count))
 fits-Decides head i path = Decides-and _ _ (Decides-ltb i head.count) (Decides-eqb (length path) (path_len i head.count))
 
 -- the whole receipt is answered by its form, and by the root that the path leads to

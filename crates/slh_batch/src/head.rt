@@ -3,14 +3,15 @@ ghost use Rattle.std.specs.Prelude.{◌≡◌, ◌≤◌, ◌&&◌, ◌==◌, �
 ghost use Rattle.std.specs.Prelude.{IfOk, IfSome, is_some};
 ghost use Rattle.slh_trees.specs.Checking.{signature_size};
 ghost use Rattle.slh_trees.specs.Refusals.{RefusedExactly};
-ghost use Rattle.slh_batch.specs.Calls.{digest_under_error, led_refusal, open_error, under_error};
+ghost use Rattle.slh_batch.specs.Calls.{digest_under_error, led_refusal, open_error};
+ghost use Rattle.slh_batch.specs.Calls.{receipt_under_error, under_error};
 ghost use Rattle.slh_batch.specs.Heads.{has_head_form, head_in, unsigned_head};
-ghost use Rattle.slh_batch.specs.Receipts.{path_len as spec_path_len};
+ghost use Rattle.slh_batch.specs.Receipts.{path_len as spec_path_len, receipt_count, receipt_index};
 
 use crate::batch::MAX_MESSAGES;
-use crate::checking::{CONTEXT, ROOT_MESSAGE_LEN, root_message};
+use crate::checking::{CONTEXT, Place, ROOT_MESSAGE_LEN, root_message};
 use crate::error::{HeadError, ReceiptError};
-use crate::parts::number_at;
+use crate::parts::{number_at, parts_of};
 use hybrid_array::ArraySize;
 use merkle_tree::{DIGEST_LEN, Sha256, TreeHash, path_len, path_root};
 use slh_dsa::{Mode, ParameterSet, VerifyingKey};
@@ -182,4 +183,36 @@ pub fn accept_digest_under(
         return Err(ReceiptError::Form);
     }
     head.check_led(digest, index, path)
+}
+
+/// As [`accept_under`], by the whole receipt of a message, and answers which message of how many it
+/// is. The receipt's own signature isn't looked at: the law [`receipts_stand_for_paths`] says what
+/// is accepted so. `Form`; `Message`; `Invalid`: the receipt is for another number of messages than
+/// the head's, or leads to another root. Takes no memory.
+///
+/// [`receipts_stand_for_paths`]: crate::laws::receipts_stand_for_paths
+pub fn accept_receipt_under<P: ParameterSet>(
+    head: &Head<'_>,
+    msg: &[u8],
+    receipt: &[u8],
+) -> Result<Place, ReceiptError>
+    ensures refusal { RefusedExactly result
+        (receipt_under_error P.scheme head.now msg.now receipt.now) }
+    ensures index { IfOk result (λ place. place.index ≡ receipt_index receipt.now) }
+    ensures count { IfOk result (λ place. place.count ≡ receipt_count receipt.now) }
+{
+    let Some(parts) = parts_of::<P>(receipt) else {
+        return Err(ReceiptError::Form);
+    };
+    if msg.len() > MAX_MESSAGE {
+        return Err(ReceiptError::Message);
+    }
+    if parts.count != head.count {
+        return Err(ReceiptError::Invalid);
+    }
+    head.check_led(&Sha256::leaf(msg), parts.index, parts.path)?;
+    Ok(Place {
+        index: parts.index,
+        count: parts.count,
+    })
 }

@@ -11,13 +11,14 @@ ghost use Rattle.slh_frames.specs.Frames.{frame};
 ghost use Rattle.slh_trees.specs.Keys.{IsTrueKey};
 ghost use Rattle.slh_trees.specs.Signing.{signature_of};
 ghost use Rattle.slh_batch.specs.Calls.{accept_error, are_comparable, clash_height, open_error};
-ghost use Rattle.slh_batch.specs.Calls.{under_error};
+ghost use Rattle.slh_batch.specs.Calls.{receipt_under_error, under_error};
 ghost use Rattle.slh_batch.specs.Climbs.{ClashesAt, IsFirstClash, input_at, is_left_at, sibling_at};
 ghost use Rattle.slh_batch.specs.Heads.{BatchHead, IsOfAnotherRoot, head_in, head_of};
 ghost use Rattle.slh_batch.specs.Heads.{receipt_under, root_under};
 ghost use Rattle.slh_batch.specs.Receipts.{batch_context, batch_message, climbed_inputs};
 ghost use Rattle.slh_batch.specs.Receipts.{climbed_root, has_right_form, receipt_count};
-ghost use Rattle.slh_batch.specs.Receipts.{receipt_index, receipt_of, receipt_path_len};
+ghost use Rattle.slh_batch.specs.Receipts.{receipt_index, receipt_of, receipt_path};
+ghost use Rattle.slh_batch.specs.Receipts.{receipt_path_len};
 ghost use Rattle.slh_batch.specs.Tree.{batch_inputs, batch_leaf, batch_path, batch_tree};
 ghost use Rattle.slh_batch.specs.declared.error.ReceiptError.{ReceiptError};
 
@@ -58,7 +59,7 @@ pub fn receipts_bind()
 
 /// The head of a batch that is signed by a key with the root of its own seeds, with any `opt_rand`
 /// or none, opens under the verifying key to the number and root of the messages and the signature,
-/// and under it each message is accepted by its path.
+/// and under it each message is accepted by its path, and by its receipt.
 pub fn sealed_head_is_opened<P: ParameterSet>()
     ensures opens { (key : List ℕ) (messages : List (List ℕ)) (opt_rand : Option (List ℕ))
         → IsTrueKey P.scheme key
@@ -81,6 +82,16 @@ pub fn sealed_head_is_opened<P: ParameterSet>()
         → let q = map batch_leaf messages in
         under_error (head_in (head_of q sig)) (slice_index_or messages i []) i (batch_path q i)
         ≡ None }
+    ensures takes { (key : List ℕ) (messages : List (List ℕ)) (opt_rand : Option (List ℕ)) (i : ℕ)
+        → IsTrueKey P.scheme key
+        → length key ≡ 4 * P.N.USIZE
+        → i < length messages
+        → length messages ≤ 2 ^ 20
+        → length (slice_index_or messages i []) ≤ 2 ^ 60
+        → let q = map batch_leaf messages in
+        let sig = signature_of P.scheme key opt_rand (frame batch_context (batch_message q)) in
+        receipt_under_error P.scheme (head_in (head_of q sig)) (slice_index_or messages i [])
+        (receipt_of q sig i) ≡ None }
 {
     signed_is_accepted::<P>();
 }
@@ -111,6 +122,22 @@ pub fn heads_stand_for_receipts<P: ParameterSet>()
         → let head = head_in bytes in
         (accept_error P.scheme key m (receipt_under head i path) ≡ under_error head m i path)
         ⊎ IsOfAnotherRoot P.scheme key head (root_under head m i path) }
+{}
+
+/// A receipt of right form that is for a head's number of messages is answered under the head as
+/// its place and its path are. So what is accepted under a head that opens, whatever signature the
+/// receipt has, is accepted as a whole receipt of that place and path with the head's signature.
+pub fn receipts_stand_for_paths()
+    ensures path { (Z : Scheme) (head : BatchHead) (m r : List ℕ)
+        → has_right_form Z r ≡ true
+        → receipt_count r ≡ head.count
+        → receipt_under_error Z head m r
+        ≡ under_error head m (receipt_index r) (receipt_path r) }
+    ensures accepted { (Z : Scheme) (key bytes m r : List ℕ)
+        → open_error Z key bytes ≡ None
+        → let head = head_in bytes in
+        receipt_under_error Z head m r ≡ None
+        → accept_error Z key m (receipt_under head (receipt_index r) (receipt_path r)) ≡ None }
 {}
 
 /// Under a head one place is one message's: where two are accepted there, each by a path of its

@@ -68,8 +68,9 @@
 //! ```
 //!
 //! What is accepted so, [`accept`] accepts with the whole receipt; [`laws`] says how both answers
-//! go together. A message that comes in pieces is hashed by [`MessageHasher`], and pushed and
-//! checked by its digest.
+//! go together. Where a message comes with its receipt, [`accept_receipt_under`] checks that it is
+//! in the head's batch. A message that comes in pieces is hashed by [`MessageHasher`], and pushed
+//! and checked by its digest.
 //!
 //! A batch keeps at most 64 bytes a message and a part that doesn't grow. [`Head::open`], [`clash`]
 //! and the calls that accept take no memory. Each refusal comes for the cause that its variant
@@ -93,5 +94,5 @@ pub use checking::{Place, accept, accept_digest, accepted_place};
 pub use clashing::clash;
 pub use error::{BatchError, HeadError, ReceiptError};
 pub use hashing::MessageHasher;
-pub use head::{Head, accept_digest_under, accept_under};
+pub use head::{Head, accept_digest_under, accept_receipt_under, accept_under};
 pub use sealed::Sealed;

@@ -1,8 +1,8 @@
-//! Heads, and messages that are checked under them by their paths alone.
+//! Heads, and messages that are checked under them by their paths alone, and by their receipts.
 use crate::batches::{ROWS, is_digest};
 use crate::toys;
 use hmac_sha256::Hash;
-use slh_batch::{Head, HeadError, ReceiptError, Sealed, accept_digest_under, accept_under};
+use slh_batch::{BatchError, Head, Place, ReceiptError, Sealed, accept_digest_under, accept_under};
 use slh_trees::toy::Toy;
 use std::alloc::Global;
 
@@ -84,4 +84,39 @@ fn are_under(alloc: Global) -> bool {
 #[test]
 fn each_message_is_accepted_under_a_head_by_the_path_of_another_program(rt: HostRuntime) {
     assert!(rt; are_under(rt.alloc()));
+}
+
+// Whether the receipt of message i is accepted for it alone, and tells its place.
+fn is_taken(head: &Head<'_>, i: u16, receipt: &[u8]) -> bool {
+    let [high, low] = i.to_be_bytes();
+    let place = Place {
+        index: u32::from(i),
+        count: u32::from(COUNT),
+    };
+    toys::place_under(head, &[high, low], receipt) == Ok(place)
+        && toys::place_under(head, &[low, high, 1], receipt) == Err(ReceiptError::Invalid)
+}
+
+fn are_taken(alloc: Global, batch: &Sealed<Toy>, head: &Head<'_>) -> bool {
+    for i in 0..COUNT {
+        match toys::receipt(alloc, batch, u32::from(i)) {
+            Ok(receipt) if is_taken(head, i, &receipt) => (),
+            _ => return false,
+        }
+    }
+    true
+}
+
+fn takes_its_receipts(alloc: Global) -> Result<bool, BatchError> {
+    let batch = toys::sealed(alloc, COUNT, None)?;
+    let bytes = toys::head(alloc, &batch)?;
+    match toys::open(&bytes) {
+        Ok(head) => Ok(is_digest(head.root(), ROWS[6].0) && are_taken(alloc, &batch, &head)),
+        Err(_) => Ok(false),
+    }
+}
+
+#[test]
+fn each_receipt_is_accepted_under_the_head_of_its_batch(rt: HostRuntime) {
+    assert!(rt; takes_its_receipts(rt.alloc()) == Ok(true));
 }

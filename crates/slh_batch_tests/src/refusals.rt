@@ -1,6 +1,8 @@
 //! Each refusal that a run can reach, over the toy suite, and which of two at once comes first.
-use crate::toys::{answer, have_clash, head, open, path, receipt, sealed};
-use slh_batch::{Batch, BatchError, Head, HeadError, MAX_MESSAGES, ReceiptError, accept_under};
+use crate::toys::{answer, have_clash, head, open, path, place_under, receipt, sealed};
+use slh_batch::{
+    Batch, BatchError, Head, HeadError, MAX_MESSAGES, Place, ReceiptError, accept_under,
+};
 use std::alloc::Global;
 
 // A receipt of three messages that has two digests: numbers, path and signature.
@@ -82,12 +84,12 @@ fn is_no_form(receipt: &[u8]) -> bool {
     answer(&[0, 1], receipt) == Err(ReceiptError::Form)
 }
 
-// Whether a receipt has no form with another index and another number of messages.
-fn is_no_form_with(receipt: &[u8; RECEIPT_LEN], i: u32, n: u32) -> bool {
+// A receipt with another index and another number of messages.
+fn with_place(receipt: &[u8; RECEIPT_LEN], i: u32, n: u32) -> [u8; RECEIPT_LEN] {
     let mut bent = *receipt;
     bent[..4].copy_from_slice(&i.to_be_bytes());
     bent[4..8].copy_from_slice(&n.to_be_bytes());
-    is_no_form(&bent)
+    bent
 }
 
 // An index and a number of messages.
@@ -104,7 +106,7 @@ const NO_PLACES: [(u32, u32); 8] = [
 
 fn has_one_place(receipt: &[u8; RECEIPT_LEN]) -> bool {
     for (i, n) in NO_PLACES {
-        if !is_no_form_with(receipt, i, n) {
+        if !is_no_form(&with_place(receipt, i, n)) {
             return false;
         }
     }
@@ -260,4 +262,40 @@ fn is_refused_by_other_paths(alloc: Global) -> Result<bool, BatchError> {
 #[test]
 fn other_paths_and_places_are_refused_under_a_head(rt: HostRuntime) {
     assert!(rt; is_refused_by_other_paths(rt.alloc()) == Ok(true));
+}
+
+// An index and a number of messages, and why the receipt of the second of three is refused with
+// them under the head of the three. A receipt of the second of four is as long.
+const PLACES_UNDER: [(u32, u32, ReceiptError); 6] = [
+    (0, 3, ReceiptError::Invalid),
+    (1, 4, ReceiptError::Invalid),
+    (2, 4, ReceiptError::Invalid),
+    (2, 3, ReceiptError::Form),
+    (3, 3, ReceiptError::Form),
+    (1, 0, ReceiptError::Form),
+];
+
+fn has_one_place_under(head: &Head<'_>, receipt: &[u8; RECEIPT_LEN]) -> bool {
+    for (i, n, refusal) in PLACES_UNDER {
+        if place_under(head, &[0, 1], &with_place(receipt, i, n)) != Err(refusal) {
+            return false;
+        }
+    }
+    place_under(head, &[0, 1], receipt) == Ok(Place { index: 1, count: 3 })
+        && place_under(head, &[0, 1], &receipt[..92]) == Err(ReceiptError::Form)
+}
+
+fn is_refused_at_other_places(alloc: Global) -> bool {
+    let (Some(bytes), Some(receipt)) = (head_of_three(alloc), long_receipt(alloc, 1)) else {
+        return false;
+    };
+    match open(&bytes) {
+        Ok(head) => has_one_place_under(&head, &receipt),
+        Err(_) => false,
+    }
+}
+
+#[test]
+fn receipts_of_other_places_and_numbers_are_refused_under_a_head(rt: HostRuntime) {
+    assert!(rt; is_refused_at_other_places(rt.alloc()));
 }

@@ -1,7 +1,8 @@
 //! Batches of the toy suite. Each call is written once, and the tests share it.
 use crate::receipts::numbers;
 use slh_batch::{
-    Batch, BatchError, Head, HeadError, Place, ReceiptError, Sealed, accept, accept_digest, clash,
+    Batch, BatchError, Head, HeadError, Place, ReceiptError, Sealed, accept, accept_digest,
+    accept_receipt_under, clash,
 };
 use slh_dsa::SigningKey;
 use slh_trees::toy::Toy;
@@ -50,6 +51,14 @@ pub(crate) fn head(alloc: Global, batch: &Sealed<Toy>) -> Result<Vec<u8>, AllocE
 
 pub(crate) fn open(bytes: &[u8]) -> Result<Head<'_>, HeadError> {
     Head::open(&key().verifying_key(), bytes)
+}
+
+pub(crate) fn place_under(
+    head: &Head<'_>,
+    message: &[u8],
+    receipt: &[u8],
+) -> Result<Place, ReceiptError> {
+    accept_receipt_under::<Toy>(head, message, receipt)
 }
 
 /// A batch with the signature of another.
