@@ -41,8 +41,8 @@ _slh() {
         'check '*)
             words='--key --signature --evidence --context --context-hex --prehash --json --help' ;;
         'inspect '*) words='--help' ;;
-        'batch sign') words='--key --deterministic --help' ;;
-        'batch verify') words='--key --key-text --receipt --json --help' ;;
+        'batch sign') words='--key --head --deterministic --help' ;;
+        'batch verify') words='--key --key-text --head --receipt --json --help' ;;
         'manifest seal') words='--key --deterministic --output --help' ;;
         'manifest check') words='--key --key-text --chain --manifest --strict --json --help' ;;
         'chain delegate')

@@ -98,11 +98,13 @@ complete -c slh -n '__slh_begin check' -l json -d 'Tells the verdict as an objec
 complete -c slh -n '__slh_begin check' -F
 complete -c slh -n '__slh_begin inspect' -F
 complete -c slh -n '__slh_begin batch sign' -l key -r -F -d 'The signing key'
+complete -c slh -n '__slh_begin batch sign' -l head -r -F -d 'Where the head of the batch goes'
 complete -c slh -n '__slh_begin batch sign' -l deterministic -d 'Signs without random bytes'
 complete -c slh -n '__slh_begin batch sign' -F
 complete -c slh -n '__slh_begin batch verify' -l key -r -F -d 'The verifying key'
 complete -c slh -n '__slh_begin batch verify' -l key-text -x -d 'The verifying key itself, as \'SET HEX\''
-complete -c slh -n '__slh_begin batch verify' -l receipt -r -F -d 'The receipt of the file'
+complete -c slh -n '__slh_begin batch verify' -l head -r -F -d 'The head of the batch that the file has to be in'
+complete -c slh -n '__slh_begin batch verify' -l receipt -r -F -d 'The receipt; FILE.receipt if it is left out'
 complete -c slh -n '__slh_begin batch verify' -l json -d 'Tells the verdict as an object of JSON'
 complete -c slh -n '__slh_begin batch verify' -F
 complete -c slh -n '__slh_begin manifest seal' -l key -r -F -d 'The signing key'

@@ -36,6 +36,7 @@ _slh_batch() {
             _arguments -S \
                 '(- *)'{-h,--help}'[Print help]' \
                 '--key=[The signing key]:NAME.key:_files -g "*.key"' \
+                '--head=[Where the head of the batch goes]:HEAD:_files' \
                 '--deterministic[Signs without random bytes]' \
                 '*:FILE:_files'
             ;;
@@ -44,7 +45,8 @@ _slh_batch() {
                 '(- *)'{-h,--help}'[Print help]' \
                 '(--key-text)--key=[The verifying key]:NAME.pub:_files -g "*.pub"' \
                 '(--key)--key-text=[The verifying key itself, as '\''SET HEX'\'']:TEXT: ' \
-                '--receipt=[The receipt of the file]:FILE.receipt:_files -g "*.receipt"' \
+                '--head=[The head of the batch that the file has to be in]:HEAD:_files' \
+                '--receipt=[The receipt; FILE.receipt if it is left out]:FILE.receipt:_files -g "*.receipt"' \
                 '--json[Tells the verdict as an object of JSON]' \
                 '1:FILE:_files'
             ;;

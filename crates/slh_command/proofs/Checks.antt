@@ -1,5 +1,5 @@
 -- A manifest that is checked by the bytes of a key.
-use Rattle.std.proofs.Common.{◌≡◌, ◌⊎◌, ◌↔◌, ℕ, Bool, true, false, List, refl, sym, subst, Option, None, Some, Result, Err, if◌then◌else◌, IsErrOf, IfErr, IfSome, inr, arith}
+use Rattle.std.proofs.Common.{◌≡◌, ◌↔◌, ℕ, Bool, true, false, List, refl, sym, subst, Option, None, Some, Result, Err, if◌then◌else◌, IsErrOf, IfErr, IfSome, inr, arith}
 use Rattle.line_serve.specs.Causes.{Rose}
 use Rattle.slh_core.specs.Parameters.{Scheme}
 use Rattle.slh_trees.specs.Refusals.{RefusedExactly}
@@ -12,7 +12,7 @@ use Rattle.slh_manifest.specs.declared.error.CheckError.{CheckError}
 use Rattle.slh_manifest.specs.declared.error.CheckError.TheVariants.{Form, Invalid, Fault}
 use Rattle.slh_manifest.proofs.Measures.{told_all, told_then}
 use Rattle.slh_manifest.proofs.Whole.{refused_as}
-use Rattle.slh_command.specs.Manifests.{IsChecked, checking_refusal, opening_refusal}
+use Rattle.slh_command.specs.Manifests.{IsChecked}
 
 form_by : (fits : Bool) (e : Error) (refusal : Option CheckError)
     → (if fits then None else Some Length) ≡ Some e → (if fits then refusal else Some Form) ≡ Some Form

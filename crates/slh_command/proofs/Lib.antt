@@ -1,5 +1,3 @@
-mod Adds
 mod Checks
 mod Escapes
-mod Taken
 mod Texts

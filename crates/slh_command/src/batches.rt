@@ -1,8 +1,9 @@
-//! Batches that are signed, and where their receipts go.
-ghost use Rattle.std.specs.Prelude.{◌≡◌, ◌++◌, ◌∷◌, [], List, ℕ, Option, None, Some};
-ghost use Rattle.std.specs.Prelude.{IfErr, IfOk, IfSome, OnOk};
+//! Batches that are signed, and where their heads and receipts go.
+ghost use Rattle.std.specs.Prelude.{Option, None, IfErr, IfOk, OnOk};
 ghost use Rattle.std.specs.Option.{option_copied};
-ghost use Rattle.slh_command.specs.Batches.{IsSealed, RefusedBy, TookAll, sealing_refusal};
+ghost use Rattle.slh_batch.specs.Heads.{head_of};
+ghost use Rattle.slh_command.specs.Batches.{IsSealed, RefusedBy, Taken, TookAll, TookHead};
+ghost use Rattle.slh_command.specs.Batches.{TookReceipt, sealing_refusal};
 ghost use Rattle.slh_sets.specs.Sets.{scheme_for};
 
 use slh_batch::{Batch, BatchError, Sealed};
@@ -10,26 +11,29 @@ use slh_dsa::{ParameterSet, SigningKey};
 use slh_sets::{OnSet, Set, SetSuite};
 use std::alloc::Global;
 
-/// What takes the receipts of a batch, in the order of its messages.
+/// What takes the head of a batch, and then the receipts in the order of its messages.
 pub trait Receipts {
-    /// Why one isn't taken.
+    /// Why the head or a receipt isn't taken.
     type Error: Drop;
 
-    /// Those that it took, where it tells them.
-    ghost taken: { Self → Option (List (List ℕ)) };
+    /// What it took, where it tells it.
+    ghost taken: { Self → Option Taken };
 
-    /// Takes the next one.
+    /// Takes the head, which comes once and before the receipts.
+    fn take_head(&mut self, head: &[u8]) -> Result<(), Self::Error>
+        ensures { OnOk result (TookHead head.now (taken self.old) (taken self.new)) };
+
+    /// Takes the next receipt.
     fn take(&mut self, receipt: &[u8]) -> Result<(), Self::Error>
-        ensures { OnOk result (IfSome (taken self.old)
-            (λ before. taken self.new ≡ Some (before ++ receipt.now ∷ []))) };
+        ensures { OnOk result (TookReceipt receipt.now (taken self.old) (taken self.new)) };
 }
 
-/// Why not all receipts of a batch were taken.
+/// Why not all of a batch was taken.
 #[derive(Drop)]
 pub enum SealError<E> {
-    /// The batch isn't signed, or there was no memory for a receipt.
+    /// The batch isn't signed, or there was no memory for its head or a receipt.
     Batch(BatchError),
-    /// A receipt wasn't taken.
+    /// The head or a receipt wasn't taken.
     Receipts(E),
 }
 
@@ -43,7 +47,27 @@ struct Sealing<'a, R> {
     receipts: R,
 }
 
-// Hands out each receipt of a signed batch.
+// Hands out the head of a signed batch.
+fn hand_out_head<P: ParameterSet, R: Receipts>(
+    alloc: Global,
+    sealed: &Sealed<P>,
+    receipts: &mut R,
+) -> Result<(), SealError<R::Error>>
+    ensures refused { IfErr result (RefusedBy None) }
+    ensures taken { OnOk result (TookHead (head_of sealed.now.leaves sealed.now.signature)
+        (R.taken receipts.old) (R.taken receipts.new)) }
+{
+    let head = match sealed.head(alloc) {
+        Ok(head) => head,
+        Err(error) => return Err(SealError::Batch(BatchError::from(error))),
+    };
+    match receipts.take_head(&head) {
+        Ok(()) => Ok(()),
+        Err(error) => Err(SealError::Receipts(error)),
+    }
+}
+
+// Hands out the head of a signed batch, and each receipt.
 fn hand_out<P: ParameterSet, R: Receipts>(
     alloc: Global,
     sealed: &Sealed<P>,
@@ -53,6 +77,7 @@ fn hand_out<P: ParameterSet, R: Receipts>(
     ensures taken { OnOk result (TookAll sealed.now.leaves sealed.now.signature
         (R.taken receipts.old) (R.taken receipts.new)) }
 {
+    hand_out_head(alloc, sealed, receipts)?;
     'each_message: for i in 0..sealed.len() {
         let receipt = match sealed.receipt(alloc, i as u32) {
             Ok(receipt) => receipt,
@@ -65,7 +90,7 @@ fn hand_out<P: ParameterSet, R: Receipts>(
     Ok(())
 }
 
-// Signs a batch by the bytes of a key, and hands out its receipts.
+// Signs a batch by the bytes of a key, and hands out its head and receipts.
 fn seal_by<P: ParameterSet, R: Receipts + Drop>(
     alloc: Global,
     key: &[u8],
@@ -111,10 +136,10 @@ impl<'a, R: Receipts + Drop> OnSet for Sealing<'a, R> {
     }
 }
 
-/// Signs a batch by a signing key of a set, as [`Batch::seal`] does, and hands out the receipt of
-/// each message, in order. Answers the taker of receipts. `Batch`: `Empty`, `Randomizer` or
-/// `Memory`, which bytes that are no key of the set are too; `Receipts`: a receipt wasn't taken, and
-/// those behind it weren't handed out.
+/// Signs a batch by a signing key of a set, as [`Batch::seal`] does, and hands out its head and
+/// then the receipt of each message, in order. Answers their taker. `Batch`: `Empty`, `Randomizer`
+/// or `Memory`, which bytes that are no key of the set are too; `Receipts`: the head or a receipt
+/// wasn't taken, and what comes behind it wasn't handed out.
 pub fn seal_batch<R: Receipts + Drop>(
     alloc: Global,
     set: Set,

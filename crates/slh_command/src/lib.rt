@@ -32,6 +32,6 @@ mod verdicts;
 pub use batches::{Receipts, SealError, seal_batch};
 pub use chains::{LinkText, WalkError, last_key, links_of, new_link};
 pub use manifests::{Checked, check_manifest, entry_name, first_unnamed, seal_manifest};
-pub use receipts::accept_receipt;
+pub use receipts::{UnderHeadError, accept_receipt, accept_receipt_under_head};
 pub use rings::{MAX_MASTER, RecordError, key_at, record_of, restored_paths};
 pub use verdicts::{Detail, verdict_json};

@@ -20,14 +20,13 @@ fn batch() -> Group {
                 name: "sign",
                 about: "Signs many files at once: FILE.receipt for each",
                 example: "Example:\n    slh batch sign --key release.key *.txt",
-                words: &[SIGNING_KEY, DETERMINISTIC, FILES],
+                words: &[SIGNING_KEY, HEAD_OUTPUT, DETERMINISTIC, FILES],
             },
             Subcommand {
                 name: "verify",
                 about: "Verifies the receipt of a file: accepted (0) or invalid (1)",
-                example: "Example:\n    \
-                          slh batch verify --key release.pub --receipt a.txt.receipt a.txt",
-                words: &[VERIFYING_KEY, KEY_TEXT, RECEIPT, JSON, FILE],
+                example: "Example:\n    slh batch verify --key release.pub a.txt",
+                words: &[VERIFYING_KEY, KEY_TEXT, BATCH_HEAD, RECEIPT, JSON, FILE],
             },
         ],
     }
@@ -167,11 +166,25 @@ const FILES: Word = Word {
     help: "The files, up to 2^20",
 };
 
+const HEAD_OUTPUT: Word = Word {
+    kind: Kind::Optional,
+    name: "head",
+    value: "HEAD",
+    help: "Where the head of the batch goes",
+};
+
+const BATCH_HEAD: Word = Word {
+    kind: Kind::Optional,
+    name: "head",
+    value: "HEAD",
+    help: "The head of the batch that the file has to be in",
+};
+
 const RECEIPT: Word = Word {
-    kind: Kind::Required,
+    kind: Kind::Optional,
     name: "receipt",
     value: "FILE.receipt",
-    help: "The receipt of the file",
+    help: "The receipt; FILE.receipt if it is left out",
 };
 
 const FOLDER: Word = Word {
