@@ -1,11 +1,11 @@
 -- What audits answer for bytes that were read.
-use Rattle.std.proofs.Common.{◌≡◌, ℕ, ◌-◌, ◌*◌, ◌+◌, List, [], ◌∷◌, length, take, drop, Bool, Option, None, Some, Result, Ok, Err, refl, ◌∙◌, ap, sym, arith}
+use Rattle.std.proofs.Common.{◌≡◌, ℕ, ◌-◌, ◌*◌, ◌+◌, List, [], ◌∷◌, length, take, drop, Bool, Option, None, Some, Result, Ok, Err, refl, ◌∙◌, ap, arith}
 use Rattle.std.specs.Prelude.{IsErrAnd, unwrap_or}
 use Rattle.std.specs.Bool.{◌==◌}
 use Rattle.std.proofs.lemmas.List.{drop-drop}
 use Rattle.slh_audit.proofs.Answered.{by_digest}
 use Rattle.slh_audit.specs.Evidence.{dispute_of, shows}
-use Rattle.slh_audit.specs.Verdicts.{digest_audit, digest_audit_answer, digest_check_answer, digest_of, length_refusals, message_audit}
+use Rattle.slh_audit.specs.Verdicts.{digest_audit, digest_audit_answer, digest_check_answer, digest_of, length_refusals}
 use Rattle.slh_audit.specs.declared.evidence.AuditError.{AuditError}
 use Rattle.slh_audit.specs.declared.evidence.AuditError.TheVariants as audit
 use Rattle.slh_audit.specs.declared.evidence.Evidence.{Evidence}
@@ -22,7 +22,7 @@ use Rattle.slh_readers.proofs.Answered.{left_is_all}
 use Rattle.slh_readers.proofs.Causes.{begun, decided, fits, too_long}
 use Rattle.slh_readers.specs.Answers.{IsAnswer}
 use Rattle.slh_readers.specs.Digested.{IsDigested}
-use Rattle.slh_readers.specs.Reading.{AbsorbsAll, IsAll}
+use Rattle.slh_readers.specs.Reading.{AbsorbsAll}
 use Rattle.slh_readers.specs.Terms.{Terms}
 use Rattle.slh_readers.specs.declared.error.ReadError.{ReadError}
 use Rattle.slh_readers.specs.declared.error.ReadError.TheVariants.{Read, Refused, Changed}
@@ -35,19 +35,21 @@ use Rattle.slh_run.specs.declared.job.Job.TheVariants.{Audit, Check}
 use Rattle.slh_stream.specs.Verifying.{message_digest}
 use Rattle.slh_trees.proofs.Refusals.{first_none, no_cause, none_first, passed}
 use Rattle.slh_trees.specs.Checking.{signature_size}
-use Rattle.slh_trees.specs.Refusals.{context_refusal, first_refusal, length_refusal, message_refusal}
+use Rattle.slh_trees.specs.Refusals.{context_refusal, first_refusal, message_refusal}
 
 -- the parts of the public half of a key
 
 second_seed : (n : ℕ) (secret : List ℕ) → part n (drop (2 * n) secret) 0 ≡ part n secret 2
 second_seed n secret =
     let len : (0 + 1) * n - 0 * n ≡ (2 + 1) * n - 2 * n = omega arith in
-    ap (λ (k : ℕ). take k (drop (2 * n) secret)) len
+    let from : 2 * n + 0 * n ≡ 2 * n = omega arith in
+    ap (λ (k : ℕ). take k (drop (0 * n) (drop (2 * n) secret))) len
+    ∙ ap (λ (xs : List ℕ). take ((2 + 1) * n - 2 * n) xs) (drop-drop (0 * n) (2 * n) secret ∙ ap (λ (k : ℕ). drop k secret) from)
 
 second_root : (n : ℕ) (secret : List ℕ) → part n (drop (2 * n) secret) 1 ≡ part n secret 3
 second_root n secret =
     let len : (1 + 1) * n - 1 * n ≡ (3 + 1) * n - 3 * n = omega arith in
-    let from : 1 * n + 2 * n ≡ 3 * n = omega arith in
+    let from : 2 * n + 1 * n ≡ 3 * n = omega arith in
     ap (λ (k : ℕ). take k (drop (1 * n) (drop (2 * n) secret))) len
     ∙ ap (λ (xs : List ℕ). take ((3 + 1) * n - 3 * n) xs) (drop-drop (1 * n) (2 * n) secret ∙ ap (λ (k : ℕ). drop k secret) from)
 
@@ -55,7 +57,11 @@ pub same_digest : (Z : Scheme) (n : ℕ) → Z.n ≡ n → (mode : Mode) (secret
     → message_digest Z mode public context m signature ≡ digest_of Z secret (mode_frame mode context m) signature
 same_digest Z n size mode secret public context m signature is =
     let is_now : public ≡ drop (2 * Z.n) secret = rw size is in
-    rw (is_now, second_seed Z.n secret, second_root Z.n secret) refl
+    let seed : part Z.n public 0 ≡ part Z.n secret 2 = ap (λ (k : List ℕ). part Z.n k 0) is_now ∙ second_seed Z.n secret in
+    let root : part Z.n public 1 ≡ part Z.n secret 3 = ap (λ (k : List ℕ). part Z.n k 1) is_now ∙ second_root Z.n secret in
+    let framed = mode_frame mode context m in
+    ap (λ (s : List ℕ). Z.suite.h_msg (take Z.n signature) s (part Z.n public 1) framed) seed
+    ∙ ap (λ (r : List ℕ). Z.suite.h_msg (take Z.n signature) (part Z.n secret 2) r framed) root
 
 -- why nothing is audited
 
@@ -124,7 +130,8 @@ module _ (Z : Scheme) (secret context signature : List ℕ) where
     unfolding AbsorbsAll
     digested_within stands old new terms (Ok x) f start long ends never = absurd never
     digested_within stands old new terms (Err x) (Read fault) start long ends is = rw is tt
-    digested_within stands old new terms (Err x) (Refused e) start long (all, whole, refused) is = rw is (all, whole, long all e (refused terms start))
+    digested_within stands old new terms (Err x) (Refused e) start long (all, whole, refused) is =
+        let (k, first, same) = long all e (refused terms start) in rw is (all, whole, k, first, same)
     digested_within stands old new terms (Err x) Changed start long never is = absurd never
 
     -- what isn't digested isn't answered
@@ -170,7 +177,8 @@ module _ (Z : Scheme) (secret context signature : List ℕ) where
         → IsAnswer left (λ m. shown_by (judgement Z (Check mode secret context m signature evidence))) (Ok shown)
     checked evidence done shown (m, whole, none, digest) is =
         let short = rw (no_length m none, digest) at is in
-        (m, whole, rw none (sym short))
+        let value : shown ≡ shows (dispute_of Z secret (mode_frame mode context m) signature) evidence = cc short in
+        (m, whole, rw (none, value) refl)
 
     pub not_checked : (evidence : Evidence) (done : Unit {0}) (e : AuditError) → Digested (Ok done)
         → ◌≡◌ {A = Result Bool AuditError} (Err e) (digest_check_answer Z secret out signature evidence) → ⊥

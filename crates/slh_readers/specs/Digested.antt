@@ -1,5 +1,5 @@
 -- What becomes of a message that is read to be audited.
-use Rattle.std.specs.Prelude.{◌≡◌, ◌≢◌, ℕ, List, ⊤, None, Some, Option, Result, Ok, Err}
+use Rattle.std.specs.Prelude.{◌≡◌, ℕ, List, ⊤, None, Some, Option, Result, Ok, Err}
 use Rattle.slh_core.specs.Parameters.{Scheme}
 use Rattle.slh_dsa.specs.declared.error.Error.{Error as KeyError}
 use Rattle.slh_audit.specs.Verdicts.{digest_of}

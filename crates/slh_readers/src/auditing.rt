@@ -34,8 +34,9 @@ fn digest_read<P: SetSuite, R: Read + Drop>(
     out: &mut [u8],
 ) -> Result<(), ReadError>
     requires { length out.old ≡ P.M.USIZE }
-    ensures { IsDigested P.scheme doubted.mode doubted.key.now doubted.context.now
-        doubted.signature.now (R.remaining doubted.reader) out.new result }
+    ensures { let d = doubted.entry in
+        IsDigested P.scheme d.mode d.key.now d.context.now d.signature.now
+        (R.remaining d.reader) out.new result }
 {
     let Doubted {
         mode,

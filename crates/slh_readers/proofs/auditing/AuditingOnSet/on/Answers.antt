@@ -1,6 +1,5 @@
-use Rattle.std.proofs.Common.{refl}
+use Rattle.std.proofs.Common.{[], refl}
 use Rattle.slh_files.specs.Jobs.{verdict_by}
-use Rattle.slh_frames.specs.Frames.{mode_frame}
 use Rattle.slh_readers.proofs.Audits.{audited, refused, undigested}
 use Rattle.slh_readers.proofs.auditing.AuditingOnSet.on.Goals as goal
 use Rattle.slh_run.specs.Judgement.{answer_to}
@@ -10,7 +9,7 @@ pub returns-in_err-digest_read : goal.returns-in_err-digest_read
 returns-in_err-digest_read g c =
     let Z = g.P.ForsParams.scheme in
     let d = c.args.self.doubted in
-    undigested Z d.key.now d.context.now d.signature.now d.mode _ _ verdict_by (λ e. refl)
+    undigested Z d.key.now d.context.now d.signature.now d.mode _ [] verdict_by (λ e. refl)
     (λ m. answer_to Z (Audit d.mode d.key.now d.context.now m d.signature.now)) c.from_residual.result c.in_err-digest_read.field-0.0
     c.in_err-digest_read.ensures c.from_residual.ensures.1
 

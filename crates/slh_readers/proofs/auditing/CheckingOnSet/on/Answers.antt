@@ -1,4 +1,4 @@
-use Rattle.std.proofs.Common.{refl}
+use Rattle.std.proofs.Common.{[], refl}
 use Rattle.slh_files.specs.Jobs.{shown_by}
 use Rattle.slh_readers.proofs.Audits.{checked, not_checked, undigested}
 use Rattle.slh_readers.proofs.auditing.CheckingOnSet.on.Goals as goal
@@ -9,7 +9,7 @@ pub returns-in_err-digest_read : goal.returns-in_err-digest_read
 returns-in_err-digest_read g c =
     let Z = g.P.ForsParams.scheme in
     let d = c.args.self.doubted in
-    undigested Z d.key.now d.context.now d.signature.now d.mode _ _ shown_by (λ e. refl)
+    undigested Z d.key.now d.context.now d.signature.now d.mode _ [] shown_by (λ e. refl)
     (λ m. answer_to Z (Check d.mode d.key.now d.context.now m d.signature.now c.args.self.evidence)) c.from_residual.result c.in_err-digest_read.field-0.0
     c.in_err-digest_read.ensures c.from_residual.ensures.1
 
