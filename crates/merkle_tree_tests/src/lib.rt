@@ -10,6 +10,8 @@ mod byte_hash;
 #[cfg(test)]
 mod clashes;
 #[cfg(test)]
+mod entry_clashes;
+#[cfg(test)]
 mod found_clashes;
 #[cfg(test)]
 mod vectors;

@@ -35,18 +35,14 @@ pub fn log() -> Group {
                 name: "verify",
                 about: "Tells whether a file is an entry of the log of a proof: accepted (0) or \
                         invalid (1)",
-                example: "Example:\n    \
-                          slh log verify --key log.pub --origin example.org/releases --proof \
-                          notes.proof notes.txt",
+                example: VERIFY_EXAMPLE,
                 words: &[VERIFYING_KEY, KEY_TEXT, ORIGIN, HEAD, PROOF, FILE],
             },
             Subcommand {
                 name: "growth",
                 about: "Tells whether a log kept all entries of an older checkpoint: accepted (0) \
                         or invalid (1)",
-                example: "Example:\n    \
-                          slh log growth --key log.pub --origin example.org/releases --old \
-                          before --new releases/checkpoint --proof growth.proof",
+                example: GROWTH_EXAMPLE,
                 words: &[VERIFYING_KEY, KEY_TEXT, ORIGIN, OLD, NEW, PROOF],
             },
             Subcommand {
@@ -59,6 +55,13 @@ pub fn log() -> Group {
         ],
     }
 }
+
+const VERIFY_EXAMPLE: &str = "Example:\n    \
+    slh log verify --key log.pub --origin example.org/releases --proof notes.proof notes.txt";
+
+const GROWTH_EXAMPLE: &str = "Example:\n    \
+    slh log growth --key log.pub --origin example.org/releases --old before --new \
+    releases/checkpoint --proof growth.proof";
 
 const LOG: Word = Word {
     kind: Kind::Operand,
