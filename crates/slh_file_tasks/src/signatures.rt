@@ -1,14 +1,16 @@
 //! `slh sign` and `slh verify`.
+ghost use Rattle.std.specs.Prelude.{◌≡◌, IfOk};
+
 use clap::ArgMatches;
 use slh_arguments::{
-    Randomness, SIGNATURE_END, check_inputs, check_output, context, message, mode, read_failure,
-    required, signing_key, tell_verdict, verifying_key,
+    Randomness, SIGNATURE_END, check_inputs, check_output, context, mode, read_failure, required,
+    signing_key, tell_verdict, verifying_key,
 };
 use slh_files::{Key, Message, Outcome, SignError};
 use slh_paths::files::{self, FromStart, Reader};
 use slh_paths::{Failure, outputs};
-use slh_readers::{sign_digest, sign_twice};
-use slh_run::{ByteString, Mode};
+use slh_readers::{ReadError, sign_digest, sign_twice};
+use slh_run::{ByteString, Error, Mode, Verdict};
 use std::fs::File;
 
 /// Signs a file. The signature goes to `--output`, else to FILE.sig, or from standard input to
@@ -53,73 +55,23 @@ fn made<'a>(
     key: Key,
     context: ByteString,
 ) -> Result<ByteString, Failure<'a>> {
-    if words.get_flag("audit") {
-        return audited(rt, words, path, key, context);
-    }
-    match mode(words)? {
-        Mode::Pure => signed(rt, words, path, key, context),
-        mode => signed_by_digest(rt, words, path, &key, mode, context.as_slice()),
-    }
-}
-
-// The signature of a file that is whole in memory, which an audit needs.
-fn audited<'a>(
-    rt: &HostRuntime,
-    words: &ArgMatches<'a>,
-    path: &'a str,
-    key: Key,
-    context: ByteString,
-) -> Result<ByteString, Failure<'a>> {
-    let message = message(rt, words, context)?;
-    let random = Randomness::new(rt, words)?;
-    match slh_files::sign_audited(rt.alloc(), key, message, random.bytes()) {
-        Ok(signature) => Ok(signature),
-        Err(SignError::Refused(error)) => Err(Failure::Refused(path, error)),
-        Err(SignError::Fault) => Err(Failure::Fault(path)),
-    }
-}
-
-// The signature of a file by its digest, for which it is read once.
-fn signed_by_digest<'a>(
-    rt: &HostRuntime,
-    words: &ArgMatches<'a>,
-    path: &'a str,
-    key: &Key,
-    mode: Mode,
-    context: &[u8],
-) -> Result<ByteString, Failure<'a>> {
-    let reader = Reader::open(rt, path)?;
-    let random = Randomness::new(rt, words)?;
-    let rand = random.of_set(key.set);
-    match sign_digest(rt.alloc(), key, mode, context, rand, reader) {
-        Ok(signature) => Ok(signature),
-        Err(error) => Err(read_failure(path, error)),
-    }
-}
-
-// The signature of a file itself. One that can't be read twice is kept whole in memory.
-fn signed<'a>(
-    rt: &HostRuntime,
-    words: &ArgMatches<'a>,
-    path: &'a str,
-    key: Key,
-    context: ByteString,
-) -> Result<ByteString, Failure<'a>> {
     match Reader::open(rt, path)?.into_regular() {
-        Ok(file) => signed_twice(rt, words, path, &key, context.as_slice(), &file),
-        Err(reader) => {
-            let bytes = reader.whole(rt, path)?;
-            let message = Message {
-                mode: Mode::Pure,
-                context,
-                bytes,
-            };
-            signed_whole(rt, words, path, key, message)
-        }
+        Ok(file) => of_file(rt, words, path, &key, context.as_slice(), &file),
+        Err(reader) => of_stream(rt, words, path, key, context, reader),
     }
 }
 
-fn signed_twice<'a>(
+// How a file is signed, whichever it is.
+#[derive(Drop)]
+struct Terms<'s> {
+    key: &'s Key,
+    mode: Mode,
+    context: &'s [u8],
+    opt_rand: Option<&'s [u8]>,
+}
+
+// The signature of a regular file. For an audit the file is read once more.
+fn of_file<'a>(
     rt: &HostRuntime,
     words: &ArgMatches<'a>,
     path: &'a str,
@@ -127,24 +79,131 @@ fn signed_twice<'a>(
     context: &[u8],
     file: &File,
 ) -> Result<ByteString, Failure<'a>> {
-    let random = Randomness::new(rt, words)?;
-    let rand = random.of_set(key.set);
-    let (first, second) = (FromStart::new(file), FromStart::new(file));
-    match sign_twice(rt.alloc(), key, context, rand, first, second) {
+    let randomness = Randomness::new(rt, words)?;
+    let terms = Terms {
+        key,
+        mode: mode(words)?,
+        context,
+        opt_rand: randomness.of_set(key.set),
+    };
+    let signature = signed(rt, path, &terms, file)?;
+    if !words.get_flag("audit") {
+        return Ok(signature);
+    }
+    audited(rt, path, &terms, file, signature)
+}
+
+fn signed<'a>(
+    rt: &HostRuntime,
+    path: &'a str,
+    terms: &Terms<'_>,
+    file: &File,
+) -> Result<ByteString, Failure<'a>> {
+    let (alloc, key, context) = (rt.alloc(), terms.key, terms.context);
+    let (opt_rand, first) = (terms.opt_rand, FromStart::new(rt, file));
+    let signed = match terms.mode {
+        Mode::Pure => {
+            let second = FromStart::new(rt, file);
+            sign_twice(alloc, key, context, opt_rand, first, second)
+        }
+        Mode::Sha256 | Mode::Sha512 => {
+            sign_digest(alloc, key, terms.mode, context, opt_rand, first)
+        }
+    };
+    match signed {
         Ok(signature) => Ok(signature),
         Err(error) => Err(read_failure(path, error)),
     }
 }
 
+// A signature, where it is the one that the key makes with its own randomizer.
+fn audited<'a>(
+    rt: &HostRuntime,
+    path: &'a str,
+    terms: &Terms<'_>,
+    file: &File,
+    signature: ByteString,
+) -> Result<ByteString, Failure<'a>>
+    ensures { IfOk result (λ given. given ≡ signature) }
+{
+    let reader = FromStart::new(rt, file);
+    let (key, bytes) = (terms.key, signature.as_slice());
+    match slh_readers::audit(key, terms.mode, terms.context, bytes, reader) {
+        Ok(Verdict::Genuine) => Ok(signature),
+        Ok(Verdict::Foreign(_)) => Err(Failure::Fault(path)),
+        Err(ReadError::Refused(Error::Invalid)) => Err(why_invalid(rt, path, terms, file, bytes)),
+        Err(error) => Err(read_failure(path, error)),
+    }
+}
+
+// Why a signature that was just made is not accepted. R, its first n bytes, comes from the whole
+// file: where it is another one now, the file changed.
+fn why_invalid<'a>(
+    rt: &HostRuntime,
+    path: &'a str,
+    terms: &Terms<'_>,
+    file: &File,
+    signature: &[u8],
+) -> Failure<'a> {
+    match signed(rt, path, terms, file) {
+        Ok(again) if is_same_front(signature, again.as_slice(), terms.key.set.n()) => {
+            Failure::Fault(path)
+        }
+        Ok(_) => read_failure(path, ReadError::Changed),
+        Err(failure) => failure,
+    }
+}
+
+fn is_same_front(one: &[u8], other: &[u8], n: usize) -> bool {
+    one.iter().zip(other).take(n).all(|(a, b)| a == b)
+}
+
+// The signature of what can be read only once: by its digest it is read in pieces, else it is kept
+// whole in memory.
+fn of_stream<'a>(
+    rt: &HostRuntime,
+    words: &ArgMatches<'a>,
+    path: &'a str,
+    key: Key,
+    context: ByteString,
+    reader: Reader,
+) -> Result<ByteString, Failure<'a>> {
+    let mode = mode(words)?;
+    let randomness = Randomness::new(rt, words)?;
+    if mode == Mode::Pure || words.get_flag("audit") {
+        let message = Message {
+            mode,
+            context,
+            bytes: reader.whole(rt, path)?,
+        };
+        return signed_whole(rt, words, path, key, message, &randomness);
+    }
+    let opt_rand = randomness.of_set(key.set);
+    match sign_digest(rt.alloc(), &key, mode, context.as_slice(), opt_rand, reader) {
+        Ok(signature) => Ok(signature),
+        Err(error) => Err(read_failure(path, error)),
+    }
+}
+
+// The signature of a message that is whole in memory. For an audit it is made again from its own
+// randomizer.
 fn signed_whole<'a>(
     rt: &HostRuntime,
     words: &ArgMatches<'a>,
     path: &'a str,
     key: Key,
     message: Message,
+    randomness: &Randomness,
 ) -> Result<ByteString, Failure<'a>> {
-    let random = Randomness::new(rt, words)?;
-    match slh_files::sign(rt.alloc(), key, message, random.bytes()) {
+    let (alloc, random) = (rt.alloc(), randomness.bytes());
+    if words.get_flag("audit") {
+        return match slh_files::sign_audited(alloc, key, message, random) {
+            Ok(signature) => Ok(signature),
+            Err(SignError::Refused(error)) => Err(Failure::Refused(path, error)),
+            Err(SignError::Fault) => Err(Failure::Fault(path)),
+        };
+    }
+    match slh_files::sign(alloc, key, message, random) {
         Ok(signature) => Ok(signature),
         Err(error) => Err(Failure::Refused(path, error)),
     }

@@ -98,6 +98,7 @@ fn entries_of<'a>(
     for name in names {
         add_entry(rt, path, name.as_str(), &mut folder, &mut entries)?;
     }
+    folder.clear_progress();
     Ok(entries)
 }
 
@@ -112,6 +113,7 @@ fn add_entry<'a>(
     match entries.add(name.as_bytes(), folder) {
         Ok(()) => Ok(()),
         Err(error) => {
+            folder.clear_progress();
             let name = shown(rt.alloc(), name.as_bytes())?;
             Err(entry_failure(path, name, error, folder.fault.take()))
         }
@@ -216,7 +218,8 @@ pub fn check<'a>(rt: &HostRuntime, words: &ArgMatches<'a>) -> Result<Outcome, Fa
     let manifest = files::read_limited(rt, path)?;
     let others = others_below(rt, words, below)?;
     let (key_bytes, folder) = (key.bytes.as_slice(), Folder::new(rt, below));
-    let checked = check_manifest(key.set, key_bytes, manifest.as_slice(), folder);
+    let mut checked = check_manifest(key.set, key_bytes, manifest.as_slice(), folder);
+    checked.store.clear_progress();
     match checked.answer {
         Ok(()) => tell_unnamed(rt, words, first_unnamed(manifest.as_slice(), &others)),
         Err(CheckError::Form) => Err(Failure::Told(path, "not a manifest of the key's set")),

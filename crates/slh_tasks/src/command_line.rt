@@ -10,7 +10,15 @@ const FAILED: u8 = 2;
 /// Does what the words of the command line ask for. The result is the program's status; of what
 /// failed the cause goes to standard error.
 pub fn status(rt: &HostRuntime) -> u8 {
-    match answer(rt) {
+    match own_words(rt) {
+        Ok(words) => status_of(rt, words.as_slice()),
+        Err(failure) => told(rt, failure),
+    }
+}
+
+/// The same for these words, of which the first is the program's name.
+pub fn status_of(rt: &HostRuntime, words: &[String]) -> u8 {
+    match answer(rt, words) {
         Ok(status) => status,
         Err(failure) => told(rt, failure),
     }
@@ -22,14 +30,21 @@ fn told(rt: &HostRuntime, failure: Failure<'_>) -> u8 {
     FAILED
 }
 
-// Reads the words and does what they ask for.
-fn answer(rt: &HostRuntime) -> Result<u8, Failure<'static>> {
-    let words: Vec<String> = match env::args(rt) {
-        Ok(words) => words.collect(rt.alloc())?,
-        Err(error) => return Err(Failure::Words(error)),
-    };
+// The words of the command line.
+fn own_words(rt: &HostRuntime) -> Result<Vec<String>, Failure<'static>> {
+    match env::args(rt) {
+        Ok(words) => {
+            let words: Vec<String> = words.collect(rt.alloc())?;
+            Ok(words)
+        }
+        Err(error) => Err(Failure::Words(error)),
+    }
+}
+
+// Reads words and does what they ask for.
+fn answer(rt: &HostRuntime, words: &[String]) -> Result<u8, Failure<'static>> {
     let command = command(rt.alloc())?;
-    let matches = match command.try_get_matches_from(words.as_slice()) {
+    let matches = match command.try_get_matches_from(words) {
         Ok(matches) => matches,
         Err(error) => {
             let status = error.exit_code() as u8;

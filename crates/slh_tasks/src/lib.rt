@@ -5,4 +5,4 @@
 mod command_line;
 mod commands;
 
-pub use command_line::status;
+pub use command_line::{status, status_of};
