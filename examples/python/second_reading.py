@@ -189,13 +189,16 @@ def tree_path(place, leaves):
     return tree_path(place - half, leaves[half:]) + tree_root(leaves[:half])
 
 
-def receipts(key, messages):
+def batch(key, messages):
+    """The head of a batch, and the receipts of its messages."""
     leaves = [sha256(b"\0", message) for message in messages]
     number = pack(">I", len(leaves))
-    signature = sign(key, number + tree_root(leaves), b"slh-batch")
-    return [
+    signed = number + tree_root(leaves)
+    signature = sign(key, signed, b"slh-batch")
+    receipts = [
         pack(">I", i) + number + tree_path(i, leaves) + signature for i in range(len(messages))
     ]
+    return signed + signature, receipts
 
 
 def link(key, depth, name, subject):
@@ -230,7 +233,8 @@ def main(folder):
         "manifest": manifest(key, {b"version": b"version 7\n", b"lib/empty": b""}),
         "ring": record(master, [[1], [2, 2026]]),
     }
-    for i, receipt in enumerate(receipts(key, [b"entry %d\n" % i for i in range(3)])):
+    files["entries.head"], receipts = batch(key, [b"entry %d\n" % i for i in range(3)])
+    for i, receipt in enumerate(receipts):
         files[f"entry{i}.receipt"] = receipt
     for name, value in files.items():
         (Path(folder) / name).write_bytes(value)

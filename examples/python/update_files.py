@@ -14,10 +14,10 @@ from struct import pack
 
 from second_reading import (
     SET,
+    batch,
     derived,
     link,
     manifest,
-    receipts,
     sha256,
     sign,
     tree_path,
@@ -53,7 +53,7 @@ def main(folder):
     root, middle, end = (derived(bytes(32), number) for number in (1, 2, 3))
     first = link(root, 3, b"releases", verifying(middle))
     leaves = [sha256(b"\0", entry) for entry in ENTRIES]
-    receipt, path = receipts(root, ENTRIES)[2], tree_path(2, leaves)
+    signed_head, receipts = batch(root, ENTRIES)
     files = {
         "root_key": verifying(root),
         "first_link": first,
@@ -63,13 +63,13 @@ def main(folder):
         "manifest": manifest(root, FILES),
         "image_digest": sha256(FILES[b"image"]),
         "message": ENTRIES[2],
-        "receipt": receipt,
-        "signed_head": pack(">I", 7) + tree_root(leaves) + receipt[8 + len(path) :],
+        "receipt": receipts[2],
+        "signed_head": signed_head,
         "head_of_3": pack("<Q", 3) + tree_root(leaves[:3]),
         "head_of_7": pack("<Q", 7) + tree_root(leaves),
         "checkpoint_3": checkpoint(root, leaves[:3]),
         "checkpoint_7": checkpoint(root, leaves),
-        "presence": path,
+        "presence": tree_path(2, leaves),
         "growth": growth(3, leaves),
     }
     for name, value in files.items():

@@ -14,6 +14,6 @@ pub use pairs::{key_file, public_file, write_pair};
 pub use randomness::Randomness;
 pub use verdicts::{read_failure, report, tell, tell_verdict};
 pub use words::{
-    SIGNATURE_END, check_inputs, check_output, context, key_of_kind, mode, required, required_all,
-    set_of, signature, signing_key, verifying_key,
+    RECEIPT_END, SIGNATURE_END, check_inputs, check_output, context, key_of_kind, mode,
+    receipt_name, required, required_all, set_of, signature, signing_key, verifying_key,
 };

@@ -10,6 +10,9 @@ use slh_sets::Set;
 /// What is put behind the name of a file for the name of its signature.
 pub const SIGNATURE_END: &str = ".sig";
 
+/// What is put behind the name of a file for the name of its receipt.
+pub const RECEIPT_END: &str = ".receipt";
+
 /// The most bytes of a context.
 const MAX_CONTEXT: usize = 255;
 
@@ -17,9 +20,10 @@ const MAX_CONTEXT: usize = 255;
 const RESERVED_CONTEXTS: [&[u8]; 4] = [b"slh-batch", b"slh-chain", b"slh-log", b"slh-manifest"];
 
 /// What names an input, in any command.
-const INPUTS: [&str; 8] = [
+const INPUTS: [&str; 9] = [
     "key",
     "signature",
+    "head",
     "receipt",
     "chain",
     "subject",
@@ -121,19 +125,6 @@ pub fn context(rt: &HostRuntime, words: &ArgMatches<'_>) -> Result<ByteString, F
     Ok(context)
 }
 
-/// The file, and how it is signed with a context.
-pub fn message<'a>(
-    rt: &HostRuntime,
-    words: &ArgMatches<'a>,
-    context: ByteString,
-) -> Result<Message, Failure<'a>> {
-    Ok(Message {
-        mode: mode(words)?,
-        context,
-        bytes: files::read(rt, required(words, "file")?)?,
-    })
-}
-
 /// The key of a file.
 pub fn key_of_kind<'a>(rt: &HostRuntime, kind: Kind, path: &'a str) -> Result<Key, Failure<'a>> {
     let file = files::read_limited(rt, path)?;
@@ -167,15 +158,25 @@ pub fn signing_key<'a>(rt: &HostRuntime, words: &ArgMatches<'a>) -> Result<Key, 
     }
 }
 
-// The file of the signature: that of `--signature`, or FILE.sig, as a path and an ending.
-fn signature_name<'a>(words: &ArgMatches<'a>) -> Result<(&'a str, &'static str), Failure<'a>> {
-    if let Some(path) = words.get_str("signature") {
+// The file of an option, or where it is left out what stands beside FILE, as a path and an ending.
+fn named_or_beside<'a>(
+    words: &ArgMatches<'a>,
+    name: &'static str,
+    option: &'static str,
+    end: &'static str,
+) -> Result<(&'a str, &'static str), Failure<'a>> {
+    if let Some(path) = words.get_str(name) {
         return Ok((path, ""));
     }
     match required(words, "file")? {
-        files::STANDARD => Err(Failure::Told("--signature", "standard input has none beside it")),
-        path => Ok((path, SIGNATURE_END)),
+        files::STANDARD => Err(Failure::Told(option, "standard input has none beside it")),
+        path => Ok((path, end)),
     }
+}
+
+/// The file of `--receipt`, or FILE.receipt, as a path and an ending.
+pub fn receipt_name<'a>(words: &ArgMatches<'a>) -> Result<(&'a str, &'static str), Failure<'a>> {
+    named_or_beside(words, "receipt", "--receipt", RECEIPT_END)
 }
 
 /// The signature of `--signature`, or of FILE.sig, of the length that the set's have.
@@ -184,7 +185,7 @@ pub fn signature<'a>(
     words: &ArgMatches<'a>,
     set: Set,
 ) -> Result<ByteString, Failure<'a>> {
-    let (path, end) = signature_name(words)?;
+    let (path, end) = named_or_beside(words, "signature", "--signature", SIGNATURE_END)?;
     let file = files::read_beside(rt, path, end)?;
     let signature = read_signature(rt.alloc(), set, file)?;
     if signature.len() == set.signature_len() {

@@ -1,22 +1,28 @@
 //! `slh batch`: one signature for many files, and a receipt for each.
 use clap::ArgMatches;
 use slh_arguments::{
-    Randomness, check_inputs, check_output, report, required, required_all, signing_key,
-    verifying_key,
+    RECEIPT_END, Randomness, check_inputs, check_output, receipt_name, report, required,
+    required_all, signing_key, verifying_key,
 };
-use slh_batch::{Batch, BatchError, Place, ReceiptError};
-use slh_command::{Detail, Receipts, SealError, accept_receipt, seal_batch};
-use slh_files::Outcome;
+use slh_batch::{Batch, BatchError, HeadError, Place, ReceiptError};
+use slh_command::{
+    Detail, Receipts, SealError, UnderHeadError, accept_receipt, accept_receipt_under_head,
+    seal_batch,
+};
+use slh_files::{Key, Outcome};
 use slh_paths::files::{self, FileId};
 use slh_paths::{Failure, outputs};
+use slh_run::ByteString;
 use std::alloc::AllocError;
 
-// The receipts of files, each of which goes beside its file.
+// The head of a batch of files, which goes where the words say, if they do, and the receipts, each
+// of which goes beside its file.
 #[derive(Drop)]
 struct Beside<'s, 'a> {
     rt: &'s HostRuntime,
+    head: Option<&'a str>,
     paths: &'s [&'a str],
-    // how many were written
+    // how many receipts were written
     count: usize,
 }
 
@@ -27,11 +33,18 @@ impl<'s, 'a> Receipts for Beside<'s, 'a> {
 
     ghost taken = { λ _. None };
 
+    fn take_head(&mut self, head: &[u8]) -> Result<(), Failure<'a>> {
+        match self.head {
+            Some(path) => outputs::put(self.rt, path, head),
+            None => Ok(()),
+        }
+    }
+
     fn take(&mut self, receipt: &[u8]) -> Result<(), Failure<'a>> {
         let Some(path) = self.paths.get(self.count) else {
             return Err(Failure::Told("the batch", "it has a receipt and no file for it"));
         };
-        outputs::put_beside(self.rt, *path, ".receipt", receipt)?;
+        outputs::put_beside(self.rt, *path, RECEIPT_END, receipt)?;
         self.count = self.count.saturating_add(1);
         Ok(())
     }
@@ -82,12 +95,42 @@ fn check_names<'a>(
         if *path == files::STANDARD {
             return Err(Failure::Told(*path, "a file of a batch has a name, for its receipt"));
         }
-        let output = format!(in rt.alloc(); "{path}.receipt")?;
+        let output = format!(in rt.alloc(); "{path}{RECEIPT_END}")?;
         check_output(rt, words, &["key"], output.as_str())?;
         if let Some(id) = FileId::of(rt, output.as_str())
             && ids.binary_search(&id).is_ok()
         {
             return Err(Failure::Told(*path, "its receipt would be written over a file"));
+        }
+    }
+    Ok(())
+}
+
+// Whether two paths are one place, whether or not a file is there, or lead to one file.
+fn are_one_place(rt: &HostRuntime, path: &str, other: &str) -> Result<bool, AllocError> {
+    if files::are_one(rt, path, other) {
+        return Ok(true);
+    }
+    match (files::place_of(rt, path)?, files::place_of(rt, other)?) {
+        (Some(place), Some(other)) => Ok(place == other),
+        (None, _) | (_, None) => Ok(false),
+    }
+}
+
+// The head goes to no place of the key, of a file or of a receipt.
+fn check_head<'a>(
+    rt: &HostRuntime,
+    words: &ArgMatches<'a>,
+    paths: &[&'a str],
+) -> Result<(), Failure<'a>> {
+    let Some(head) = words.get_str("head") else {
+        return Ok(());
+    };
+    check_output(rt, words, &["key"], head)?;
+    for path in paths {
+        let receipt = format!(in rt.alloc(); "{path}{RECEIPT_END}")?;
+        if files::are_one(rt, head, *path) || are_one_place(rt, head, receipt.as_str())? {
+            return Err(Failure::Told(head, "it is one of the files, or the receipt of one"));
         }
     }
     Ok(())
@@ -100,12 +143,14 @@ pub fn sign<'s, 'a>(
 ) -> Result<Outcome, Failure<'a>> {
     let paths = required_all(words, "files")?;
     check_names(rt, words, paths)?;
+    check_head(rt, words, paths)?;
     let key = signing_key(rt, words)?;
     let randomness = Randomness::new(rt, words)?;
     let batch = batch_of(rt, paths)?;
     let (key_bytes, random) = (key.bytes.as_slice(), randomness.of_set(key.set));
     let receipts = Beside {
         rt,
+        head: words.get_str("head"),
         paths,
         count: 0,
     };
@@ -116,32 +161,82 @@ pub fn sign<'s, 'a>(
     }
 }
 
-/// Tells whether a receipt is one of a file.
+// A file and its receipt, as they were read.
+#[derive(Drop)]
+struct Receipted<'a> {
+    // the receipt's name, as a path and an ending
+    name: (&'a str, &'static str),
+    receipt: ByteString,
+    file: &'a str,
+    message: ByteString,
+}
+
+// The file that the words name, and its receipt.
+fn receipted<'a>(rt: &HostRuntime, words: &ArgMatches<'a>) -> Result<Receipted<'a>, Failure<'a>> {
+    let (path, end) = receipt_name(words)?;
+    let file = required(words, "file")?;
+    Ok(Receipted {
+        name: (path, end),
+        receipt: files::read_beside(rt, path, end)?,
+        file,
+        message: files::read(rt, file)?,
+    })
+}
+
+/// Tells whether a receipt is one of a file, and with a head, whether the file is in its batch.
 pub fn verify<'a>(rt: &HostRuntime, words: &ArgMatches<'a>) -> Result<Outcome, Failure<'a>> {
     check_inputs(words)?;
     let key = verifying_key(rt, words)?;
-    let (path, file) = (required(words, "receipt")?, required(words, "file")?);
-    let receipt = files::read_limited(rt, path)?;
-    let message = files::read(rt, file)?;
-    let key_bytes = key.bytes.as_slice();
-    let accepted = accept_receipt(key.set, key_bytes, message.as_slice(), receipt.as_slice());
-    tell_accepted(rt, words, (path, file), accepted)
+    let file = receipted(rt, words)?;
+    match words.get_str("head") {
+        Some(head) => verify_under(rt, words, &key, head, &file),
+        None => {
+            let (message, receipt) = (file.message.as_slice(), file.receipt.as_slice());
+            let accepted = accept_receipt(key.set, key.bytes.as_slice(), message, receipt);
+            tell_accepted(rt, words, &file, accepted)
+        }
+    }
 }
 
-// Tells what came of a receipt and a file of these paths.
+// Tells whether a file is in the batch of a head, by its receipt.
+fn verify_under<'a>(
+    rt: &HostRuntime,
+    words: &ArgMatches<'a>,
+    key: &Key,
+    path: &'a str,
+    file: &Receipted<'a>,
+) -> Result<Outcome, Failure<'a>> {
+    let head = files::read_limited(rt, path)?;
+    let (message, receipt) = (file.message.as_slice(), file.receipt.as_slice());
+    let key_bytes = key.bytes.as_slice();
+    match accept_receipt_under_head(key.set, key_bytes, head.as_slice(), message, receipt) {
+        Ok(place) => tell_accepted(rt, words, file, Ok(place)),
+        Err(UnderHeadError::Receipt(error)) => tell_accepted(rt, words, file, Err(error)),
+        Err(UnderHeadError::Head(HeadError::Invalid)) => {
+            report(rt, words, Outcome::Invalid, Detail::Nothing)
+        }
+        Err(UnderHeadError::Head(HeadError::Form)) => {
+            Err(Failure::Told(path, "not a head of the key's set"))
+        }
+    }
+}
+
+// Tells what came of a file and its receipt.
 fn tell_accepted<'a>(
     rt: &HostRuntime,
     words: &ArgMatches<'a>,
-    paths: (&'a str, &'a str),
+    file: &Receipted<'a>,
     accepted: Result<Place, ReceiptError>,
 ) -> Result<Outcome, Failure<'a>> {
-    let (path, file) = paths;
     match accepted {
         Ok(Place { index, count }) => {
             report(rt, words, Outcome::Accepted, Detail::Place(index, count))
         }
         Err(ReceiptError::Invalid) => report(rt, words, Outcome::Invalid, Detail::Nothing),
-        Err(ReceiptError::Form) => Err(Failure::Told(path, "not a receipt of the key's set")),
-        Err(ReceiptError::Message) => Err(Failure::Told(file, "it has more than 2^60 bytes")),
+        Err(ReceiptError::Form) => {
+            let (path, end) = file.name;
+            Err(Failure::NewTold(path, end, "not a receipt of the key's set"))
+        }
+        Err(ReceiptError::Message) => Err(Failure::Told(file.file, "it has more than 2^60 bytes")),
     }
 }
