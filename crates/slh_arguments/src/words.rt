@@ -1,8 +1,6 @@
 //! What the words of a command stand for.
 use clap::ArgMatches;
-use slh_files::{
-    Key, Kind, Message, Outcome, digits_of, read_key, read_signature, read_signing_key,
-};
+use slh_files::{Key, Kind, Outcome, digits_of, read_key, read_signature, read_signing_key};
 use slh_paths::{Failure, files, random};
 use slh_run::{ByteString, Mode};
 use slh_sets::Set;

@@ -27,8 +27,8 @@ each_line-preserved c =
     record {
       few = omega (arith, c.each_line.invariant.few, c.if-len-eq-MAX_DIGESTS.false, c.len.ensures, ap length pushed, length_push done digest);
       left = λ digests rest are is.
-      reads_on digests done c.push.new.all.items rest c.each_line.rest.now line c.in-Some.later.now digest are (c.each_line.invariant.left digests rest are is) c.in-Some.ensures.cut some
-      c.in-Some-digest_of.ensures pushed;
+          reads_on digests done c.push.new.all.items rest c.each_line.rest.now line c.in-Some.later.now digest are (c.each_line.invariant.left digests rest are is) c.in-Some.ensures.cut some
+          c.in-Some-digest_of.ensures pushed;
     }
 
 pub returns-clause-read : goal.returns-clause-read
