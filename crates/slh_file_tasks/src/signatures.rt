@@ -63,28 +63,29 @@ fn made<'a>(
 
 // How a file is signed, whichever it is.
 #[derive(Drop)]
-struct Terms<'s> {
+struct Terms<'s, 'r> {
     key: &'s Key,
     mode: Mode,
     context: &'s [u8],
-    opt_rand: Option<&'s [u8]>,
+    opt_rand: Option<&'r [u8]>,
 }
 
 // The signature of a regular file. For an audit the file is read once more.
-fn of_file<'a>(
+fn of_file<'a, 's>(
     rt: &HostRuntime,
     words: &ArgMatches<'a>,
     path: &'a str,
-    key: &Key,
-    context: &[u8],
+    key: &'s Key,
+    context: &'s [u8],
     file: &File,
 ) -> Result<ByteString, Failure<'a>> {
     let randomness = Randomness::new(rt, words)?;
+    let opt_rand = randomness.of_set(key.set);
     let terms = Terms {
         key,
         mode: mode(words)?,
         context,
-        opt_rand: randomness.of_set(key.set),
+        opt_rand,
     };
     let signature = signed(rt, path, &terms, file)?;
     if !words.get_flag("audit") {
@@ -96,7 +97,7 @@ fn of_file<'a>(
 fn signed<'a>(
     rt: &HostRuntime,
     path: &'a str,
-    terms: &Terms<'_>,
+    terms: &Terms<'_, '_>,
     file: &File,
 ) -> Result<ByteString, Failure<'a>> {
     let (alloc, key, context) = (rt.alloc(), terms.key, terms.context);
@@ -120,7 +121,7 @@ fn signed<'a>(
 fn audited<'a>(
     rt: &HostRuntime,
     path: &'a str,
-    terms: &Terms<'_>,
+    terms: &Terms<'_, '_>,
     file: &File,
     signature: ByteString,
 ) -> Result<ByteString, Failure<'a>>
@@ -141,7 +142,7 @@ fn audited<'a>(
 fn why_invalid<'a>(
     rt: &HostRuntime,
     path: &'a str,
-    terms: &Terms<'_>,
+    terms: &Terms<'_, '_>,
     file: &File,
     signature: &[u8],
 ) -> Failure<'a> {
