@@ -172,7 +172,10 @@ struct Receipted<'a> {
 }
 
 // The file that the words name, and its receipt.
-fn read_receipted<'a>(rt: &HostRuntime, words: &ArgMatches<'a>) -> Result<Receipted<'a>, Failure<'a>> {
+fn read_receipted<'a>(
+    rt: &HostRuntime,
+    words: &ArgMatches<'a>,
+) -> Result<Receipted<'a>, Failure<'a>> {
     let (path, end) = receipt_name(words)?;
     let file = required(words, "file")?;
     Ok(Receipted {
