@@ -172,7 +172,10 @@ struct Receipted<'a> {
 }
 
 // The file that the words name, and its receipt.
-fn receipted<'a>(rt: &HostRuntime, words: &ArgMatches<'a>) -> Result<Receipted<'a>, Failure<'a>> {
+fn read_receipted<'a>(
+    rt: &HostRuntime,
+    words: &ArgMatches<'a>,
+) -> Result<Receipted<'a>, Failure<'a>> {
     let (path, end) = receipt_name(words)?;
     let file = required(words, "file")?;
     Ok(Receipted {
@@ -187,7 +190,7 @@ fn receipted<'a>(rt: &HostRuntime, words: &ArgMatches<'a>) -> Result<Receipted<'
 pub fn verify<'a>(rt: &HostRuntime, words: &ArgMatches<'a>) -> Result<Outcome, Failure<'a>> {
     check_inputs(words)?;
     let key = verifying_key(rt, words)?;
-    let file = receipted(rt, words)?;
+    let file = read_receipted(rt, words)?;
     match words.get_str("head") {
         Some(head) => verify_under(rt, words, &key, head, &file),
         None => {
