@@ -14,56 +14,15 @@ package main
 import (
 	"bufio"
 	"bytes"
-	"crypto/sha256"
 	"encoding/base64"
-	"encoding/binary"
-	"encoding/hex"
 	"fmt"
 	"log"
 	"os"
-	"os/exec"
 	"strings"
 
 	"golang.org/x/mod/sumdb/note"
 	"golang.org/x/mod/sumdb/tlog"
 )
-
-const most = 1030
-
-// entry is the entry of an index.
-func entry(i int64) []byte {
-	return []byte(fmt.Sprintf("entry %d", i))
-}
-
-// grown makes the stored hashes of a log of so many entries, and the roots of all logs before it.
-func grown(count int64) (tlog.HashReader, []tlog.Hash) {
-	var stored []tlog.Hash
-	reader := tlog.HashReaderFunc(func(indexes []int64) ([]tlog.Hash, error) {
-		var hashes []tlog.Hash
-		for _, index := range indexes {
-			hashes = append(hashes, stored[index])
-		}
-		return hashes, nil
-	})
-	roots := []tlog.Hash{sha256.Sum256(nil)}
-	for i := int64(0); i < count; i++ {
-		hashes, err := tlog.StoredHashes(i, entry(i), reader)
-		check(err)
-		stored = append(stored, hashes...)
-		root, err := tlog.TreeHash(i+1, reader)
-		check(err)
-		roots = append(roots, root)
-	}
-	return reader, roots
-}
-
-// digits is the field that stands for some bytes.
-func digits(data []byte) string {
-	if len(data) == 0 {
-		return "-"
-	}
-	return hex.EncodeToString(data)
-}
 
 // lines writes a line with these fields of a proof, and one with a bit of the proof changed.
 func lines(out *bufio.Writer, answer string, front []string, proof []tlog.Hash, bit int64) {
@@ -102,37 +61,6 @@ func proofs() {
 	}
 }
 
-// signer is a key of ours under a name, in hexadecimal, with its verifying key. What it signs and
-// verifies goes to slh_cli.
-type signer struct{ name, set, key, public string }
-
-func (s signer) Name() string { return s.name }
-
-func (s signer) KeyHash() uint32 {
-	public, err := hex.DecodeString(s.public)
-	check(err)
-	sum := sha256.Sum256([]byte(s.name + "\n\xff" + s.set + "\n" + string(public)))
-	return binary.BigEndian.Uint32(sum[:4])
-}
-
-// job runs a job of slh_cli.
-func job(fields ...string) string {
-	command := exec.Command(os.Getenv("SLH_PROGRAM"))
-	command.Stdin = strings.NewReader(strings.Join(fields, " ") + "\n")
-	reply, err := command.Output()
-	check(err)
-	return strings.TrimSpace(string(reply))
-}
-
-func (s signer) Sign(msg []byte) ([]byte, error) {
-	reply := job(s.set, "sign", s.key, digits([]byte("slh-log")), digits(msg), "none")
-	return hex.DecodeString(strings.TrimPrefix(reply, "sig "))
-}
-
-func (s signer) Verify(msg, sig []byte) bool {
-	return job(s.set, "verify", s.public, digits([]byte("slh-log")), digits(msg), digits(sig)) == "accepted"
-}
-
 func signed(s signer) {
 	_, roots := grown(7)
 	text := fmt.Sprintf("%s\n7\n%s\n", s.name, base64.StdEncoding.EncodeToString(roots[7][:]))
@@ -150,12 +78,6 @@ func open(s signer, file string) {
 		log.Fatal("another origin")
 	}
 	fmt.Print(opened.Text)
-}
-
-func check(err error) {
-	if err != nil {
-		log.Fatal(err)
-	}
 }
 
 func main() {

@@ -11,7 +11,6 @@ package main
 
 import (
 	"bufio"
-	"crypto/sha256"
 	"encoding/hex"
 	"fmt"
 	"log"
@@ -23,78 +22,11 @@ import (
 	"golang.org/x/mod/sumdb/tlog"
 )
 
-const most = 1030
-
-func check(err error) {
-	if err != nil {
-		log.Fatal(err)
-	}
-}
-
-func entry(i int64) []byte {
-	return []byte(fmt.Sprintf("entry %d", i))
-}
-
-// grown makes the stored hashes of a log of so many entries, and the roots of all logs before it.
-func grown(count int64) (tlog.HashReader, []tlog.Hash) {
-	var stored []tlog.Hash
-	reader := tlog.HashReaderFunc(func(indexes []int64) ([]tlog.Hash, error) {
-		var hashes []tlog.Hash
-		for _, index := range indexes {
-			hashes = append(hashes, stored[index])
-		}
-		return hashes, nil
-	})
-	roots := []tlog.Hash{sha256.Sum256(nil)}
-	for i := int64(0); i < count; i++ {
-		hashes, err := tlog.StoredHashes(i, entry(i), reader)
-		check(err)
-		stored = append(stored, hashes...)
-		root, err := tlog.TreeHash(i+1, reader)
-		check(err)
-		roots = append(roots, root)
-	}
-	return reader, roots
-}
-
-// name is a tile's name by C2SP's tlog-tiles, which leaves the height out.
-func name(tile tlog.Tile) string {
-	return "tile/" + strings.TrimPrefix(tile.Path(), "tile/8/")
-}
-
 // put writes a file below a folder.
 func put(folder, name string, data []byte) {
 	path := filepath.Join(folder, name)
 	check(os.MkdirAll(filepath.Dir(path), 0o777))
 	check(os.WriteFile(path, data, 0o666))
-}
-
-// folder has tiles, of which one of a request has a bit changed. A reader of Go's that doesn't see it, since
-// two runs that end the log share a tile, makes a proof that isn't taken.
-type folder struct {
-	path string
-	bent int64
-}
-
-func (f *folder) Height() int { return 8 }
-
-func (f *folder) SaveTiles(tiles []tlog.Tile, data [][]byte) {}
-
-func (f *folder) ReadTiles(tiles []tlog.Tile) ([][]byte, error) {
-	var all [][]byte
-	for _, tile := range tiles {
-		data, err := os.ReadFile(filepath.Join(f.path, name(tile)))
-		if err != nil {
-			return nil, err
-		}
-		all = append(all, data)
-	}
-	if f.bent >= 0 && len(all) > 0 {
-		data := all[f.bent%int64(len(all))]
-		bit := f.bent % int64(8*len(data))
-		data[bit/8] ^= 1 << (bit % 8)
-	}
-	return all, nil
 }
 
 func readTiles(path string) {
@@ -145,8 +77,8 @@ func ours(path string, m, n int64, roots []tlog.Hash) string {
 	return string(reply)
 }
 
-// digits is a proof in hexadecimal.
-func digits(proof []tlog.Hash) string {
+// joined is a proof in hexadecimal.
+func joined(proof []tlog.Hash) string {
 	text := ""
 	for _, hash := range proof {
 		text += hex.EncodeToString(hash[:])
@@ -162,7 +94,7 @@ func proofsOf(path string, n int64, reader tlog.HashReader, roots []tlog.Hash) i
 		check(err)
 		growth, err := tlog.ProveTree(n, m, reader)
 		check(err)
-		wanted := fmt.Sprintf("proof %s\nproof %s\n", digits(record), digits(growth))
+		wanted := fmt.Sprintf("proof %s\nproof %s\n", joined(record), joined(growth))
 		if reply := ours(path, m, n, roots); reply != wanted {
 			log.Fatalf("another proof from %d to %d: %s", m, n, reply)
 		}
