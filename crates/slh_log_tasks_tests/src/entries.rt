@@ -21,14 +21,14 @@ fn verdict(
     index: u64,
     entry: &[u8],
     path: &[[u8; 32]],
-) -> Option<Result<(), EntryError>> {
-    let key = verifying()?;
+) -> Result<(), EntryError> {
+    let key = verifying();
     let signer = Signer {
         set: SET,
         key: &key,
         origin,
     };
-    Some(check_entry(signer, note, index, entry, path))
+    check_entry(signer, note, index, entry, path)
 }
 
 // Whether the entry is shown to be there, and others and other places aren't.
@@ -39,13 +39,13 @@ fn paths_decide(alloc: Global) -> Option<bool> {
     let length = Err(EntryError::Path(PresenceError::Length));
     let index = Err(EntryError::Path(PresenceError::Index));
     Some(
-        verdict(ORIGIN, &note, 5, ENTRY, &path)? == Ok(())
-            && verdict(ORIGIN, &note, 5, b"", &path)? == invalid
-            && verdict(ORIGIN, &note, 4, ENTRY, &path)? == invalid
-            && verdict(ORIGIN, &note, 5, ENTRY, &path[..2])? == length
-            && verdict(ORIGIN, &note, 5, ENTRY, &[])? == length
-            && verdict(ORIGIN, &note, 8, ENTRY, &path)? == index
-            && verdict(ORIGIN, &note, u64::MAX, ENTRY, &path)? == index,
+        verdict(ORIGIN, &note, 5, ENTRY, &path) == Ok(())
+            && verdict(ORIGIN, &note, 5, b"", &path) == invalid
+            && verdict(ORIGIN, &note, 4, ENTRY, &path) == invalid
+            && verdict(ORIGIN, &note, 5, ENTRY, &path[..2]) == length
+            && verdict(ORIGIN, &note, 5, ENTRY, &[]) == length
+            && verdict(ORIGIN, &note, 8, ENTRY, &path) == index
+            && verdict(ORIGIN, &note, u64::MAX, ENTRY, &path) == index,
     )
 }
 
@@ -58,14 +58,14 @@ fn an_entry_is_there_by_its_path_alone(rt: HostRuntime) {
 fn heads_decide_first(alloc: Global) -> Option<bool> {
     let mut note = note(alloc, 8, ROOT)?;
     let origin = Err(EntryError::Head(OpenError::Origin));
-    let other = verdict("example.com/other", &note, 8, b"", &[])?;
+    let other = verdict("example.com/other", &note, 8, b"", &[]);
     bent(&mut note)?;
     let invalid = Err(EntryError::Head(OpenError::Invalid));
     let form = Err(EntryError::Head(OpenError::Form));
     Some(
         other == origin
-            && verdict(ORIGIN, &note, 5, ENTRY, &path())? == invalid
-            && verdict(ORIGIN, b"", 5, ENTRY, &path())? == form,
+            && verdict(ORIGIN, &note, 5, ENTRY, &path()) == invalid
+            && verdict(ORIGIN, b"", 5, ENTRY, &path()) == form,
     )
 }
 
@@ -73,7 +73,7 @@ fn heads_decide_first(alloc: Global) -> Option<bool> {
 fn other_head(alloc: Global) -> Option<bool> {
     let note = note(alloc, 8, ROOT_OF_6)?;
     let invalid = Err(EntryError::Path(PresenceError::Invalid));
-    Some(verdict(ORIGIN, &note, 5, ENTRY, &path())? == invalid)
+    Some(verdict(ORIGIN, &note, 5, ENTRY, &path()) == invalid)
 }
 
 #[test]

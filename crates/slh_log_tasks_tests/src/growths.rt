@@ -13,19 +13,14 @@ fn proof() -> [[u8; 32]; 3] {
 }
 
 // What is said of a growth under an origin.
-fn verdict(
-    origin: &str,
-    old: &[u8],
-    new: &[u8],
-    proof: &[[u8; 32]],
-) -> Option<Result<(), LogError>> {
-    let key = verifying()?;
+fn verdict(origin: &str, old: &[u8], new: &[u8], proof: &[[u8; 32]]) -> Result<(), LogError> {
+    let key = verifying();
     let signer = Signer {
         set: SET,
         key: &key,
         origin,
     };
-    Some(check_log(signer, old, new, proof))
+    check_log(signer, old, new, proof)
 }
 
 // Whether the growth is shown, and not by other proofs or between other heads.
@@ -38,12 +33,12 @@ fn proofs_decide(alloc: Global) -> Option<bool> {
     let length = Err(LogError::Proof(GrowthError::Length));
     let smaller = Err(LogError::Proof(GrowthError::Smaller));
     Some(
-        verdict(ORIGIN, &old, &new, &proof)? == Ok(())
-            && verdict(ORIGIN, &old, &old, &[])? == Ok(())
-            && verdict(ORIGIN, &old, &new, &other)? == invalid
-            && verdict(ORIGIN, &old, &new, &proof[..2])? == length
-            && verdict(ORIGIN, &old, &new, &[])? == length
-            && verdict(ORIGIN, &new, &old, &proof)? == smaller,
+        verdict(ORIGIN, &old, &new, &proof) == Ok(())
+            && verdict(ORIGIN, &old, &old, &[]) == Ok(())
+            && verdict(ORIGIN, &old, &new, &other) == invalid
+            && verdict(ORIGIN, &old, &new, &proof[..2]) == length
+            && verdict(ORIGIN, &old, &new, &[]) == length
+            && verdict(ORIGIN, &new, &old, &proof) == smaller,
     )
 }
 
@@ -51,7 +46,7 @@ fn proofs_decide(alloc: Global) -> Option<bool> {
 fn empty_is_refused(alloc: Global) -> Option<bool> {
     let (old, new) = (note(alloc, 0, EMPTY_ROOT)?, note(alloc, 8, ROOT)?);
     let empty = Err(LogError::Proof(GrowthError::Empty));
-    Some(verdict(ORIGIN, &old, &new, &[])? == empty)
+    Some(verdict(ORIGIN, &old, &new, &[]) == empty)
 }
 
 #[test]
@@ -69,10 +64,10 @@ fn heads_decide_first(alloc: Global) -> Option<bool> {
     let (old, new) = (note(alloc, 6, ROOT_OF_6)?, note(alloc, 8, ROOT)?);
     let (form, origin) = (OpenError::Form, OpenError::Origin);
     Some(
-        verdict(ORIGIN, b"", b"", &[])? == Err(LogError::Old(form))
-            && verdict(ORIGIN, &old, b"", &[])? == Err(LogError::New(form))
-            && verdict(ORIGIN, b"", &new, &[])? == Err(LogError::Old(form))
-            && verdict("example.com/other", &old, &new, &proof())? == Err(LogError::Old(origin)),
+        verdict(ORIGIN, b"", b"", &[]) == Err(LogError::Old(form))
+            && verdict(ORIGIN, &old, b"", &[]) == Err(LogError::New(form))
+            && verdict(ORIGIN, b"", &new, &[]) == Err(LogError::Old(form))
+            && verdict("example.com/other", &old, &new, &proof()) == Err(LogError::Old(origin)),
     )
 }
 
@@ -83,8 +78,8 @@ fn bent_is_refused(alloc: Global) -> Option<bool> {
     bent(&mut other)?;
     let invalid = OpenError::Invalid;
     Some(
-        verdict(ORIGIN, &old, &other, &proof())? == Err(LogError::New(invalid))
-            && verdict(ORIGIN, &other, &new, &proof())? == Err(LogError::Old(invalid)),
+        verdict(ORIGIN, &old, &other, &proof()) == Err(LogError::New(invalid))
+            && verdict(ORIGIN, &other, &new, &proof()) == Err(LogError::Old(invalid)),
     )
 }
 

@@ -33,12 +33,11 @@ pub(crate) fn signing() -> Option<[u8; 64]> {
 }
 
 /// The verifying key.
-pub(crate) fn verifying() -> Option<[u8; 32]> {
-    let mut key = [0u8; 32];
-    hex::decode_to_slice(VERIFYING, &mut key).ok()?;
-    Some(key)
+pub(crate) fn verifying() -> [u8; 32] {
+    digest(VERIFYING)
 }
 
+/// 32 bytes.
 pub(crate) fn digest(text: &str) -> [u8; 32] {
     match <[u8; 32] as FromHex>::from_hex(text) {
         Ok(bytes) => bytes,
