@@ -59,9 +59,9 @@ _slh() {
         'log init') words='--key --origin --deterministic --help' ;;
         'log append') words='--key --lines --deterministic --help' ;;
         'log prove') words='--from --output --help' ;;
-        'log verify') words='--key --key-text --origin --checkpoint --proof --help' ;;
-        'log growth') words='--key --key-text --origin --old --new --proof --help' ;;
-        'log check') words='--key --key-text --origin --help' ;;
+        'log verify') words='--key --key-text --origin --checkpoint --proof --json --help' ;;
+        'log growth') words='--key --key-text --origin --old --new --proof --json --help' ;;
+        'log check') words='--key --key-text --origin --json --help' ;;
         esac
     fi
 

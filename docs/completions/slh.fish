@@ -168,6 +168,7 @@ complete -c slh -n '__slh_begin log verify' -l key-text -x -d 'The verifying key
 complete -c slh -n '__slh_begin log verify' -l origin -x -d 'The name of the log'
 complete -c slh -n '__slh_begin log verify' -l checkpoint -r -F -d 'The checkpoint; the one in the proof if it is left out'
 complete -c slh -n '__slh_begin log verify' -l proof -r -F -d 'The proof'
+complete -c slh -n '__slh_begin log verify' -l json -d 'Tells the verdict as an object of JSON'
 complete -c slh -n '__slh_begin log verify' -F
 complete -c slh -n '__slh_begin log growth' -l key -r -F -d 'The verifying key'
 complete -c slh -n '__slh_begin log growth' -l key-text -x -d 'The verifying key itself, as \'SET HEX\''
@@ -175,7 +176,9 @@ complete -c slh -n '__slh_begin log growth' -l origin -x -d 'The name of the log
 complete -c slh -n '__slh_begin log growth' -l old -r -F -d 'The older checkpoint'
 complete -c slh -n '__slh_begin log growth' -l new -r -F -d 'The newer checkpoint'
 complete -c slh -n '__slh_begin log growth' -l proof -r -F -d 'The proof'
+complete -c slh -n '__slh_begin log growth' -l json -d 'Tells the verdict as an object of JSON'
 complete -c slh -n '__slh_begin log check' -l key -r -F -d 'The verifying key'
 complete -c slh -n '__slh_begin log check' -l key-text -x -d 'The verifying key itself, as \'SET HEX\''
 complete -c slh -n '__slh_begin log check' -l origin -x -d 'The name of the log; that of its checkpoint if it is left out'
+complete -c slh -n '__slh_begin log check' -l json -d 'Tells the verdict as an object of JSON'
 complete -c slh -n '__slh_begin log check' -a '(__fish_complete_directories)'

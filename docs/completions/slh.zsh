@@ -256,6 +256,7 @@ _slh_log() {
                 '--origin=[The name of the log]:ORIGIN: ' \
                 '--checkpoint=[The checkpoint; the one in the proof if it is left out]:CHECKPOINT:_files' \
                 '--proof=[The proof]:PROOF:_files' \
+                '--json[Tells the verdict as an object of JSON]' \
                 '1:FILE:_files'
             ;;
         growth)
@@ -266,7 +267,8 @@ _slh_log() {
                 '--origin=[The name of the log]:ORIGIN: ' \
                 '--old=[The older checkpoint]:CHECKPOINT:_files' \
                 '--new=[The newer checkpoint]:CHECKPOINT:_files' \
-                '--proof=[The proof]:PROOF:_files'
+                '--proof=[The proof]:PROOF:_files' \
+                '--json[Tells the verdict as an object of JSON]'
             ;;
         check)
             _arguments -S \
@@ -274,6 +276,7 @@ _slh_log() {
                 '(--key-text)--key=[The verifying key]:NAME.pub:_files -g "*.pub"' \
                 '(--key)--key-text=[The verifying key itself, as '\''SET HEX'\'']:TEXT: ' \
                 '--origin=[The name of the log; that of its checkpoint if it is left out]:ORIGIN: ' \
+                '--json[Tells the verdict as an object of JSON]' \
                 '1:FOLDER:_files -/'
             ;;
         esac

@@ -189,6 +189,16 @@ def tree_path(place, leaves):
     return tree_path(place - half, leaves[half:]) + tree_root(leaves[:half])
 
 
+def growth_proof(size, leaves, known=True):
+    """RFC 9162, section 2.1.4.1. `known` is whether the verifier has the root of the first `size` leaves."""
+    if size == len(leaves):
+        return [] if known else [tree_root(leaves)]
+    half = 1 << (len(leaves) - 1).bit_length() - 1
+    if size <= half:
+        return growth_proof(size, leaves[:half], known) + [tree_root(leaves[half:])]
+    return growth_proof(size - half, leaves[half:], False) + [tree_root(leaves[:half])]
+
+
 def batch(key, messages):
     """The head of a batch, and the receipts of its messages."""
     leaves = [sha256(b"\0", message) for message in messages]
@@ -221,6 +231,40 @@ def record(master, paths):
     return SET + b" " + body.hex().encode() + b"\n"
 
 
+def text(digest):
+    return base64.b64encode(digest) + b"\n"
+
+
+def checkpoint(key, origin, size, root):
+    """The head of a log: the text that is signed, and the line of its signature."""
+    signed = origin + b"\n%d\n" % size + text(root)
+    key_id = sha256(origin, b"\n\xff", SET, b"\n", verifying(key))[:4]
+    signature = base64.b64encode(key_id + sign(key, signed, b"slh-log"))
+    return signed + b"\n" + "\u2014 ".encode() + origin + b" " + signature + b"\n"
+
+
+def log(key, origin, entries, old, place):
+    """The folder of a log, its checkpoint at an older size, and two proofs."""
+    leaves = [sha256(b"\0", entry) for entry in entries]
+    size, path = len(leaves), tree_path(place, leaves)
+    head = checkpoint(key, origin, size, tree_root(leaves))
+    path = b"".join(text(path[i : i + 32]) for i in range(0, len(path), 32))
+    proof = b"".join(map(text, growth_proof(old, leaves)))
+    return {
+        "log/checkpoint": head,
+        f"log/tile/0/000.p/{size}": b"".join(leaves),
+        f"log/tile/entries/000.p/{size}": b"".join(pack(">H", len(it)) + it for it in entries),
+        "log.before": checkpoint(key, origin, old, tree_root(leaves[:old])),
+        "log.entry.proof": b"c2sp.org/tlog-proof@v1\nindex %d\n" % place + path + b"\n" + head,
+        "log.growth": b"old %d\n" % old + proof + b"\n" + head,
+    }
+
+
+# The entries of the reference tree of the Certificate Transparency project.
+LOGGED = [bytes.fromhex(it) for it in ["", "00", "10", "2021", "3031", "40414243"]]
+LOGGED += [bytes(range(0x50, 0x58)), bytes(range(0x60, 0x70))]
+
+
 def main(folder):
     master = bytes(range(32))
     key, subject = derived(master, 1), verifying(derived(master, 2))
@@ -236,8 +280,11 @@ def main(folder):
     files["entries.head"], receipts = batch(key, [b"entry %d\n" % i for i in range(3)])
     for i, receipt in enumerate(receipts):
         files[f"entry{i}.receipt"] = receipt
+    files |= log(key, b"example.com/log", LOGGED, 6, 5)
     for name, value in files.items():
-        (Path(folder) / name).write_bytes(value)
+        path = Path(folder) / name
+        path.parent.mkdir(parents=True, exist_ok=True)
+        path.write_bytes(value)
 
 
 if __name__ == "__main__":

@@ -16,11 +16,6 @@ impl Randomness {
         Ok(Randomness(Some(random::<32>(rt)?)))
     }
 
-    /// All bytes.
-    pub fn bytes(&self) -> Option<&[u8; 32]> {
-        self.0.as_ref()
-    }
-
     /// As many as a randomizer of a set is made from.
     pub fn of_set(&self, set: Set) -> Option<&[u8]> {
         match &self.0 {

@@ -1,63 +1,113 @@
 //! Verdicts: that of a signature of a file, and how they are told.
+ghost use Rattle.std.specs.Prelude.{◌≡◌, ◌++◌, ◌∷◌, IfOk, OnOk};
+ghost use Rattle.std.specs.Io.KnownBytes.{Appends};
+ghost use Rattle.slh_arguments.specs.Verdicts.{behind_word, told_line};
+ghost use Rattle.slh_arguments.specs.declared.verdicts.Form.TheVariants.{Text};
+
 use crate::words::{mode, required, signature};
 use clap::ArgMatches;
 use slh_command::{Detail, verdict_json};
 use slh_files::{Key, Outcome};
+use slh_paths::Failure;
 use slh_paths::files::Reader;
 use slh_paths::shown::shown;
-use slh_paths::{Failure, outputs};
 use slh_readers::ReadError;
 use slh_run::ByteString;
 use std::alloc::{AllocError, Global};
+use std::io::{self, Write};
 
-/// Prints the word of a verdict on a line of its own.
-pub fn tell(rt: &HostRuntime, outcome: Outcome) -> Result<Outcome, Failure<'static>> {
-    let word = outcome.word();
-    match println!(rt; "{word}") {
-        Ok(()) => Ok(outcome),
-        Err(error) => Err(Failure::Output(error)),
+/// How a verdict is told.
+#[derive(Clone, Copy, Debug, PartialEq, Eq)]
+pub enum Form {
+    /// For people: its word, and a name or evidence behind it.
+    Text,
+    /// For programs: an object of JSON.
+    Json,
+}
+
+fn push_word(line: &mut ByteString, word: &[u8]) -> Result<(), AllocError>
+    ensures { OnOk result (line.new ≡ line.old ++ 32 ∷ word.now) }
+{
+    line.push_slice(b" ")?;
+    line.push_slice(word)
+}
+
+// Puts what stands behind a verdict's word at the end.
+fn push_behind(alloc: Global, line: &mut ByteString, detail: Detail<'_>) -> Result<(), AllocError>
+    ensures { OnOk result (line.new ≡ line.old ++ behind_word detail.entry) }
+{
+    match detail {
+        Detail::Nothing | Detail::Place(_, _) => Ok(()),
+        Detail::Name(name) => push_word(line, shown(alloc, name.as_bytes())?.as_bytes()),
+        Detail::OtherName(name) => push_word(line, shown(alloc, name)?.as_bytes()),
+        Detail::Evidence(words) => push_word(line, words),
     }
 }
 
-/// Tells a verdict on a line of its own: its word and what it has besides, or an object of JSON
-/// where the words ask for it.
+// The line of a verdict for people.
+fn verdict_text(
+    alloc: Global,
+    outcome: Outcome,
+    detail: Detail<'_>,
+) -> Result<ByteString, AllocError>
+    ensures { IfOk result (λ line. line ≡ told_line Text outcome detail.entry) }
+{
+    let mut line = ByteString::new(alloc);
+    line.push_slice(outcome.word().as_bytes())?;
+    push_behind(alloc, &mut line, detail)?;
+    line.push_slice(b"\n")?;
+    Ok(line)
+}
+
+fn verdict_line(
+    alloc: Global,
+    form: Form,
+    outcome: Outcome,
+    detail: Detail<'_>,
+) -> Result<ByteString, AllocError>
+    ensures { IfOk result (λ line. line ≡ told_line form outcome detail.entry) }
+{
+    match form {
+        Form::Text => verdict_text(alloc, outcome, detail),
+        Form::Json => verdict_json(alloc, outcome.word(), detail),
+    }
+}
+
+/// Writes the line of a verdict. After an error some of it may be written.
+pub fn tell<W: Write>(
+    writer: &mut W,
+    alloc: Global,
+    form: Form,
+    outcome: Outcome,
+    detail: Detail<'_>,
+) -> io::Result<Outcome>
+    ensures line { OnOk result (Appends (W.contents writer.old) (W.contents writer.new)
+        (told_line form outcome detail.entry)) }
+    ensures outcome { IfOk result (λ told. told ≡ outcome) }
+{
+    let line = verdict_line(alloc, form, outcome, detail)?;
+    writer.write_all(line.as_slice())?;
+    Ok(outcome)
+}
+
+/// Tells a verdict on standard output, in the form that the words ask for.
 pub fn report(
     rt: &HostRuntime,
     words: &ArgMatches<'_>,
     outcome: Outcome,
     detail: Detail<'_>,
-) -> Result<Outcome, Failure<'static>> {
-    let line = if words.get_flag("json") {
-        verdict_json(rt.alloc(), outcome.word(), detail)?
+) -> Result<Outcome, Failure<'static>>
+    ensures { IfOk result (λ told. told ≡ outcome) }
+{
+    let form = if words.get_flag("json") {
+        Form::Json
     } else {
-        plain_line(rt.alloc(), outcome, detail)?
+        Form::Text
     };
-    match outputs::print(rt, line.as_slice()) {
-        Ok(()) => Ok(outcome),
+    match tell(&mut io::writer(rt), rt.alloc(), form, outcome, detail) {
+        Ok(told) => Ok(told),
         Err(error) => Err(Failure::Output(error)),
     }
-}
-
-// The line of a verdict for people: its word, and a name or evidence behind it.
-fn plain_line(
-    alloc: Global,
-    outcome: Outcome,
-    detail: Detail<'_>,
-) -> Result<ByteString, AllocError> {
-    let mut line = ByteString::from_slice(alloc, outcome.word().as_bytes())?;
-    match detail {
-        Detail::Nothing | Detail::Place(_, _) => (),
-        Detail::Name(name) => push_word(&mut line, shown(alloc, name.as_bytes())?.as_bytes())?,
-        Detail::OtherName(name) => push_word(&mut line, shown(alloc, name)?.as_bytes())?,
-        Detail::Evidence(words) => push_word(&mut line, words)?,
-    }
-    line.push_slice(b"\n")?;
-    Ok(line)
-}
-
-fn push_word(line: &mut ByteString, word: &[u8]) -> Result<(), AllocError> {
-    line.push_slice(b" ")?;
-    line.push_slice(word)
 }
 
 /// Tells whether a signature is one of the file under a verifying key.

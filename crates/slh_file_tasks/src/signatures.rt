@@ -1,17 +1,25 @@
 //! `slh sign` and `slh verify`.
-ghost use Rattle.std.specs.Prelude.{◌≡◌, IfOk};
+ghost use Rattle.std.specs.Prelude.{◌≡◌, IfOk, Ok, OnOk};
+ghost use Rattle.slh_audit.specs.declared.evidence.Verdict.TheVariants.{Genuine};
+ghost use Rattle.slh_files.specs.Jobs.{verdict_by};
+ghost use Rattle.slh_readers.specs.Answers.{IsAnswer};
+ghost use Rattle.slh_run.specs.Judgement.{judgement};
+ghost use Rattle.slh_run.specs.declared.job.Job.TheVariants.{Audit};
+ghost use Rattle.slh_sets.specs.Sets.{scheme_for};
 
 use clap::ArgMatches;
 use slh_arguments::{
     Randomness, SIGNATURE_END, check_inputs, check_output, context, mode, read_failure, required,
     signing_key, tell_verdict, verifying_key,
 };
-use slh_files::{Key, Message, Outcome, SignError};
+use slh_files::{Key, Outcome};
 use slh_paths::files::{self, FromStart, Reader};
 use slh_paths::{Failure, outputs};
 use slh_readers::{ReadError, sign_digest, sign_twice};
 use slh_run::{ByteString, Error, Mode, Verdict};
+use std::alloc::Global;
 use std::fs::File;
+use std::io::Read;
 
 /// Signs a file. The signature goes to `--output`, else to FILE.sig, or from standard input to
 /// standard output.
@@ -55,13 +63,25 @@ fn made<'a>(
     key: Key,
     context: ByteString,
 ) -> Result<ByteString, Failure<'a>> {
-    match Reader::open(rt, path)?.into_regular() {
-        Ok(file) => of_file(rt, words, path, &key, context.as_slice(), &file),
-        Err(reader) => of_stream(rt, words, path, key, context, reader),
+    let reader = Reader::open(rt, path)?;
+    let mode = mode(words)?;
+    let randomness = Randomness::new(rt, words)?;
+    let terms = Terms {
+        key: &key,
+        mode,
+        context: context.as_slice(),
+        opt_rand: randomness.of_set(key.set),
+    };
+    match reader.into_regular() {
+        Ok(file) => of_file(rt, words, path, &terms, &file),
+        Err(reader) => of_stream(rt, words, path, &terms, reader),
     }
 }
 
-// How a file is signed, whichever it is.
+// What isn't read again.
+const NOTHING: &[u8] = b"";
+
+// How a message is signed, whichever it is.
 #[derive(Drop)]
 struct Terms<'s, 'r> {
     key: &'s Key,
@@ -71,45 +91,38 @@ struct Terms<'s, 'r> {
 }
 
 // The signature of a regular file. For an audit the file is read once more.
-fn of_file<'a, 's>(
+fn of_file<'a>(
     rt: &HostRuntime,
     words: &ArgMatches<'a>,
-    path: &'a str,
-    key: &'s Key,
-    context: &'s [u8],
-    file: &File,
-) -> Result<ByteString, Failure<'a>> {
-    let randomness = Randomness::new(rt, words)?;
-    let opt_rand = randomness.of_set(key.set);
-    let terms = Terms {
-        key,
-        mode: mode(words)?,
-        context,
-        opt_rand,
-    };
-    let signature = signed(rt, path, &terms, file)?;
-    if !words.get_flag("audit") {
-        return Ok(signature);
-    }
-    audited(rt, path, &terms, file, signature)
-}
-
-fn signed<'a>(
-    rt: &HostRuntime,
     path: &'a str,
     terms: &Terms<'_, '_>,
     file: &File,
 ) -> Result<ByteString, Failure<'a>> {
-    let (alloc, key, context) = (rt.alloc(), terms.key, terms.context);
-    let (opt_rand, first) = (terms.opt_rand, FromStart::new(rt, file));
+    let (first, second) = (FromStart::new(rt, file), FromStart::new(rt, file));
+    let signature = signed(rt.alloc(), path, terms, first, second)?;
+    if !words.get_flag("audit") {
+        return Ok(signature);
+    }
+    match audited(terms, FromStart::new(rt, file), signature) {
+        Ok(signature) => Ok(signature),
+        Err(Doubt::Foreign) => Err(Failure::Fault(path)),
+        Err(Doubt::Invalid(made)) => Err(why_invalid(rt, path, terms, file, made.as_slice())),
+        Err(Doubt::Unread(error)) => Err(read_failure(path, error)),
+    }
+}
+
+// The signature of what two readers give, which has to be the same. By its digest it is read once.
+fn signed<'a, R: Read + Drop, S: Read + Drop>(
+    alloc: Global,
+    path: &'a str,
+    terms: &Terms<'_, '_>,
+    first: R,
+    second: S,
+) -> Result<ByteString, Failure<'a>> {
+    let (key, context, opt_rand) = (terms.key, terms.context, terms.opt_rand);
     let signed = match terms.mode {
-        Mode::Pure => {
-            let second = FromStart::new(rt, file);
-            sign_twice(alloc, key, context, opt_rand, first, second)
-        }
-        Mode::Sha256 | Mode::Sha512 => {
-            sign_digest(alloc, key, terms.mode, context, opt_rand, first)
-        }
+        Mode::Pure => sign_twice(alloc, key, context, opt_rand, first, second),
+        mode => sign_digest(alloc, key, mode, context, opt_rand, first),
     };
     match signed {
         Ok(signature) => Ok(signature),
@@ -117,23 +130,35 @@ fn signed<'a>(
     }
 }
 
-// A signature, where it is the one that the key makes with its own randomizer.
-fn audited<'a>(
-    rt: &HostRuntime,
-    path: &'a str,
+// Why a signature that was made isn't handed out.
+#[derive(Drop)]
+enum Doubt {
+    // It isn't the one that the key makes.
+    Foreign,
+    // The key doesn't accept it: the signature.
+    Invalid(ByteString),
+    // The audit was refused, or a read failed.
+    Unread(ReadError),
+}
+
+// A signature, where it is the one that the key makes with its own randomizer of what a reader
+// gives.
+fn audited<R: Read + Drop>(
     terms: &Terms<'_, '_>,
-    file: &File,
+    reader: R,
     signature: ByteString,
-) -> Result<ByteString, Failure<'a>>
-    ensures { IfOk result (λ given. given ≡ signature) }
+) -> Result<ByteString, Doubt>
+    ensures given { IfOk result (λ given. given ≡ signature) }
+    ensures genuine { OnOk result (IsAnswer (R.remaining reader) (λ m. verdict_by
+        (judgement (scheme_for terms.now.key.now.set) (Audit terms.now.mode
+        terms.now.key.now.bytes terms.now.context.now m signature))) (Ok Genuine)) }
 {
-    let reader = FromStart::new(rt, file);
-    let (key, bytes) = (terms.key, signature.as_slice());
-    match slh_readers::audit(key, terms.mode, terms.context, bytes, reader) {
+    let (key, mode, context) = (terms.key, terms.mode, terms.context);
+    match slh_readers::audit(key, mode, context, signature.as_slice(), reader) {
         Ok(Verdict::Genuine) => Ok(signature),
-        Ok(Verdict::Foreign(_)) => Err(Failure::Fault(path)),
-        Err(ReadError::Refused(Error::Invalid)) => Err(why_invalid(rt, path, terms, file, bytes)),
-        Err(error) => Err(read_failure(path, error)),
+        Ok(Verdict::Foreign(_)) => Err(Doubt::Foreign),
+        Err(ReadError::Refused(Error::Invalid)) => Err(Doubt::Invalid(signature)),
+        Err(error) => Err(Doubt::Unread(error)),
     }
 }
 
@@ -146,7 +171,8 @@ fn why_invalid<'a>(
     file: &File,
     signature: &[u8],
 ) -> Failure<'a> {
-    match signed(rt, path, terms, file) {
+    let (first, second) = (FromStart::new(rt, file), FromStart::new(rt, file));
+    match signed(rt.alloc(), path, terms, first, second) {
         Ok(again) if is_same_front(signature, again.as_slice(), terms.key.set.n()) => {
             Failure::Fault(path)
         }
@@ -165,48 +191,23 @@ fn of_stream<'a>(
     rt: &HostRuntime,
     words: &ArgMatches<'a>,
     path: &'a str,
-    key: Key,
-    context: ByteString,
+    terms: &Terms<'_, '_>,
     reader: Reader,
 ) -> Result<ByteString, Failure<'a>> {
-    let mode = mode(words)?;
-    let randomness = Randomness::new(rt, words)?;
-    if mode == Mode::Pure || words.get_flag("audit") {
-        let message = Message {
-            mode,
-            context,
-            bytes: reader.whole(rt, path)?,
-        };
-        return signed_whole(rt, words, path, key, message, &randomness);
+    let is_audited = words.get_flag("audit");
+    if terms.mode != Mode::Pure && !is_audited {
+        return signed(rt.alloc(), path, terms, reader, NOTHING);
     }
-    let opt_rand = randomness.of_set(key.set);
-    match sign_digest(rt.alloc(), &key, mode, context.as_slice(), opt_rand, reader) {
+    let message = reader.whole(rt, path)?;
+    let message = message.as_slice();
+    let signature = signed(rt.alloc(), path, terms, message, message)?;
+    if !is_audited {
+        return Ok(signature);
+    }
+    match audited(terms, message, signature) {
         Ok(signature) => Ok(signature),
-        Err(error) => Err(read_failure(path, error)),
-    }
-}
-
-// The signature of a message that is whole in memory. For an audit it is made again from its own
-// randomizer.
-fn signed_whole<'a>(
-    rt: &HostRuntime,
-    words: &ArgMatches<'a>,
-    path: &'a str,
-    key: Key,
-    message: Message,
-    randomness: &Randomness,
-) -> Result<ByteString, Failure<'a>> {
-    let (alloc, random) = (rt.alloc(), randomness.bytes());
-    if words.get_flag("audit") {
-        return match slh_files::sign_audited(alloc, key, message, random) {
-            Ok(signature) => Ok(signature),
-            Err(SignError::Refused(error)) => Err(Failure::Refused(path, error)),
-            Err(SignError::Fault) => Err(Failure::Fault(path)),
-        };
-    }
-    match slh_files::sign(alloc, key, message, random) {
-        Ok(signature) => Ok(signature),
-        Err(error) => Err(Failure::Refused(path, error)),
+        Err(Doubt::Foreign | Doubt::Invalid(_)) => Err(Failure::Fault(path)),
+        Err(Doubt::Unread(error)) => Err(read_failure(path, error)),
     }
 }
 

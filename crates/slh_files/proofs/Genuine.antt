@@ -31,9 +31,7 @@ use Rattle.slh_trees.specs.Keys.{top_root}
 use Rattle.slh_trees.specs.Signing.{digest_signature, signature_of, signature_with}
 use Rattle.slh_trees.specs.Refusals.{context_refusal, first_refusal, message_refusal}
 use Rattle.slh_dsa.specs.declared.error.Error.TheVariants.{ContextTooLong, MessageTooLong}
-use Rattle.slh_files.specs.Jobs.{MadeIsGenuine, audited_by, genuine_by, has_true_root, signature_by}
-use Rattle.slh_files.specs.declared.jobs.SignError.{SignError}
-use Rattle.slh_files.specs.declared.jobs.SignError.TheVariants.{Fault, Refused}
+use Rattle.slh_files.specs.Jobs.{MadeIsGenuine, has_true_root}
 
 front : (Z : Scheme) (s sk rand digest : List ℕ) → length rand ≡ Z.n → take Z.n (digest_signature Z s sk rand digest) ≡ rand
 unfolding digest_signature
@@ -91,75 +89,3 @@ made_is_genuine Z law layers mode key context message signature randomizer signe
     let made_len = length-digest_signature Z s (part Z.n key 0) rand (Z.suite.h_msg rand s (part Z.n key 3) framed) law rand_len in
     let sized : (length (signature_of Z key randomizer framed) == signature_size Z) ≡ true = (Decides-eqb _ _).1 made_len in
     rw (sym whole.1, halves.0, sized, fits.0, short) (found_genuine Z key rand framed law layers rand_len)
-
--- what was signed is what the job of a signature answers
-signed_job : (answer : Result Answer Error) (signature : List ℕ) → Ok signature ≡ signature_by answer → answer ≡ Ok (Signature signature)
-signed_job (Err e) signature is = cc is
-signed_job (Ok (Key bytes)) signature is = cc is
-signed_job (Ok (Signature bytes)) signature is =
-    let same : signature ≡ bytes = cc is in ap (λ (b : List ℕ). Ok (Signature b)) (sym same)
-signed_job (Ok Accepted) signature is = cc is
-signed_job (Ok (VerdictAnswer v)) signature is = cc is
-signed_job (Ok (Shown s)) signature is = cc is
-
--- what is handed out
-
-by_root : (root : Bool) (signature : List ℕ)
-    → genuine_by signature (if root then Ok (VerdictAnswer Genuine) else Err KeyMismatch) ≡ (if root then Ok signature else Err (Refused KeyMismatch))
-by_root true signature = refl
-by_root false signature = refl
-
-handed_out : (Z : Scheme) (mode : Mode) (key context message signature : List ℕ) (randomizer : Option (List ℕ)) → MadeIsGenuine Z
-    → Ok signature ≡ signature_by (judgement Z (Sign mode key context message randomizer))
-    → genuine_by signature (judgement Z (Audit mode key context message signature)) ≡ audited_by Z key (Ok signature)
-handed_out Z mode key context message signature randomizer law signed =
-    ap (genuine_by signature) (law mode key context message signature randomizer (signed_job _ signature signed))
-    ∙ by_root (has_true_root Z key) signature
-
-genuine_found : (refusal : Option KeyError) (told : Result Verdict AuditError) → refused_or refusal (verdict_answer told) ≡ Ok (VerdictAnswer Genuine) → told ≡ Ok Genuine
-genuine_found None (Ok given) is =
-    let same : given ≡ Genuine = cc is in ap (λ (v : Verdict). Ok v) same
-genuine_found None (Err e) is = cc is
-genuine_found (Some e) told is = cc is
-
-module _ (Z : Scheme) (mode : Mode) (key context message : List ℕ) (randomizer : Option (List ℕ)) where
-  abbrev framed : List ℕ
-  framed = mode_frame mode context message
-
-  -- all that is said of what is handed out
-  pub record Promised (result : Result (List ℕ) SignError) : Type 0 where
-    pub value : IfOk result (λ signature. signature ≡ signature_of Z key randomizer framed)
-    pub audited : IfOk result (λ signature. message_audit Z key framed signature ≡ Ok Genuine)
-    pub judged : (result ≡ audited_by Z key (signature_by (judgement Z (Sign mode key context message randomizer)))) ⊎ (result ≡ Err (Refused Memory))
-    pub no_fault : IfErr result (λ e. e ≢ Fault)
-
-  value_by : (root : Bool) (signature : List ℕ) → signature ≡ signature_of Z key randomizer framed
-      → IfOk (if root then Ok signature else Err (Refused KeyMismatch)) (λ given. given ≡ signature_of Z key randomizer framed)
-  value_by true signature is = is
-  value_by false signature is = tt
-
-  audited_by_root : (root : Bool) (signature : List ℕ)
-      → judgement Z (Audit mode key context message signature) ≡ (if root then Ok (VerdictAnswer Genuine) else Err KeyMismatch)
-      → IfOk (if root then Ok signature else Err (Refused KeyMismatch)) (λ given. message_audit Z key framed given ≡ Ok Genuine)
-  audited_by_root true signature told = genuine_found _ (message_audit Z key framed signature) told
-  audited_by_root false signature told = tt
-
-  no_fault_by : (root : Bool) (signature : List ℕ) → IfErr (if root then Ok signature else Err (Refused KeyMismatch)) (λ e. e ≢ Fault)
-  no_fault_by true signature = tt
-  no_fault_by false signature = λ is. cc is
-
-  pub promised : (signature : List ℕ) (result : Result (List ℕ) SignError) → MadeIsGenuine Z
-      → (Ok signature ≡ signature_by (judgement Z (Sign mode key context message randomizer))) ⊎ (Ok signature ≡ Err Memory)
-      → result ≡ genuine_by signature (judgement Z (Audit mode key context message signature)) → Promised result
-  promised signature result law (inr none) told = cc none
-  promised signature result law (inl signed) told =
-      let root = has_true_root Z key in
-      let job = signed_job _ signature signed in
-      let made = (not_refused _ (signature_of Z key randomizer framed) signature job).1 in
-      let out : result ≡ audited_by Z key (Ok signature) = told ∙ handed_out Z mode key context message signature randomizer law signed in
-      rw out record {
-        value = value_by root signature (sym made);
-        audited = audited_by_root root signature (law mode key context message signature randomizer job);
-        judged = inl (ap (audited_by Z key) signed);
-        no_fault = no_fault_by root signature;
-      }

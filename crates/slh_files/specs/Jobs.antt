@@ -1,6 +1,6 @@
 -- What the answer to a job says.
-use Rattle.std.specs.Prelude.{◌≡◌, ℕ, ◌*◌, Bool, true, false, List, [], take, drop, Option, option_map}
-use Rattle.std.specs.Prelude.{Result, Ok, Err, ⊤, if◌then◌else◌}
+use Rattle.std.specs.Prelude.{◌≡◌, ℕ, ◌*◌, Bool, true, false, List, [], take, drop, Option}
+use Rattle.std.specs.Prelude.{Result, Ok, Err, if◌then◌else◌}
 use Rattle.std.specs.Str.{bytes_eq}
 use Rattle.slh_audit.specs.declared.evidence.Verdict.{Verdict}
 use Rattle.slh_audit.specs.declared.evidence.Verdict.TheVariants.{Genuine}
@@ -18,47 +18,23 @@ use Rattle.slh_run.specs.declared.job.Error.TheVariants.{Invalid, KeyMismatch}
 use Rattle.slh_run.specs.declared.job.Job.{Job}
 use Rattle.slh_run.specs.declared.job.Job.TheVariants.{Audit, Sign}
 use Rattle.slh_trees.specs.Keys.{signing_key_bytes, top_root}
-use Rattle.slh_files.specs.Heads.{seed_len}
 use Rattle.slh_files.specs.declared.error.KeyFileError.{KeyFileError}
 use Rattle.slh_files.specs.declared.error.KeyFileError.TheVariants.{Root}
-use Rattle.slh_files.specs.declared.jobs.SignError.{SignError}
-use Rattle.slh_files.specs.declared.jobs.SignError.TheVariants.{Fault, Refused}
 use Rattle.slh_files.specs.declared.key.Key.{Key}
 
 -- the signing key of three seeds, which are the first bytes
+abbrev pub made_by : Scheme → List ℕ → List ℕ
+made_by Z bytes =
+    signing_key_bytes Z
+    (take Z.n bytes) (take Z.n (drop Z.n bytes)) (take Z.n (drop (2 * Z.n) bytes))
+
 abbrev pub made_of : Set → List ℕ → List ℕ
-made_of set bytes =
-    let n = seed_len set in
-    signing_key_bytes (scheme_for set)
-    (take n bytes) (take n (drop n bytes)) (take n (drop (2 * n) bytes))
+made_of set bytes = made_by (scheme_for set) bytes
 
 -- a signing key, where it is the one that its own seeds make
 abbrev pub own_key : Result Key KeyFileError → Result Key KeyFileError
 own_key (Err e) = Err e
 own_key (Ok key) = if bytes_eq key.bytes (made_of key.set key.bytes) then Ok key else Err Root
-
--- the first bytes, as many as a randomizer is made from
-abbrev pub randomizer_of : Set → Option (List ℕ) → Option (List ℕ)
-randomizer_of set random = option_map (take (seed_len set)) random
-
-abbrev pub IsSign : Job → Type 0
-IsSign (Sign mode key context message randomizer) = ⊤
-IsSign _ = ⊥
-
-abbrev pub IsAudit : Job → Type 0
-IsAudit (Audit mode key context message signature) = ⊤
-IsAudit _ = ⊥
-
--- the audit of what a job of a signature gave
-abbrev pub audit_of : Job → List ℕ → Job
-audit_of (Sign mode key context message randomizer) signature =
-    Audit mode key context message signature
-audit_of job signature = job
-
--- the signature that an audit is of
-abbrev pub signature_under : Job → List ℕ
-signature_under (Audit mode key context message signature) = signature
-signature_under _ = []
 
 -- no other answer is given to such a job
 abbrev pub signature_by : Result Answer Error → Result (List ℕ) Error
@@ -66,22 +42,9 @@ signature_by (Ok (Signature bytes)) = Ok bytes
 signature_by (Ok _) = Err Invalid
 signature_by (Err e) = Err e
 
--- a signature is handed out by the answer to its audit
-abbrev pub genuine_by : List ℕ → Result Answer Error → Result (List ℕ) SignError
-genuine_by signature (Ok (VerdictAnswer Genuine)) = Ok signature
-genuine_by signature (Ok _) = Err Fault
-genuine_by signature (Err Invalid) = Err Fault
-genuine_by signature (Err e) = Err (Refused e)
-
 -- the key's root is that of its seeds
 abbrev pub has_true_root : Scheme → List ℕ → Bool
 has_true_root Z key = bytes_eq (part Z.n key 3) (top_root Z (part Z.n key 2) (part Z.n key 0))
-
--- what signing with an audit answers
-abbrev pub audited_by : Scheme → List ℕ → Result (List ℕ) Error → Result (List ℕ) SignError
-audited_by Z key (Err e) = Err (Refused e)
-audited_by Z key (Ok signature) =
-    if has_true_root Z key then Ok signature else Err (Refused KeyMismatch)
 
 -- the audit of what was signed finds what the key makes, or that the key's root is another
 abbrev pub MadeIsGenuine : Scheme → Type 0

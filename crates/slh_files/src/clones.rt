@@ -2,7 +2,6 @@
 ghost use Rattle.std.specs.Prelude.{◌≡◌, ◌↔◌, IsTrue};
 
 use crate::error::KeyFileError;
-use crate::jobs::SignError;
 use crate::key::Kind;
 
 /// A clone of a refusal is that refusal, and `==` holds exactly where both are the same.
@@ -18,14 +17,6 @@ pub fn clone_and_equality_of_key_file_errors(
 
 /// A clone of a kind is that kind, and `==` holds exactly where both are the same.
 pub fn clone_and_equality_of_kinds(a: &Kind, b: &Kind) -> (Kind, bool)
-    ensures clone { result.0 ≡ a.now }
-    ensures equal { IsTrue result.1 ↔ (a.now ≡ b.now) }
-{
-    (a.clone().unwrap(), a == b)
-}
-
-/// A clone of a refusal to sign is that refusal, and `==` holds exactly where both are the same.
-pub fn clone_and_equality_of_sign_errors(a: &SignError, b: &SignError) -> (SignError, bool)
     ensures clone { result.0 ≡ a.now }
     ensures equal { IsTrue result.1 ↔ (a.now ≡ b.now) }
 {

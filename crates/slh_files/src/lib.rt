@@ -5,11 +5,11 @@
 //! ends of lines within it don't count, and each other thing has its refusal, [`KeyFileError`].
 //! Signatures are their bytes, or hexadecimal digits of them.
 //!
-//! A key's file, and what a key file and a file say of a signature:
+//! A key's file:
 //!
 //! ```
-//! use slh_files::{Key, KeyFileError, Kind, Message, encode_key, made_key, verify};
-//! use slh_run::{ByteString, Error, Mode};
+//! use slh_files::{KeyFileError, Kind, encode_key, made_key};
+//! use slh_run::ByteString;
 //! use slh_sets::Set;
 //! use std::alloc::Global;
 //!
@@ -19,23 +19,9 @@
 //!     };
 //!     encode_key(alloc, Kind::Signing, &key)
 //! }
-//!
-//! fn accepted(
-//!     alloc: Global,
-//!     key: Key,
-//!     file: ByteString,
-//!     signature: ByteString,
-//! ) -> Result<bool, Error> {
-//!     let message = Message {
-//!         mode: Mode::Pure,
-//!         context: ByteString::new(alloc),
-//!         bytes: file,
-//!     };
-//!     verify(alloc, key, message, signature)
-//! }
 //! ```
 //!
-//! Each job with a key is one call of `slh_run::run`.
+//! `slh_readers` signs, verifies and audits with such keys what a reader gives.
 #![tactic(auto)]
 
 mod blocks;
@@ -43,10 +29,10 @@ pub mod clones;
 mod error;
 mod evidence;
 mod heads;
-mod jobs;
 mod key;
 pub mod laws;
 mod lines;
+mod making;
 mod outcome;
 mod places;
 mod readers;
@@ -56,11 +42,8 @@ mod writing;
 
 pub use error::KeyFileError;
 pub use evidence::evidence_of;
-pub use jobs::{
-    Message, SignError, audit, check, has_own_root, made_key, sign, sign_audited, verify,
-    verifying_key,
-};
 pub use key::{Key, Kind};
+pub use making::{has_own_root, made_key, verifying_key};
 pub use outcome::Outcome;
 pub use readers::gather;
 pub use reading::{read_key, read_signing_key};

@@ -8,10 +8,11 @@ use crate::watching::refused_head;
 use clap::ArgMatches;
 use log_tiles::{Bundle, FULL, GrowingTiles, LEVELS, last_tile};
 use merkle_tree::{DIGEST_LEN, Sha256};
-use slh_arguments::{tell, verifying_key};
+use slh_arguments::{report, verifying_key};
+use slh_command::Detail;
 use slh_files::Outcome;
 use slh_log::OpenError;
-use slh_paths::Failure;
+use slh_paths::{Failure, Progress};
 
 const BENT: &str = "not the tile of these entries: missing, cut or bent";
 
@@ -55,9 +56,11 @@ fn check_leaf<'a>(
 fn check_bundle<'a>(
     folder: LogFolder<'_, 'a>,
     tiles: &mut GrowingTiles<Sha256>,
+    progress: &mut Progress,
     bundle: Bundle,
 ) -> Result<(), Failure<'a>> {
     let bytes = folder.bundle(bundle)?;
+    progress.add(bytes.len() as u64);
     let leaves = leaves_of(folder, bundle, bytes.as_slice())?;
     for leaf in leaves.as_slice() {
         check_leaf(folder, tiles, leaf)?;
@@ -65,20 +68,34 @@ fn check_bundle<'a>(
     Ok(())
 }
 
-// The tiles over the entries of a log, where its files have them.
-fn tiles_of<'a>(folder: LogFolder<'_, 'a>, size: u64) -> Result<GrowingTiles<Sha256>, Failure<'a>> {
-    let mut tiles = GrowingTiles::<Sha256>::new();
+// Reads the entries of a log, and compares the tiles that they make full.
+fn check_bundles<'a>(
+    folder: LogFolder<'_, 'a>,
+    tiles: &mut GrowingTiles<Sha256>,
+    progress: &mut Progress,
+    size: u64,
+) -> Result<(), Failure<'a>> {
     for index in 0..size / 256 {
         let bundle = Bundle { index, width: FULL };
-        check_bundle(folder, &mut tiles, bundle)?;
+        check_bundle(folder, tiles, progress, bundle)?;
     }
     if size % 256 != 0 {
         let bundle = Bundle {
             index: size / 256,
             width: (size % 256) as u32,
         };
-        check_bundle(folder, &mut tiles, bundle)?;
+        check_bundle(folder, tiles, progress, bundle)?;
     }
+    Ok(())
+}
+
+// The tiles over the entries of a log, where its files have them.
+fn tiles_of<'a>(folder: LogFolder<'_, 'a>, size: u64) -> Result<GrowingTiles<Sha256>, Failure<'a>> {
+    let mut tiles = GrowingTiles::<Sha256>::new();
+    let mut progress = Progress::new(folder.rt);
+    let checked = check_bundles(folder, &mut tiles, &mut progress, size);
+    progress.clear();
+    checked?;
     for level in 0..LEVELS as u32 {
         check_tile(folder, &tiles, level)?;
     }
@@ -130,9 +147,10 @@ pub fn check<'a>(rt: &HostRuntime, words: &ArgMatches<'a>) -> Result<Outcome, Fa
     let size = head.checkpoint.size;
     let tiles = tiles_of(folder, size)?;
     tell_ahead(folder, size)?;
-    if is_opened && tiles.root() == head.checkpoint.root {
-        tell(rt, Outcome::Accepted)
+    let outcome = if is_opened && tiles.root() == head.checkpoint.root {
+        Outcome::Accepted
     } else {
-        tell(rt, Outcome::Invalid)
-    }
+        Outcome::Invalid
+    };
+    report(rt, words, outcome, Detail::Nothing)
 }

@@ -1,8 +1,12 @@
 //! `slh log verify` and `slh log growth`: what those who watch a log do.
+ghost use Rattle.std.specs.Prelude.{◌≡◌, IfOk, IsOk, Ok};
+ghost use Rattle.slh_files.specs.declared.outcome.Outcome.TheVariants.{Accepted, Invalid};
+
 use crate::proof_files::{Proof, ProofError, Purpose, read_proof};
 use crate::verdicts::{EntryError, LogError, Signer, check_entry, check_log};
 use clap::ArgMatches;
-use slh_arguments::{required, tell, verifying_key};
+use slh_arguments::{report, required, verifying_key};
+use slh_command::Detail;
 use slh_files::{Key, Outcome};
 use slh_log::{GrowthError, OpenError, PresenceError, read_unverified};
 use slh_paths::{Failure, files};
@@ -20,14 +24,12 @@ pub fn refused_head<'a>(path: &'a str, error: OpenError) -> Failure<'a> {
     }
 }
 
-/// What is told of a checkpoint that isn't opened: that it is invalid, or the refusal.
-pub fn tell_head<'a>(
-    rt: &HostRuntime,
-    path: &'a str,
-    error: OpenError,
-) -> Result<Outcome, Failure<'a>> {
+// What is told of a checkpoint that isn't opened: that it is invalid, or the refusal.
+fn outcome_of_head<'a>(path: &'a str, error: OpenError) -> Result<Outcome, Failure<'a>>
+    ensures { IfOk result (λ told. told ≡ Invalid) }
+{
     match error {
-        OpenError::Invalid => tell(rt, Outcome::Invalid),
+        OpenError::Invalid => Ok(Outcome::Invalid),
         error => Err(refused_head(path, error)),
     }
 }
@@ -83,27 +85,31 @@ pub fn verify<'a>(rt: &HostRuntime, words: &ArgMatches<'a>) -> Result<Outcome, F
     let proof = proof_of(rt.alloc(), path, Purpose::Presence, bytes.as_slice())?;
     let entry = files::read_limited(rt, file)?;
     let (number, digests) = (proof.number, proof.digests.as_slice());
-    if let Some(head) = words.get_str("checkpoint") {
+    let outcome = if let Some(head) = words.get_str("checkpoint") {
         let bytes = files::read_limited(rt, head)?;
         let checked = check_entry(signer, bytes.as_slice(), number, entry.as_slice(), digests);
-        return tell_entry(rt, head, path, file, checked);
-    }
-    let checked = check_entry(signer, proof.checkpoint, number, entry.as_slice(), digests);
-    tell_entry(rt, path, path, file, checked)
+        outcome_of_entry(head, path, file, checked)?
+    } else {
+        let checked = check_entry(signer, proof.checkpoint, number, entry.as_slice(), digests);
+        outcome_of_entry(path, path, file, checked)?
+    };
+    report(rt, words, outcome, Detail::Nothing)
 }
 
 // What is told of an entry, by the paths of the checkpoint, the proof and the entry.
-fn tell_entry<'a>(
-    rt: &HostRuntime,
+fn outcome_of_entry<'a>(
     head: &'a str,
     proof: &'a str,
     file: &'a str,
     checked: Result<(), EntryError>,
-) -> Result<Outcome, Failure<'a>> {
+) -> Result<Outcome, Failure<'a>>
+    ensures accepted { IsOk checked → result ≡ Ok Accepted }
+    ensures only { IfOk result (λ told. told ≡ Accepted → IsOk checked) }
+{
     match checked {
-        Ok(()) => tell(rt, Outcome::Accepted),
-        Err(EntryError::Head(error)) => tell_head(rt, head, error),
-        Err(EntryError::Path(PresenceError::Invalid)) => tell(rt, Outcome::Invalid),
+        Ok(()) => Ok(Outcome::Accepted),
+        Err(EntryError::Head(error)) => outcome_of_head(head, error),
+        Err(EntryError::Path(PresenceError::Invalid)) => Ok(Outcome::Invalid),
         Err(EntryError::Path(PresenceError::Index)) => {
             Err(Failure::Told(proof, "its index is none of the log's"))
         }
@@ -133,22 +139,25 @@ pub fn growth<'a>(rt: &HostRuntime, words: &ArgMatches<'a>) -> Result<Outcome, F
     {
         return Err(Failure::Told(path, "a proof from another size than the old checkpoint's"));
     }
-    tell_growth(rt, old, new, path, checked)
+    let outcome = outcome_of_growth(old, new, path, checked)?;
+    report(rt, words, outcome, Detail::Nothing)
 }
 
 // What is told of a growth, by the paths of the checkpoints and the proof.
-fn tell_growth<'a>(
-    rt: &HostRuntime,
+fn outcome_of_growth<'a>(
     old: &'a str,
     new: &'a str,
     proof: &'a str,
     checked: Result<(), LogError>,
-) -> Result<Outcome, Failure<'a>> {
+) -> Result<Outcome, Failure<'a>>
+    ensures accepted { IsOk checked → result ≡ Ok Accepted }
+    ensures only { IfOk result (λ told. told ≡ Accepted → IsOk checked) }
+{
     match checked {
-        Ok(()) => tell(rt, Outcome::Accepted),
-        Err(LogError::Old(error)) => tell_head(rt, old, error),
-        Err(LogError::New(error)) => tell_head(rt, new, error),
-        Err(LogError::Proof(GrowthError::Invalid)) => tell(rt, Outcome::Invalid),
+        Ok(()) => Ok(Outcome::Accepted),
+        Err(LogError::Old(error)) => outcome_of_head(old, error),
+        Err(LogError::New(error)) => outcome_of_head(new, error),
+        Err(LogError::Proof(GrowthError::Invalid)) => Ok(Outcome::Invalid),
         Err(LogError::Proof(GrowthError::Empty)) => {
             Err(Failure::Told(old, "it has no entries, and every log grew from it"))
         }

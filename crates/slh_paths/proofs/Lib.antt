@@ -1,1 +1,2 @@
 mod Over
+mod Names

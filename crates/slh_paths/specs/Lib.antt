@@ -1,2 +1,3 @@
 pub mod Secrets
 pub mod Outputs
+pub mod Shown

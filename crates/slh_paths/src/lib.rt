@@ -17,5 +17,6 @@ pub mod shown;
 mod whole_outputs;
 
 pub use failure::Failure;
+pub use progress::Progress;
 pub use randomness::random;
 pub use whole_outputs::{Fronts, PutError, put_whole};

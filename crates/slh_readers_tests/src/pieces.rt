@@ -1,19 +1,27 @@
 //! Messages of more than one piece, against the calls in one piece.
 use crate::readers::{public, signing, slowly};
-use slh_files::{Key, Message, sign};
+use slh_files::Key;
 use slh_readers::{sign_digest, sign_twice, verify};
-use slh_run::{ByteString, Error, Mode};
+use slh_run::{Answer, ByteString, Error, Job, Mode, run};
 use std::alloc::Global;
 
 // Three pieces and some bytes.
 const LONG: usize = 200_000;
 
-fn message(alloc: Global, mode: Mode, bytes: &[u8]) -> Result<Message, Error> {
-    Ok(Message {
+// The signature that a job gives, with the message in one piece.
+fn signed_whole(alloc: Global, mode: Mode, bytes: &[u8]) -> Result<ByteString, Error> {
+    let Key { set, bytes: key } = signing(alloc)?;
+    let job = Job::Sign {
         mode,
+        key,
         context: ByteString::new(alloc),
-        bytes: ByteString::from_slice(alloc, bytes)?,
-    })
+        message: ByteString::from_slice(alloc, bytes)?,
+        randomizer: None,
+    };
+    match run(alloc, set, &job)? {
+        Answer::Signature(signature) => Ok(signature),
+        _ => Err(Error::Invalid),
+    }
 }
 
 // A long message, of which no two pieces are the same.
@@ -51,7 +59,7 @@ fn is_signed(alloc: Global, key: &Key, mode: Mode, wanted: &[u8], bytes: &[u8]) 
 fn is_the_same(alloc: Global, mode: Mode) -> Result<bool, Error> {
     let bytes = long(alloc)?;
     let bytes = bytes.as_slice();
-    let wanted = sign(alloc, signing(alloc)?, message(alloc, mode, bytes)?, None)?;
+    let wanted = signed_whole(alloc, mode, bytes)?;
     let wanted = wanted.as_slice();
     Ok(
         is_signed(alloc, &signing(alloc)?, mode, wanted, bytes)

@@ -10,152 +10,160 @@ pub fn groups() -> [Group; 5] {
     [batch(), manifest(), chain(), ring(), log()]
 }
 
+const BATCH_SIGN: Subcommand = Subcommand {
+    name: "sign",
+    about: "Signs many files at once: FILE.receipt for each",
+    example: "Example:\n    slh batch sign --key release.key *.txt",
+    words: &[SIGNING_KEY, HEAD_OUTPUT, DETERMINISTIC, FILES],
+};
+
+const BATCH_VERIFY: Subcommand = Subcommand {
+    name: "verify",
+    about: "Verifies the receipt of a file: accepted (0) or invalid (1)",
+    example: "Example:\n    slh batch verify --key release.pub a.txt",
+    words: &[VERIFYING_KEY, KEY_TEXT, BATCH_HEAD, RECEIPT, JSON, FILE],
+};
+
 // `slh batch`.
 fn batch() -> Group {
     Group {
         name: "batch",
         about: "One signature for many files, and a receipt for each",
-        subcommands: &[
-            Subcommand {
-                name: "sign",
-                about: "Signs many files at once: FILE.receipt for each",
-                example: "Example:\n    slh batch sign --key release.key *.txt",
-                words: &[SIGNING_KEY, HEAD_OUTPUT, DETERMINISTIC, FILES],
-            },
-            Subcommand {
-                name: "verify",
-                about: "Verifies the receipt of a file: accepted (0) or invalid (1)",
-                example: "Example:\n    slh batch verify --key release.pub a.txt",
-                words: &[VERIFYING_KEY, KEY_TEXT, BATCH_HEAD, RECEIPT, JSON, FILE],
-            },
-        ],
+        subcommands: &[BATCH_SIGN, BATCH_VERIFY],
     }
 }
+
+const MANIFEST_SEAL: Subcommand = Subcommand {
+    name: "seal",
+    about: "Signs the regular files below a folder, up to 4096",
+    example: "Example:\n    \
+              slh manifest seal --key release.key --output folder.manifest folder",
+    words: &[SIGNING_KEY, DETERMINISTIC, MANIFEST_OUTPUT, FOLDER],
+};
+
+const MANIFEST_CHECK: Subcommand = Subcommand {
+    name: "check",
+    about: "Tells whether a folder has the files of a manifest: accepted (0), or \
+            which is missing, differs or is unnamed (1)",
+    example: "Example:\n    \
+              slh manifest check --key release.pub --manifest folder.manifest folder",
+    words: &[
+        VERIFYING_KEY,
+        KEY_TEXT,
+        ROOT_CHAIN,
+        MANIFEST_FILE,
+        STRICT,
+        JSON,
+        FOLDER,
+    ],
+};
 
 // `slh manifest`.
 fn manifest() -> Group {
     Group {
         name: "manifest",
         about: "One signature for the files of a folder",
-        subcommands: &[
-            Subcommand {
-                name: "seal",
-                about: "Signs the regular files below a folder, up to 4096",
-                example: "Example:\n    \
-                          slh manifest seal --key release.key --output folder.manifest folder",
-                words: &[SIGNING_KEY, DETERMINISTIC, MANIFEST_OUTPUT, FOLDER],
-            },
-            Subcommand {
-                name: "check",
-                about: "Tells whether a folder has the files of a manifest: accepted (0), or \
-                        which is missing, differs or is unnamed (1)",
-                example: "Example:\n    \
-                          slh manifest check --key release.pub --manifest folder.manifest folder",
-                words: &[
-                    VERIFYING_KEY,
-                    KEY_TEXT,
-                    ROOT_CHAIN,
-                    MANIFEST_FILE,
-                    STRICT,
-                    JSON,
-                    FOLDER,
-                ],
-            },
-        ],
+        subcommands: &[MANIFEST_SEAL, MANIFEST_CHECK],
     }
 }
+
+const CHAIN_DELEGATE: Subcommand = Subcommand {
+    name: "delegate",
+    about: "Lets another key act: a chain with a link more",
+    example: "Example:\n    \
+              slh chain delegate --key root.key --subject release.pub --name \
+              release --output release.chain",
+    words: &[
+        SIGNING_KEY,
+        SUBJECT,
+        LINK_NAME,
+        DEPTH,
+        OLD_CHAIN,
+        DETERMINISTIC,
+        CHAIN_OUTPUT,
+    ],
+};
+
+const CHAIN_WALK: Subcommand = Subcommand {
+    name: "walk",
+    about: "Writes the key at the end of a chain",
+    example: "Example:\n    slh chain walk --key root.pub --chain release.chain",
+    words: &[ROOT, KEY_TEXT, CHAIN_FILE, OUTPUT],
+};
+
+const CHAIN_SHOW: Subcommand = Subcommand {
+    name: "show",
+    about: "Writes a line for each link of a chain: its depth, its key and its name",
+    example: "Example:\n    slh chain show --key root.pub --chain release.chain",
+    words: &[ROOT, KEY_TEXT, CHAIN_FILE],
+};
+
+const CHAIN_VERIFY: Subcommand = Subcommand {
+    name: "verify",
+    about: "Verifies a file under the key at the end of a chain: accepted (0) or \
+            invalid (1)",
+    example: "Example:\n    \
+              slh chain verify --key root.pub --chain release.chain notes.txt",
+    words: &[
+        ROOT,
+        KEY_TEXT,
+        CHAIN_FILE,
+        SIGNATURE,
+        CONTEXT,
+        CONTEXT_HEX,
+        PREHASH,
+        JSON,
+        FILE,
+    ],
+};
 
 // `slh chain`.
 fn chain() -> Group {
     Group {
         name: "chain",
         about: "Keys that sign keys",
-        subcommands: &[
-            Subcommand {
-                name: "delegate",
-                about: "Lets another key act: a chain with a link more",
-                example: "Example:\n    \
-                          slh chain delegate --key root.key --subject release.pub --name \
-                          release --output release.chain",
-                words: &[
-                    SIGNING_KEY,
-                    SUBJECT,
-                    LINK_NAME,
-                    DEPTH,
-                    OLD_CHAIN,
-                    DETERMINISTIC,
-                    CHAIN_OUTPUT,
-                ],
-            },
-            Subcommand {
-                name: "walk",
-                about: "Writes the key at the end of a chain",
-                example: "Example:\n    slh chain walk --key root.pub --chain release.chain",
-                words: &[ROOT, KEY_TEXT, CHAIN_FILE, OUTPUT],
-            },
-            Subcommand {
-                name: "show",
-                about: "Writes a line for each link of a chain: its depth, its key and its name",
-                example: "Example:\n    slh chain show --key root.pub --chain release.chain",
-                words: &[ROOT, KEY_TEXT, CHAIN_FILE],
-            },
-            Subcommand {
-                name: "verify",
-                about: "Verifies a file under the key at the end of a chain: accepted (0) or \
-                        invalid (1)",
-                example: "Example:\n    \
-                          slh chain verify --key root.pub --chain release.chain notes.txt",
-                words: &[
-                    ROOT,
-                    KEY_TEXT,
-                    CHAIN_FILE,
-                    SIGNATURE,
-                    CONTEXT,
-                    CONTEXT_HEX,
-                    PREHASH,
-                    JSON,
-                    FILE,
-                ],
-            },
-        ],
+        subcommands: &[CHAIN_DELEGATE, CHAIN_WALK, CHAIN_SHOW, CHAIN_VERIFY],
     }
 }
+
+const RING_MASTER: Subcommand = Subcommand {
+    name: "master",
+    about: "Makes a master secret of random bytes",
+    example: "Example:\n    slh ring master products.master",
+    words: &[MASTER_FILE],
+};
+
+const RING_KEY: Subcommand = Subcommand {
+    name: "key",
+    about: "Makes the key at a path again: NAME.key and NAME.pub",
+    example: "Example:\n    \
+              slh ring key --set SLH-DSA-SHA2-128f --master products.master --path \
+              2/2026 product2",
+    words: &[SET, MASTER, PATH, NAME],
+};
+
+const RING_RECORD: Subcommand = Subcommand {
+    name: "record",
+    about: "Writes the record of a ring, which is no secret",
+    example: "Example:\n    \
+              slh ring record --set SLH-DSA-SHA2-128f --master products.master \
+              --output products.ring 1/2026 2/2026",
+    words: &[SET, MASTER, RECORD_OUTPUT, PATHS],
+};
+
+const RING_RESTORE: Subcommand = Subcommand {
+    name: "restore",
+    about: "Writes the paths of a record, where its keys are those of the master",
+    example: "Example:\n    slh ring restore --master products.master products.ring",
+    words: &[MASTER, RECORD],
+};
 
 // `slh ring`.
 fn ring() -> Group {
     Group {
         name: "ring",
         about: "The keys that one master secret gives",
-        subcommands: &[
-            Subcommand {
-                name: "master",
-                about: "Makes a master secret of random bytes",
-                example: "Example:\n    slh ring master products.master",
-                words: &[MASTER_FILE],
-            },
-            Subcommand {
-                name: "key",
-                about: "Makes the key at a path again: NAME.key and NAME.pub",
-                example: "Example:\n    \
-                          slh ring key --set SLH-DSA-SHA2-128f --master products.master --path \
-                          2/2026 product2",
-                words: &[SET, MASTER, PATH, NAME],
-            },
-            Subcommand {
-                name: "record",
-                about: "Writes the record of a ring, which is no secret",
-                example: "Example:\n    \
-                          slh ring record --set SLH-DSA-SHA2-128f --master products.master \
-                          --output products.ring 1/2026 2/2026",
-                words: &[SET, MASTER, RECORD_OUTPUT, PATHS],
-            },
-            Subcommand {
-                name: "restore",
-                about: "Writes the paths of a record, where its keys are those of the master",
-                example: "Example:\n    slh ring restore --master products.master products.ring",
-                words: &[MASTER, RECORD],
-            },
-        ],
+        subcommands: &[RING_MASTER, RING_KEY, RING_RECORD, RING_RESTORE],
     }
 }
 

@@ -1,7 +1,55 @@
 //! The words of the commands for signed logs.
 use crate::words::{
-    DETERMINISTIC, FILE, Group, KEY_TEXT, Kind, OUTPUT, SIGNING_KEY, Subcommand, VERIFYING_KEY,
-    Word,
+    DETERMINISTIC, FILE, Group, JSON, KEY_TEXT, Kind, OUTPUT, SIGNING_KEY, Subcommand,
+    VERIFYING_KEY, Word,
+};
+
+const LOG_INIT: Subcommand = Subcommand {
+    name: "init",
+    about: "Begins a log without entries in a folder",
+    example: "Example:\n    \
+              slh log init --key log.key --origin example.org/releases releases",
+    words: &[SIGNING_KEY, ORIGIN, DETERMINISTIC, LOG],
+};
+
+const LOG_APPEND: Subcommand = Subcommand {
+    name: "append",
+    about: "Adds each file as an entry, and signs the head again",
+    example: "Example:\n    slh log append --key log.key releases notes.txt",
+    words: &[SIGNING_KEY, LINES, DETERMINISTIC, LOG, ENTRIES],
+};
+
+const LOG_PROVE: Subcommand = Subcommand {
+    name: "prove",
+    about: "Writes the proof that an entry is in the log, or that the log grew",
+    example: "Example:\n    \
+              slh log prove releases 0 --output notes.proof\n    \
+              slh log prove releases --from 1 --output growth.proof",
+    words: &[FROM, OUTPUT, LOG, INDEX],
+};
+
+const LOG_VERIFY: Subcommand = Subcommand {
+    name: "verify",
+    about: "Tells whether a file is an entry of the log of a proof: accepted (0) or \
+            invalid (1)",
+    example: VERIFY_EXAMPLE,
+    words: &[VERIFYING_KEY, KEY_TEXT, ORIGIN, HEAD, PROOF, JSON, FILE],
+};
+
+const LOG_GROWTH: Subcommand = Subcommand {
+    name: "growth",
+    about: "Tells whether a log kept all entries of an older checkpoint: accepted (0) \
+            or invalid (1)",
+    example: GROWTH_EXAMPLE,
+    words: &[VERIFYING_KEY, KEY_TEXT, ORIGIN, OLD, NEW, PROOF, JSON],
+};
+
+const LOG_CHECK: Subcommand = Subcommand {
+    name: "check",
+    about: "Makes everything again from the entries, and compares: accepted (0) or \
+            invalid (1)",
+    example: "Example:\n    slh log check --key log.pub releases",
+    words: &[VERIFYING_KEY, KEY_TEXT, ANY_ORIGIN, JSON, LOG],
 };
 
 /// `slh log`.
@@ -10,48 +58,7 @@ pub fn log() -> Group {
         name: "log",
         about: "A signed log that only grows",
         subcommands: &[
-            Subcommand {
-                name: "init",
-                about: "Begins a log without entries in a folder",
-                example: "Example:\n    \
-                          slh log init --key log.key --origin example.org/releases releases",
-                words: &[SIGNING_KEY, ORIGIN, DETERMINISTIC, LOG],
-            },
-            Subcommand {
-                name: "append",
-                about: "Adds each file as an entry, and signs the head again",
-                example: "Example:\n    slh log append --key log.key releases notes.txt",
-                words: &[SIGNING_KEY, LINES, DETERMINISTIC, LOG, ENTRIES],
-            },
-            Subcommand {
-                name: "prove",
-                about: "Writes the proof that an entry is in the log, or that the log grew",
-                example: "Example:\n    \
-                          slh log prove releases 0 --output notes.proof\n    \
-                          slh log prove releases --from 1 --output growth.proof",
-                words: &[FROM, OUTPUT, LOG, INDEX],
-            },
-            Subcommand {
-                name: "verify",
-                about: "Tells whether a file is an entry of the log of a proof: accepted (0) or \
-                        invalid (1)",
-                example: VERIFY_EXAMPLE,
-                words: &[VERIFYING_KEY, KEY_TEXT, ORIGIN, HEAD, PROOF, FILE],
-            },
-            Subcommand {
-                name: "growth",
-                about: "Tells whether a log kept all entries of an older checkpoint: accepted (0) \
-                        or invalid (1)",
-                example: GROWTH_EXAMPLE,
-                words: &[VERIFYING_KEY, KEY_TEXT, ORIGIN, OLD, NEW, PROOF],
-            },
-            Subcommand {
-                name: "check",
-                about: "Makes everything again from the entries, and compares: accepted (0) or \
-                        invalid (1)",
-                example: "Example:\n    slh log check --key log.pub releases",
-                words: &[VERIFYING_KEY, KEY_TEXT, ANY_ORIGIN, LOG],
-            },
+            LOG_INIT, LOG_APPEND, LOG_PROVE, LOG_VERIFY, LOG_GROWTH, LOG_CHECK,
         ],
     }
 }

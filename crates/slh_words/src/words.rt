@@ -11,7 +11,7 @@ const VERSION: &str = "0.17.0 (logic dac8208d650f15bf)";
 const HASHES: [&str; 2] = ["sha256", "sha512"];
 
 /// A command that has commands below it.
-#[derive(Clone, Copy)]
+#[derive(Drop)]
 pub struct Group {
     pub name: &'static str,
     pub about: &'static str,
@@ -182,104 +182,114 @@ const EVIDENCE: Word = Word {
     help: "What an audit printed after foreign",
 };
 
+const KEYGEN: Subcommand = Subcommand {
+    name: "keygen",
+    about: "Makes a key of random bytes: NAME.key, which is secret, and NAME.pub",
+    example: "Example:\n    slh keygen --set SLH-DSA-SHA2-128f release",
+    words: &[KEYGEN_SET, NAME],
+};
+
+const PUBLIC: Subcommand = Subcommand {
+    name: "public",
+    about: "Writes the verifying key of a signing key",
+    example: "Example:\n    slh public --key release.key --output release.pub",
+    words: &[SIGNING_KEY, OUTPUT],
+};
+
+const SIGN: Subcommand = Subcommand {
+    name: "sign",
+    about: "Signs a file; the signature goes to FILE.sig",
+    example: "Example:\n    slh sign --key release.key --audit notes.txt",
+    words: &[
+        SIGNING_KEY,
+        CONTEXT,
+        CONTEXT_HEX,
+        PREHASH,
+        FILE,
+        DETERMINISTIC,
+        AUDIT,
+        SIGNATURE_OUTPUT,
+    ],
+};
+
+const VERIFY: Subcommand = Subcommand {
+    name: "verify",
+    about: "Verifies a signature of a file: accepted (0) or invalid (1)",
+    example: "Example:\n    slh verify --key release.pub notes.txt",
+    words: &[
+        VERIFYING_KEY,
+        KEY_TEXT,
+        SIGNATURE,
+        CONTEXT,
+        CONTEXT_HEX,
+        PREHASH,
+        JSON,
+        FILE,
+    ],
+};
+
+const AUDIT_COMMAND: Subcommand = Subcommand {
+    name: "audit",
+    about: "Tells whether a key made a signature: genuine (0), foreign or invalid (1)",
+    example: "Example:\n    \
+              slh audit --key release.key --signature notes.txt.sig notes.txt",
+    words: &[
+        SIGNING_KEY,
+        SIGNATURE,
+        CONTEXT,
+        CONTEXT_HEX,
+        PREHASH,
+        JSON,
+        FILE,
+    ],
+};
+
+// The words of `evidence`, and of its old name.
+const EVIDENCE_WORDS: &[Word] = &[
+    SIGNING_KEY,
+    SIGNATURE,
+    EVIDENCE,
+    CONTEXT,
+    CONTEXT_HEX,
+    PREHASH,
+    JSON,
+    FILE,
+];
+
+const EVIDENCE_COMMAND: Subcommand = Subcommand {
+    name: "evidence",
+    about: "Tells whether evidence shows against a signature: shown (0) or not shown (1)",
+    example: "Example:\n    slh evidence --key release.key --signature notes.txt.sig \
+              --evidence 'early 0 1' notes.txt",
+    words: EVIDENCE_WORDS,
+};
+
+const CHECK: Subcommand = Subcommand {
+    name: "check",
+    about: "The old name of evidence",
+    example: "Example:\n    slh check --key release.key --signature notes.txt.sig \
+              --evidence 'early 0 1' notes.txt",
+    words: EVIDENCE_WORDS,
+};
+
+const INSPECT: Subcommand = Subcommand {
+    name: "inspect",
+    about: "Tells what a key or a signature is, and nothing that is secret",
+    example: "Example:\n    slh inspect release.key",
+    words: &[FILE],
+};
+
 // (in a function of its own, a table stands in no other function's proof)
 fn subcommands() -> &'static [Subcommand] {
     &[
-        Subcommand {
-            name: "keygen",
-            about: "Makes a key of random bytes: NAME.key, which is secret, and NAME.pub",
-            example: "Example:\n    slh keygen --set SLH-DSA-SHA2-128f release",
-            words: &[KEYGEN_SET, NAME],
-        },
-        Subcommand {
-            name: "public",
-            about: "Writes the verifying key of a signing key",
-            example: "Example:\n    slh public --key release.key --output release.pub",
-            words: &[SIGNING_KEY, OUTPUT],
-        },
-        Subcommand {
-            name: "sign",
-            about: "Signs a file; the signature goes to FILE.sig",
-            example: "Example:\n    slh sign --key release.key --audit notes.txt",
-            words: &[
-                SIGNING_KEY,
-                CONTEXT,
-                CONTEXT_HEX,
-                PREHASH,
-                FILE,
-                DETERMINISTIC,
-                AUDIT,
-                SIGNATURE_OUTPUT,
-            ],
-        },
-        Subcommand {
-            name: "verify",
-            about: "Verifies a signature of a file: accepted (0) or invalid (1)",
-            example: "Example:\n    slh verify --key release.pub notes.txt",
-            words: &[
-                VERIFYING_KEY,
-                KEY_TEXT,
-                SIGNATURE,
-                CONTEXT,
-                CONTEXT_HEX,
-                PREHASH,
-                JSON,
-                FILE,
-            ],
-        },
-        Subcommand {
-            name: "audit",
-            about: "Tells whether a key made a signature: genuine (0), foreign or invalid (1)",
-            example: "Example:\n    \
-                      slh audit --key release.key --signature notes.txt.sig notes.txt",
-            words: &[
-                SIGNING_KEY,
-                SIGNATURE,
-                CONTEXT,
-                CONTEXT_HEX,
-                PREHASH,
-                JSON,
-                FILE,
-            ],
-        },
-        Subcommand {
-            name: "evidence",
-            about: "Tells whether evidence shows against a signature: shown (0) or not shown (1)",
-            example: "Example:\n    slh evidence --key release.key --signature notes.txt.sig \
-                      --evidence 'early 0 1' notes.txt",
-            words: &[
-                SIGNING_KEY,
-                SIGNATURE,
-                EVIDENCE,
-                CONTEXT,
-                CONTEXT_HEX,
-                PREHASH,
-                JSON,
-                FILE,
-            ],
-        },
-        Subcommand {
-            name: "check",
-            about: "The old name of evidence",
-            example: "Example:\n    slh check --key release.key --signature notes.txt.sig \
-                      --evidence 'early 0 1' notes.txt",
-            words: &[
-                SIGNING_KEY,
-                SIGNATURE,
-                EVIDENCE,
-                CONTEXT,
-                CONTEXT_HEX,
-                PREHASH,
-                JSON,
-                FILE,
-            ],
-        },
-        Subcommand {
-            name: "inspect",
-            about: "Tells what a key or a signature is, and nothing that is secret",
-            example: "Example:\n    slh inspect release.key",
-            words: &[FILE],
-        },
+        KEYGEN,
+        PUBLIC,
+        SIGN,
+        VERIFY,
+        AUDIT_COMMAND,
+        EVIDENCE_COMMAND,
+        CHECK,
+        INSPECT,
     ]
 }
 
