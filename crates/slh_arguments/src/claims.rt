@@ -5,6 +5,7 @@ use slh_files::Key;
 use slh_paths::Failure;
 use slh_paths::files::Reader;
 use slh_run::{ByteString, Mode};
+use slh_words::names;
 
 /// A signature of a file, and the key that it is to be under.
 #[derive(Drop)]
@@ -22,7 +23,7 @@ pub fn own_claim<'a>(rt: &HostRuntime, words: &ArgMatches<'a>) -> Result<Claim, 
     let key = signing_key(rt, words)?;
     let signature = signature(rt, words, key.set)?;
     let mode = mode(words)?;
-    let reader = Reader::open(rt, required(words, "file")?)?;
+    let reader = Reader::open(rt, required(words, names::FILE)?)?;
     Ok(Claim {
         key,
         mode,

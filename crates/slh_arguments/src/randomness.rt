@@ -2,6 +2,7 @@
 use clap::ArgMatches;
 use slh_paths::{Failure, random};
 use slh_sets::Set;
+use slh_words::names;
 
 /// What randomizers are made from: nothing for `--deterministic`.
 #[derive(Drop)]
@@ -10,7 +11,7 @@ pub struct Randomness(Option<[u8; 32]>);
 impl Randomness {
     /// Fresh bytes, unless the words say otherwise.
     pub fn new(rt: &HostRuntime, words: &ArgMatches<'_>) -> Result<Self, Failure<'static>> {
-        if words.get_flag("deterministic") {
+        if words.get_flag(names::DETERMINISTIC) {
             return Ok(Randomness(None));
         }
         Ok(Randomness(Some(random::<32>(rt)?)))

@@ -13,6 +13,7 @@ use slh_paths::files::Reader;
 use slh_paths::shown::shown;
 use slh_readers::ReadError;
 use slh_run::ByteString;
+use slh_words::names;
 use std::alloc::{AllocError, Global};
 use std::io::{self, Write};
 
@@ -99,7 +100,7 @@ pub fn report(
 ) -> Result<Outcome, Failure<'static>>
     ensures { IfOk result (λ told. told ≡ outcome) }
 {
-    let form = if words.get_flag("json") {
+    let form = if words.get_flag(names::JSON) {
         Form::Json
     } else {
         Form::Text
@@ -119,7 +120,7 @@ pub fn tell_verdict<'a>(
 ) -> Result<Outcome, Failure<'a>> {
     let signature = signature(rt, words, key.set)?;
     let mode = mode(words)?;
-    let path = required(words, "file")?;
+    let path = required(words, names::FILE)?;
     let reader = Reader::open(rt, path)?;
     match slh_readers::verify(key, mode, context, signature.as_slice(), reader) {
         Ok(true) => report(rt, words, Outcome::Accepted, Detail::Nothing),

@@ -4,6 +4,7 @@ use slh_files::{Key, Kind, Outcome, digits_of, read_key, read_signature, read_si
 use slh_paths::{Failure, files, random};
 use slh_run::{ByteString, Mode};
 use slh_sets::Set;
+use slh_words::names;
 
 /// What is put behind the name of a file for the name of its signature.
 pub const SIGNATURE_END: &str = ".sig";
@@ -19,15 +20,15 @@ const RESERVED_CONTEXTS: [&[u8]; 4] = [b"slh-batch", b"slh-chain", b"slh-log", b
 
 /// What names an input, in any command.
 const INPUTS: [&str; 9] = [
-    "key",
-    "signature",
-    "head",
-    "receipt",
-    "chain",
-    "subject",
-    "manifest",
-    "master",
-    "file",
+    names::KEY,
+    names::SIGNATURE,
+    names::HEAD,
+    names::RECEIPT,
+    names::CHAIN,
+    names::SUBJECT,
+    names::MANIFEST,
+    names::MASTER,
+    names::FILE,
 ];
 
 /// A value that the command requires.
@@ -54,7 +55,7 @@ pub fn required_all<'s, 'a>(
 
 /// The set of `--set`.
 pub fn set_of(words: &ArgMatches<'_>) -> Result<Set, Failure<'static>> {
-    match Set::from_name(required(words, "set")?.as_bytes()) {
+    match Set::from_name(required(words, names::SET)?.as_bytes()) {
         Some(set) => Ok(set),
         None => Err(Failure::Told("--set", "no such set")),
     }
@@ -93,7 +94,7 @@ pub fn check_output<'a>(
 
 /// Whether the file or its digest is signed.
 pub fn mode(words: &ArgMatches<'_>) -> Result<Mode, Failure<'static>> {
-    match words.get_str("prehash") {
+    match words.get_str(names::PREHASH) {
         Some("sha256") => Ok(Mode::Sha256),
         Some("sha512") => Ok(Mode::Sha512),
         Some(_) => Err(Failure::Told("--prehash", "no such hash")),
@@ -104,13 +105,13 @@ pub fn mode(words: &ArgMatches<'_>) -> Result<Mode, Failure<'static>> {
 /// The context of `--context` or `--context-hex`, or none. Those of batches, chains, logs and
 /// manifests are refused: what they sign is nothing else's.
 pub fn context(rt: &HostRuntime, words: &ArgMatches<'_>) -> Result<ByteString, Failure<'static>> {
-    let context = match words.get_str("context-hex") {
+    let context = match words.get_str(names::CONTEXT_HEX) {
         Some(digits) => match digits_of(rt.alloc(), digits.as_bytes())? {
             Some(bytes) => bytes,
             None => return Err(Failure::ContextHex),
         },
         None => {
-            let context = words.get_str("context").unwrap_or("");
+            let context = words.get_str(names::CONTEXT).unwrap_or("");
             ByteString::from_slice(rt.alloc(), context.as_bytes())?
         }
     };
@@ -134,8 +135,8 @@ pub fn key_of_kind<'a>(rt: &HostRuntime, kind: Kind, path: &'a str) -> Result<Ke
 
 /// The verifying key of `--key` or `--key-text`.
 pub fn verifying_key<'a>(rt: &HostRuntime, words: &ArgMatches<'a>) -> Result<Key, Failure<'a>> {
-    let Some(text) = words.get_str("key-text") else {
-        return match words.get_str("key") {
+    let Some(text) = words.get_str(names::KEY_TEXT) else {
+        return match words.get_str(names::KEY) {
             Some(path) => key_of_kind(rt, Kind::Verifying, path),
             None => Err(Failure::Told("--key", "it is missing, and so is --key-text")),
         };
@@ -148,7 +149,7 @@ pub fn verifying_key<'a>(rt: &HostRuntime, words: &ArgMatches<'a>) -> Result<Key
 
 /// The signing key of `--key`, whose root is that of its own seeds.
 pub fn signing_key<'a>(rt: &HostRuntime, words: &ArgMatches<'a>) -> Result<Key, Failure<'a>> {
-    let path = required(words, "key")?;
+    let path = required(words, names::KEY)?;
     let file = files::read_limited(rt, path)?;
     match read_signing_key(rt.alloc(), file.as_slice()) {
         Ok(key) => Ok(key),
@@ -166,7 +167,7 @@ fn named_or_beside<'a>(
     if let Some(path) = words.get_str(name) {
         return Ok((path, ""));
     }
-    match required(words, "file")? {
+    match required(words, names::FILE)? {
         files::STANDARD => Err(Failure::Told(option, "standard input has none beside it")),
         path => Ok((path, end)),
     }
@@ -174,7 +175,7 @@ fn named_or_beside<'a>(
 
 /// The file of `--receipt`, or FILE.receipt, as a path and an ending.
 pub fn receipt_name<'a>(words: &ArgMatches<'a>) -> Result<(&'a str, &'static str), Failure<'a>> {
-    named_or_beside(words, "receipt", "--receipt", RECEIPT_END)
+    named_or_beside(words, names::RECEIPT, "--receipt", RECEIPT_END)
 }
 
 /// The signature of `--signature`, or of FILE.sig, of the length that the set's have.
@@ -183,7 +184,7 @@ pub fn signature<'a>(
     words: &ArgMatches<'a>,
     set: Set,
 ) -> Result<ByteString, Failure<'a>> {
-    let (path, end) = named_or_beside(words, "signature", "--signature", SIGNATURE_END)?;
+    let (path, end) = named_or_beside(words, names::SIGNATURE, "--signature", SIGNATURE_END)?;
     let file = files::read_beside(rt, path, end)?;
     let signature = read_signature(rt.alloc(), set, file)?;
     if signature.len() == set.signature_len() {

@@ -6,11 +6,12 @@ use slh_files::{Outcome, evidence_of};
 use slh_paths::Failure;
 use slh_readers::{ReadError, check_evidence};
 use slh_run::{ByteString, Error, Evidence, Verdict, push_evidence};
+use slh_words::names;
 
 /// Tells whether the holder of a key made a signature that the key accepts.
 pub fn audit<'a>(rt: &HostRuntime, words: &ArgMatches<'a>) -> Result<Outcome, Failure<'a>> {
     check_inputs(words)?;
-    let path = required(words, "file")?;
+    let path = required(words, names::FILE)?;
     let Claim {
         key,
         mode,
@@ -46,10 +47,11 @@ fn tell_foreign(
 /// Tells whether evidence shows against a signature.
 pub fn evidence<'a>(rt: &HostRuntime, words: &ArgMatches<'a>) -> Result<Outcome, Failure<'a>> {
     check_inputs(words)?;
-    let Some(evidence) = evidence_of(rt.alloc(), required(words, "evidence")?.as_bytes())? else {
+    let Some(evidence) = evidence_of(rt.alloc(), required(words, names::EVIDENCE)?.as_bytes())?
+    else {
         return Err(Failure::Evidence);
     };
-    let path = required(words, "file")?;
+    let path = required(words, names::FILE)?;
     let Claim {
         key,
         mode,

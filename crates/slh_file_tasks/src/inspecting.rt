@@ -9,10 +9,11 @@ use slh_files::{
 use slh_paths::{Failure, files, outputs};
 use slh_run::ByteString;
 use slh_sets::Set;
+use slh_words::names;
 
 /// Tells what a key or a signature is. Of a signing key nothing secret is told.
 pub fn inspect<'a>(rt: &HostRuntime, words: &ArgMatches<'a>) -> Result<Outcome, Failure<'a>> {
-    let path = required(words, "file")?;
+    let path = required(words, names::FILE)?;
     let file = files::read_limited(rt, path)?;
     let told = text_of(rt, path, &file)?;
     outputs::put(rt, files::STANDARD, told.as_slice())?;

@@ -17,6 +17,7 @@ use slh_paths::files::{self, FromStart, Reader};
 use slh_paths::{Failure, outputs};
 use slh_readers::{ReadError, sign_digest, sign_twice};
 use slh_run::{ByteString, Error, Mode, Verdict};
+use slh_words::names;
 use std::alloc::Global;
 use std::fs::File;
 use std::io::Read;
@@ -25,7 +26,7 @@ use std::io::Read;
 /// standard output.
 pub fn sign<'a>(rt: &HostRuntime, words: &ArgMatches<'a>) -> Result<Outcome, Failure<'a>> {
     check_inputs(words)?;
-    let path = required(words, "file")?;
+    let path = required(words, names::FILE)?;
     check_signature_output(rt, words, path)?;
     let context = context(rt, words)?;
     let key = signing_key(rt, words)?;
@@ -39,8 +40,8 @@ fn check_signature_output<'a>(
     words: &ArgMatches<'a>,
     path: &'a str,
 ) -> Result<(), Failure<'a>> {
-    if let Some(output) = words.get_str("output") {
-        return check_output(rt, words, &["key", "file"], output);
+    if let Some(output) = words.get_str(names::OUTPUT) {
+        return check_output(rt, words, &[names::KEY, names::FILE], output);
     }
     if path == files::STANDARD {
         return Ok(());
@@ -52,7 +53,7 @@ fn check_signature_output<'a>(
         ));
     }
     let output = format!(in rt.alloc(); "{path}{SIGNATURE_END}")?;
-    check_output(rt, words, &["key", "file"], output.as_str())
+    check_output(rt, words, &[names::KEY, names::FILE], output.as_str())
 }
 
 // The signature of a file, in the way that the words ask for.
@@ -100,7 +101,7 @@ fn of_file<'a>(
 ) -> Result<ByteString, Failure<'a>> {
     let (first, second) = (FromStart::new(rt, file), FromStart::new(rt, file));
     let signature = signed(rt.alloc(), path, terms, first, second)?;
-    if !words.get_flag("audit") {
+    if !words.get_flag(names::AUDIT) {
         return Ok(signature);
     }
     match audited(terms, FromStart::new(rt, file), signature) {
@@ -194,7 +195,7 @@ fn of_stream<'a>(
     terms: &Terms<'_, '_>,
     reader: Reader,
 ) -> Result<ByteString, Failure<'a>> {
-    let is_audited = words.get_flag("audit");
+    let is_audited = words.get_flag(names::AUDIT);
     if terms.mode != Mode::Pure && !is_audited {
         return signed(rt.alloc(), path, terms, reader, NOTHING);
     }
@@ -218,7 +219,7 @@ fn put<'a>(
     path: &'a str,
     signature: &[u8],
 ) -> Result<Outcome, Failure<'a>> {
-    if let Some(output) = words.get_str("output") {
+    if let Some(output) = words.get_str(names::OUTPUT) {
         outputs::put(rt, output, signature)?;
     } else if path == files::STANDARD {
         outputs::put(rt, path, signature)?;

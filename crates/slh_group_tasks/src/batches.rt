@@ -13,6 +13,7 @@ use slh_files::{Key, Outcome};
 use slh_paths::files::{self, FileId};
 use slh_paths::{Failure, outputs};
 use slh_run::ByteString;
+use slh_words::names;
 use std::alloc::AllocError;
 
 // The head of a batch of files, which goes where the words say, if they do, and the receipts, each
@@ -96,7 +97,7 @@ fn check_names<'a>(
             return Err(Failure::Told(*path, "a file of a batch has a name, for its receipt"));
         }
         let output = format!(in rt.alloc(); "{path}{RECEIPT_END}")?;
-        check_output(rt, words, &["key"], output.as_str())?;
+        check_output(rt, words, &[names::KEY], output.as_str())?;
         if let Some(id) = FileId::of(rt, output.as_str())
             && ids.binary_search(&id).is_ok()
         {
@@ -123,10 +124,10 @@ fn check_head<'a>(
     words: &ArgMatches<'a>,
     paths: &[&'a str],
 ) -> Result<(), Failure<'a>> {
-    let Some(head) = words.get_str("head") else {
+    let Some(head) = words.get_str(names::HEAD) else {
         return Ok(());
     };
-    check_output(rt, words, &["key"], head)?;
+    check_output(rt, words, &[names::KEY], head)?;
     for path in paths {
         let receipt = format!(in rt.alloc(); "{path}{RECEIPT_END}")?;
         if files::are_one(rt, head, *path) || are_one_place(rt, head, receipt.as_str())? {
@@ -141,7 +142,7 @@ pub fn sign<'s, 'a>(
     rt: &'s HostRuntime,
     words: &'s ArgMatches<'a>,
 ) -> Result<Outcome, Failure<'a>> {
-    let paths = required_all(words, "files")?;
+    let paths = required_all(words, names::FILES)?;
     check_names(rt, words, paths)?;
     check_head(rt, words, paths)?;
     let key = signing_key(rt, words)?;
@@ -150,7 +151,7 @@ pub fn sign<'s, 'a>(
     let (key_bytes, random) = (key.bytes.as_slice(), randomness.of_set(key.set));
     let receipts = Beside {
         rt,
-        head: words.get_str("head"),
+        head: words.get_str(names::HEAD),
         paths,
         count: 0,
     };
@@ -177,7 +178,7 @@ fn read_receipted<'a>(
     words: &ArgMatches<'a>,
 ) -> Result<Receipted<'a>, Failure<'a>> {
     let (path, end) = receipt_name(words)?;
-    let file = required(words, "file")?;
+    let file = required(words, names::FILE)?;
     Ok(Receipted {
         name: (path, end),
         receipt: files::read_beside(rt, path, end)?,
@@ -191,7 +192,7 @@ pub fn verify<'a>(rt: &HostRuntime, words: &ArgMatches<'a>) -> Result<Outcome, F
     check_inputs(words)?;
     let key = verifying_key(rt, words)?;
     let file = read_receipted(rt, words)?;
-    match words.get_str("head") {
+    match words.get_str(names::HEAD) {
         Some(head) => verify_under(rt, words, &key, head, &file),
         None => {
             let (message, receipt) = (file.message.as_slice(), file.receipt.as_slice());

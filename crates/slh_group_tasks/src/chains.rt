@@ -12,6 +12,7 @@ use slh_paths::shown::shown;
 use slh_paths::{Failure, files, outputs};
 use slh_run::ByteString;
 use slh_sets::Set;
+use slh_words::names;
 use std::alloc::{AllocError, Global};
 
 // The bytes of a chain, which may be written in hexadecimal: a link ends with a signature, which is
@@ -31,8 +32,8 @@ fn chain<'a>(rt: &HostRuntime, path: &'a str) -> Result<ByteString, Failure<'a>>
 /// Lets another key act: writes the chain, if there is one, and the link behind it.
 pub fn delegate<'a>(rt: &HostRuntime, words: &ArgMatches<'a>) -> Result<Outcome, Failure<'a>> {
     check_inputs(words)?;
-    let output = required(words, "output")?;
-    check_output(rt, words, &["key", "subject"], output)?;
+    let output = required(words, names::OUTPUT)?;
+    check_output(rt, words, &[names::KEY, names::SUBJECT], output)?;
     let links = delegated(rt, words)?;
     outputs::put(rt, output, links.as_slice())?;
     Ok(Outcome::Done)
@@ -40,7 +41,7 @@ pub fn delegate<'a>(rt: &HostRuntime, words: &ArgMatches<'a>) -> Result<Outcome,
 
 // The chain with the new link.
 fn delegated<'a>(rt: &HostRuntime, words: &ArgMatches<'a>) -> Result<ByteString, Failure<'a>> {
-    let Some(depth) = words.get_one::<u8>("depth") else {
+    let Some(depth) = words.get_one::<u8>(names::DEPTH) else {
         return Err(Failure::Told("--depth", "it is missing"));
     };
     let key = signing_key(rt, words)?;
@@ -58,7 +59,7 @@ fn with_link(mut links: ByteString, link: &[u8]) -> Result<ByteString, Failure<'
 
 // The key of `--subject`, which is of the set of the key that delegates.
 fn subject_of<'a>(rt: &HostRuntime, words: &ArgMatches<'a>, set: Set) -> Result<Key, Failure<'a>> {
-    let path = required(words, "subject")?;
+    let path = required(words, names::SUBJECT)?;
     let subject = key_of_kind(rt, Kind::Verifying, path)?;
     if subject.set != set {
         return Err(Failure::Told(path, "a key of another set than the one that delegates"));
@@ -68,7 +69,7 @@ fn subject_of<'a>(rt: &HostRuntime, words: &ArgMatches<'a>, set: Set) -> Result<
 
 // The chain that there is.
 fn old_chain<'a>(rt: &HostRuntime, words: &ArgMatches<'a>) -> Result<ByteString, Failure<'a>> {
-    match words.get_str("chain") {
+    match words.get_str(names::CHAIN) {
         Some(path) => chain(rt, path),
         None => Ok(ByteString::new(rt.alloc())),
     }
@@ -83,7 +84,7 @@ fn link_of(
     subject: &Key,
     random: Option<&[u8]>,
 ) -> Result<Vec<u8>, Failure<'static>> {
-    let name = required(words, "name")?.as_bytes();
+    let name = required(words, names::NAME)?.as_bytes();
     let (bytes, other) = (key.bytes.as_slice(), subject.bytes.as_slice());
     match new_link(rt.alloc(), key.set, bytes, name, depth, other, random) {
         Ok(link) => Ok(link),
@@ -97,7 +98,7 @@ fn link_of(
 // The key at the end of a chain.
 fn key_at_end<'a>(rt: &HostRuntime, words: &ArgMatches<'a>) -> Result<Key, Failure<'a>> {
     let Key { set, bytes: root } = verifying_key(rt, words)?;
-    let path = required(words, "chain")?;
+    let path = required(words, names::CHAIN)?;
     let chain = chain(rt, path)?;
     match last_key(rt.alloc(), set, root.as_slice(), chain.as_slice()) {
         Ok(bytes) => Ok(Key { set, bytes }),
@@ -122,10 +123,10 @@ fn walk_failure<'a>(path: &'a str, error: WalkError) -> Failure<'a> {
 /// Writes the key at the end of a chain.
 pub fn walk<'a>(rt: &HostRuntime, words: &ArgMatches<'a>) -> Result<Outcome, Failure<'a>> {
     check_inputs(words)?;
-    let output = words.get_str("output").unwrap_or(files::STANDARD);
-    check_output(rt, words, &["key", "chain"], output)?;
+    let output = words.get_str(names::OUTPUT).unwrap_or(files::STANDARD);
+    check_output(rt, words, &[names::KEY, names::CHAIN], output)?;
     let key = key_at_end(rt, words)?;
-    let file = key_file(rt, Kind::Verifying, &key, required(words, "chain")?)?;
+    let file = key_file(rt, Kind::Verifying, &key, required(words, names::CHAIN)?)?;
     outputs::put(rt, output, file.as_slice())?;
     Ok(Outcome::Done)
 }
@@ -153,7 +154,7 @@ fn push_link(alloc: Global, text: &mut ByteString, link: &LinkText<'_>) -> Resul
 pub fn show<'a>(rt: &HostRuntime, words: &ArgMatches<'a>) -> Result<Outcome, Failure<'a>> {
     check_inputs(words)?;
     let root = verifying_key(rt, words)?;
-    let path = required(words, "chain")?;
+    let path = required(words, names::CHAIN)?;
     let chain = chain(rt, path)?;
     let links = match links_of(
         rt.alloc(),
@@ -175,7 +176,7 @@ pub fn acting_key<'a>(
     rt: &HostRuntime,
     words: &ArgMatches<'a>,
 ) -> Result<Option<Key>, Failure<'a>> {
-    if words.get_str("chain").is_none() {
+    if words.get_str(names::CHAIN).is_none() {
         return Ok(Some(verifying_key(rt, words)?));
     }
     match key_at_end(rt, words) {

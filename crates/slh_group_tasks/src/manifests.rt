@@ -8,6 +8,7 @@ use slh_manifest::{BuildError, Builder, CheckError, MAX_ENTRIES};
 use slh_paths::folder::{Folder, Found, names_below};
 use slh_paths::shown::shown;
 use slh_paths::{Failure, files, outputs};
+use slh_words::names;
 use std::alloc::{AllocError, Global};
 use std::{fs, io, str};
 use whole_files::is_part;
@@ -30,7 +31,7 @@ fn build_text(error: BuildError) -> &'static str {
 
 // The folder that the words name.
 fn folder_path<'a>(rt: &HostRuntime, words: &ArgMatches<'a>) -> Result<&'a str, Failure<'a>> {
-    let path = required(words, "folder")?;
+    let path = required(words, names::FOLDER)?;
     match fs::metadata(rt, path) {
         Ok(found) if found.is_dir() => Ok(path),
         Ok(_) => Err(Failure::Told(path, "not a folder")),
@@ -137,8 +138,8 @@ fn entry_failure<'a>(
 /// Signs the regular files below a folder.
 pub fn seal<'a>(rt: &HostRuntime, words: &ArgMatches<'a>) -> Result<Outcome, Failure<'a>> {
     let path = folder_path(rt, words)?;
-    let output = required(words, "output")?;
-    check_output(rt, words, &["key"], output)?;
+    let output = required(words, names::OUTPUT)?;
+    check_output(rt, words, &[names::KEY], output)?;
     let manifest = sealed(rt, words, path, output)?;
     outputs::put(rt, output, &manifest)?;
     Ok(Outcome::Done)
@@ -177,7 +178,7 @@ fn others_below<'a>(
     path: &'a str,
 ) -> Result<Vec<String>, Failure<'a>> {
     let mut others = Vec::new(rt.alloc());
-    if !words.get_flag("strict") {
+    if !words.get_flag(names::STRICT) {
         return Ok(others);
     }
     let folder = match files::folder_place(rt, path) {
@@ -197,7 +198,7 @@ fn others_below<'a>(
 // Where the files stand that the words name as the manifest, the chain and the key.
 fn named_places(rt: &HostRuntime, words: &ArgMatches<'_>) -> Result<Vec<String>, AllocError> {
     let mut places = Vec::new(rt.alloc());
-    for name in ["manifest", "chain", "key"] {
+    for name in [names::MANIFEST, names::CHAIN, names::KEY] {
         if let Some(input) = words.get_str(name)
             && let Some(place) = files::place_of(rt, input)?
         {
@@ -214,7 +215,7 @@ pub fn check<'a>(rt: &HostRuntime, words: &ArgMatches<'a>) -> Result<Outcome, Fa
     let Some(key) = acting_key(rt, words)? else {
         return report(rt, words, Outcome::Invalid, Detail::Nothing);
     };
-    let path = required(words, "manifest")?;
+    let path = required(words, names::MANIFEST)?;
     let manifest = files::read_limited(rt, path)?;
     let others = others_below(rt, words, below)?;
     let (key_bytes, folder) = (key.bytes.as_slice(), Folder::new(rt, below));

@@ -11,11 +11,12 @@ use slh_paths::{Failure, files, outputs, random};
 use slh_ring::{Path, RestoreError, RingError};
 use slh_run::ByteString;
 use slh_sets::Set;
+use slh_words::names;
 use std::alloc::{AllocError, Global};
 
 // The master of a file, which has it in hexadecimal.
 fn master<'a>(rt: &HostRuntime, words: &ArgMatches<'a>) -> Result<ByteString, Failure<'a>> {
-    let path = required(words, "master")?;
+    let path = required(words, names::MASTER)?;
     let file = files::read_limited(rt, path)?;
     match digits_of(rt.alloc(), file.as_slice())? {
         Some(bytes) if !bytes.is_empty() && bytes.len() <= MAX_MASTER => Ok(bytes),
@@ -25,7 +26,7 @@ fn master<'a>(rt: &HostRuntime, words: &ArgMatches<'a>) -> Result<ByteString, Fa
 
 /// Makes a master secret of 32 random bytes.
 pub fn make_master<'a>(rt: &HostRuntime, words: &ArgMatches<'a>) -> Result<Outcome, Failure<'a>> {
-    let path = required(words, "file")?;
+    let path = required(words, names::FILE)?;
     if path == files::STANDARD {
         return Err(Failure::Told(path, "a master goes to a file of mode 600"));
     }
@@ -37,12 +38,12 @@ pub fn make_master<'a>(rt: &HostRuntime, words: &ArgMatches<'a>) -> Result<Outco
 
 /// Makes the key at a path again, and writes it as `keygen` does.
 pub fn key<'a>(rt: &HostRuntime, words: &ArgMatches<'a>) -> Result<Outcome, Failure<'a>> {
-    let text = required(words, "path")?;
+    let text = required(words, names::PATH)?;
     let Some(path) = Path::from_text(text.as_bytes()) else {
         return Err(Failure::Path(text));
     };
     let key = derived(rt, words, &path)?;
-    write_pair(rt, required(words, "name")?, &key)
+    write_pair(rt, required(words, names::NAME)?, &key)
 }
 
 fn derived<'a>(rt: &HostRuntime, words: &ArgMatches<'a>, path: &Path) -> Result<Key, Failure<'a>> {
@@ -73,9 +74,9 @@ fn ring_failure<'a>(text: &'a str, error: RingError) -> Failure<'a> {
 
 /// Writes the line `SET RECORD` of the ring of some paths.
 pub fn record<'a>(rt: &HostRuntime, words: &ArgMatches<'a>) -> Result<Outcome, Failure<'a>> {
-    let paths = required_all(words, "paths")?;
-    let output = words.get_str("output").unwrap_or(files::STANDARD);
-    check_output(rt, words, &["master"], output)?;
+    let paths = required_all(words, names::PATHS)?;
+    let output = words.get_str(names::OUTPUT).unwrap_or(files::STANDARD);
+    check_output(rt, words, &[names::MASTER], output)?;
     let set = set_of(words)?;
     let master = master(rt, words)?;
     match record_of(rt.alloc(), set, master.as_slice(), paths) {
@@ -113,7 +114,7 @@ fn record_in(alloc: Global, file: &[u8]) -> Result<Option<(Set, ByteString)>, Al
 /// Writes the paths of a record, where their keys under the master are those that were recorded.
 pub fn restore<'a>(rt: &HostRuntime, words: &ArgMatches<'a>) -> Result<Outcome, Failure<'a>> {
     check_inputs(words)?;
-    let path = required(words, "file")?;
+    let path = required(words, names::FILE)?;
     let master = master(rt, words)?;
     let (set, record) = record_at(rt, path)?;
     match restored_paths(rt.alloc(), set, master.as_slice(), record.as_slice()) {

@@ -13,6 +13,7 @@ use slh_files::{Key, KeyFileError, Outcome};
 use slh_log::{Checkpoint, CheckpointError};
 use slh_paths::{Failure, files};
 use slh_run::ByteString;
+use slh_words::names;
 
 // Why a checkpoint isn't made. The randomizer has as many bytes as its set's have.
 fn unsigned(error: CheckpointError) -> Failure<'static> {
@@ -47,7 +48,7 @@ pub fn init<'s, 'a>(
     words: &'s ArgMatches<'a>,
 ) -> Result<Outcome, Failure<'a>> {
     let folder = LogFolder::of(rt, words)?;
-    let origin = required(words, "origin")?;
+    let origin = required(words, names::ORIGIN)?;
     let key = signing_key(rt, words)?;
     let randomness = Randomness::new(rt, words)?;
     let head = Checkpoint {
@@ -126,7 +127,7 @@ fn append_to<'a>(
         Err(error) => return Err(refused_head(folder.path, error)),
     };
     let mut log = resume(folder, &checkpoint)?;
-    let is_lines = words.get_flag("lines");
+    let is_lines = words.get_flag(names::LINES);
     for path in paths {
         push_file(folder, &mut log, *path, is_lines)?;
     }
@@ -146,7 +147,7 @@ fn append_to<'a>(
 
 // Refuses words by which more than one file is standard input.
 fn check_standard(words: &ArgMatches<'_>, paths: &[&str]) -> Result<(), Failure<'static>> {
-    let key = words.get_str("key") == Some(files::STANDARD);
+    let key = words.get_str(names::KEY) == Some(files::STANDARD);
     let count = paths
         .iter()
         .filter(|path| **path == files::STANDARD)
@@ -163,7 +164,7 @@ pub fn append<'s, 'a>(
     words: &'s ArgMatches<'a>,
 ) -> Result<Outcome, Failure<'a>> {
     let folder = LogFolder::of(rt, words)?;
-    let paths = required_all(words, "files")?;
+    let paths = required_all(words, names::FILES)?;
     check_standard(words, paths)?;
     let key = signing_key(rt, words)?;
     let randomness = Randomness::new(rt, words)?;

@@ -13,6 +13,7 @@ use slh_command::Detail;
 use slh_files::Outcome;
 use slh_log::OpenError;
 use slh_paths::{Failure, Progress};
+use slh_words::names;
 
 const BENT: &str = "not the tile of these entries: missing, cut or bent";
 
@@ -108,11 +109,11 @@ fn opened<'a>(
     words: &ArgMatches<'a>,
     head: &Head,
 ) -> Result<bool, Failure<'a>> {
-    if words.get_str("key").is_none() && words.get_str("key-text").is_none() {
+    if words.get_str(names::KEY).is_none() && words.get_str(names::KEY_TEXT).is_none() {
         return Ok(true);
     }
     let key = verifying_key(folder.rt, words)?;
-    let origin = words.get_str("origin").unwrap_or(head.origin.as_str());
+    let origin = words.get_str(names::ORIGIN).unwrap_or(head.origin.as_str());
     match open_head(key.set, key.bytes.as_slice(), origin, head.bytes.as_slice()) {
         Ok(_) => Ok(true),
         Err(OpenError::Invalid) => Ok(false),

@@ -6,6 +6,7 @@ use slh_log::{Checkpoint, read_unverified};
 use slh_paths::Failure;
 use slh_paths::files::read_front;
 use slh_run::ByteString;
+use slh_words::names;
 use std::alloc::AllocError;
 use std::fs;
 use std::io::{self, ErrorKind};
@@ -43,7 +44,7 @@ impl<'s, 'a> LogFolder<'s, 'a> {
     pub fn of(rt: &'s HostRuntime, words: &ArgMatches<'a>) -> Result<Self, Failure<'a>> {
         Ok(LogFolder {
             rt,
-            path: required(words, "folder")?,
+            path: required(words, names::FOLDER)?,
         })
     }
 

@@ -9,6 +9,7 @@ use merkle_tree::{Sha256, TreeHash};
 use slh_files::Outcome;
 use slh_log::decimal_size;
 use slh_paths::{Failure, files, outputs};
+use slh_words::names;
 
 // The number of these words.
 fn number_of<'a>(name: &'static str, word: &'a str) -> Result<u64, Failure<'a>> {
@@ -92,12 +93,12 @@ fn growth<'a>(
 pub fn prove<'a>(rt: &HostRuntime, words: &ArgMatches<'a>) -> Result<Outcome, Failure<'a>> {
     let folder = LogFolder::of(rt, words)?;
     let head = folder.head()?;
-    let proof = match (words.get_str("index"), words.get_str("from")) {
+    let proof = match (words.get_str(names::INDEX), words.get_str(names::FROM)) {
         (Some(index), None) => presence(folder, &head, number_of("INDEX", index)?)?,
         (None, Some(size)) => growth(folder, &head, number_of("--from", size)?)?,
         _ => return Err(Failure::Told("INDEX", "it or --from is needed, and not both")),
     };
-    let output = words.get_str("output").unwrap_or(files::STANDARD);
+    let output = words.get_str(names::OUTPUT).unwrap_or(files::STANDARD);
     outputs::put(rt, output, proof.as_slice())?;
     Ok(Outcome::Done)
 }

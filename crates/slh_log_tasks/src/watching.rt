@@ -10,6 +10,7 @@ use slh_command::Detail;
 use slh_files::{Key, Outcome};
 use slh_log::{GrowthError, OpenError, PresenceError, read_unverified};
 use slh_paths::{Failure, files};
+use slh_words::names;
 use std::alloc::Global;
 
 const LENGTH: &str = "too long or too short for these sizes";
@@ -77,15 +78,21 @@ fn proof_of<'b, 'a>(
 /// Tells whether a file is an entry of a log, by a proof and a checkpoint: that of `--checkpoint`,
 /// or the one that stands in the proof.
 pub fn verify<'a>(rt: &HostRuntime, words: &ArgMatches<'a>) -> Result<Outcome, Failure<'a>> {
-    check_standard(words, &["key", "checkpoint", "proof", "file"])?;
+    check_standard(
+        words,
+        &[names::KEY, names::CHECKPOINT, names::PROOF, names::FILE],
+    )?;
     let key = verifying_key(rt, words)?;
-    let (path, file) = (required(words, "proof")?, required(words, "file")?);
-    let signer = signer_of(&key, required(words, "origin")?);
+    let (path, file) = (
+        required(words, names::PROOF)?,
+        required(words, names::FILE)?,
+    );
+    let signer = signer_of(&key, required(words, names::ORIGIN)?);
     let bytes = files::read_limited(rt, path)?;
     let proof = proof_of(rt.alloc(), path, Purpose::Presence, bytes.as_slice())?;
     let entry = files::read_limited(rt, file)?;
     let (number, digests) = (proof.number, proof.digests.as_slice());
-    let outcome = if let Some(head) = words.get_str("checkpoint") {
+    let outcome = if let Some(head) = words.get_str(names::CHECKPOINT) {
         let bytes = files::read_limited(rt, head)?;
         let checked = check_entry(signer, bytes.as_slice(), number, entry.as_slice(), digests);
         outcome_of_entry(head, path, file, checked)?
@@ -122,11 +129,11 @@ fn outcome_of_entry<'a>(
 
 /// Tells whether a log grew from an old checkpoint to a new one, and kept all entries.
 pub fn growth<'a>(rt: &HostRuntime, words: &ArgMatches<'a>) -> Result<Outcome, Failure<'a>> {
-    check_standard(words, &["key", "old", "new", "proof"])?;
+    check_standard(words, &[names::KEY, names::OLD, names::NEW, names::PROOF])?;
     let key = verifying_key(rt, words)?;
-    let (old, new) = (required(words, "old")?, required(words, "new")?);
-    let path = required(words, "proof")?;
-    let signer = signer_of(&key, required(words, "origin")?);
+    let (old, new) = (required(words, names::OLD)?, required(words, names::NEW)?);
+    let path = required(words, names::PROOF)?;
+    let signer = signer_of(&key, required(words, names::ORIGIN)?);
     let old_bytes = files::read_limited(rt, old)?;
     let new_bytes = files::read_limited(rt, new)?;
     let bytes = files::read_limited(rt, path)?;

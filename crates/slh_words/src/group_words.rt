@@ -1,5 +1,6 @@
 //! The words of the commands for batches, manifests, chains and rings.
 use crate::log_words::log;
+use crate::names;
 use crate::words::{
     CONTEXT, CONTEXT_HEX, DETERMINISTIC, FILE, Group, JSON, KEY_TEXT, Kind, NAME, OUTPUT, PREHASH,
     SET, SIGNATURE, SIGNING_KEY, Subcommand, VERIFYING_KEY, Word,
@@ -169,154 +170,154 @@ fn ring() -> Group {
 
 const FILES: Word = Word {
     kind: Kind::Operands,
-    name: "files",
+    name: names::FILES,
     value: "FILE",
     help: "The files, up to 2^20",
 };
 
 const HEAD_OUTPUT: Word = Word {
     kind: Kind::Optional,
-    name: "head",
+    name: names::HEAD,
     value: "HEAD",
     help: "Where the head of the batch goes",
 };
 
 const BATCH_HEAD: Word = Word {
     kind: Kind::Optional,
-    name: "head",
+    name: names::HEAD,
     value: "HEAD",
     help: "The head of the batch that the file has to be in",
 };
 
 const RECEIPT: Word = Word {
     kind: Kind::Optional,
-    name: "receipt",
+    name: names::RECEIPT,
     value: "FILE.receipt",
     help: "The receipt; FILE.receipt if it is left out",
 };
 
 const FOLDER: Word = Word {
     kind: Kind::Operand,
-    name: "folder",
+    name: names::FOLDER,
     value: "FOLDER",
     help: "The folder",
 };
 
 const MANIFEST_FILE: Word = Word {
     kind: Kind::Required,
-    name: "manifest",
+    name: names::MANIFEST,
     value: "MANIFEST",
     help: "The manifest",
 };
 
 const MANIFEST_OUTPUT: Word = Word {
     kind: Kind::Required,
-    name: "output",
+    name: names::OUTPUT,
     value: "MANIFEST",
     help: "Where the manifest goes",
 };
 
 const SUBJECT: Word = Word {
     kind: Kind::Required,
-    name: "subject",
+    name: names::SUBJECT,
     value: "OTHER.pub",
     help: "The key that may act",
 };
 
 const LINK_NAME: Word = Word {
     kind: Kind::Required,
-    name: "name",
+    name: names::NAME,
     value: "TEXT",
     help: "The name it acts under, 1 to 64 bytes",
 };
 
 const DEPTH: Word = Word {
     kind: Kind::Number,
-    name: "depth",
+    name: names::DEPTH,
     value: "NUMBER",
     help: "How deep it may delegate, 0 to 15",
 };
 
 const OLD_CHAIN: Word = Word {
     kind: Kind::Optional,
-    name: "chain",
+    name: names::CHAIN,
     value: "CHAIN",
     help: "The chain from the root key",
 };
 
 const CHAIN_FILE: Word = Word {
     kind: Kind::Required,
-    name: "chain",
+    name: names::CHAIN,
     value: "CHAIN",
     help: "The chain from the root key",
 };
 
 const ROOT_CHAIN: Word = Word {
     kind: Kind::Optional,
-    name: "chain",
+    name: names::CHAIN,
     value: "CHAIN",
     help: "A chain from that key to the one that sealed",
 };
 
 const STRICT: Word = Word {
     kind: Kind::Flag,
-    name: "strict",
+    name: names::STRICT,
     value: "",
     help: "Refuses a file below the folder that the manifest doesn't name",
 };
 
 const CHAIN_OUTPUT: Word = Word {
     kind: Kind::Required,
-    name: "output",
+    name: names::OUTPUT,
     value: "CHAIN",
     help: "Where the chain with the new link goes",
 };
 
 const ROOT: Word = Word {
     kind: Kind::Key,
-    name: "key",
+    name: names::KEY,
     value: "ROOT.pub",
     help: "The root's verifying key",
 };
 
 const MASTER: Word = Word {
     kind: Kind::Required,
-    name: "master",
+    name: names::MASTER,
     value: "FILE",
     help: "The master secret",
 };
 
 const MASTER_FILE: Word = Word {
     kind: Kind::Operand,
-    name: "file",
+    name: names::FILE,
     value: "FILE",
     help: "The file, which is secret",
 };
 
 const PATH: Word = Word {
     kind: Kind::Required,
-    name: "path",
+    name: names::PATH,
     value: "PATH",
     help: "Up to 8 numbers with slashes, or a dot",
 };
 
 const PATHS: Word = Word {
     kind: Kind::Operands,
-    name: "paths",
+    name: names::PATHS,
     value: "PATH",
     help: "Up to 64 paths: numbers with slashes, or a dot",
 };
 
 const RECORD: Word = Word {
     kind: Kind::Operand,
-    name: "file",
+    name: names::FILE,
     value: "RECORD",
     help: "The record",
 };
 
 const RECORD_OUTPUT: Word = Word {
     kind: Kind::Optional,
-    name: "output",
+    name: names::OUTPUT,
     value: "RECORD",
     help: "Where it goes, in place of standard output",
 };

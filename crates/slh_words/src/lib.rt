@@ -3,6 +3,7 @@
 
 mod group_words;
 mod log_words;
+pub mod names;
 mod words;
 
 pub use words::command;

@@ -1,4 +1,5 @@
 //! The words of the commands for signed logs.
+use crate::names;
 use crate::words::{
     DETERMINISTIC, FILE, Group, JSON, KEY_TEXT, Kind, OUTPUT, SIGNING_KEY, Subcommand,
     VERIFYING_KEY, Word,
@@ -72,77 +73,77 @@ const GROWTH_EXAMPLE: &str = "Example:\n    \
 
 const LOG: Word = Word {
     kind: Kind::Operand,
-    name: "folder",
+    name: names::FOLDER,
     value: "FOLDER",
     help: "The folder of the log",
 };
 
 const ENTRIES: Word = Word {
     kind: Kind::Operands,
-    name: "files",
+    name: names::FILES,
     value: "FILE",
     help: "The entries, each of up to 65535 bytes; - is standard input",
 };
 
 const INDEX: Word = Word {
     kind: Kind::OptionalOperand,
-    name: "index",
+    name: names::INDEX,
     value: "INDEX",
     help: "Which entry, from 0; or --from",
 };
 
 const ORIGIN: Word = Word {
     kind: Kind::Required,
-    name: "origin",
+    name: names::ORIGIN,
     value: "ORIGIN",
     help: "The name of the log",
 };
 
 const ANY_ORIGIN: Word = Word {
     kind: Kind::Optional,
-    name: "origin",
+    name: names::ORIGIN,
     value: "ORIGIN",
     help: "The name of the log; that of its checkpoint if it is left out",
 };
 
 const LINES: Word = Word {
     kind: Kind::Flag,
-    name: "lines",
+    name: names::LINES,
     value: "",
     help: "Adds each line of a file as an entry, without its end",
 };
 
 const FROM: Word = Word {
     kind: Kind::Optional,
-    name: "from",
+    name: names::FROM,
     value: "SIZE",
     help: "Proves that the log grew from its first so many entries",
 };
 
 const HEAD: Word = Word {
     kind: Kind::Optional,
-    name: "checkpoint",
+    name: names::CHECKPOINT,
     value: "CHECKPOINT",
     help: "The checkpoint; the one in the proof if it is left out",
 };
 
 const PROOF: Word = Word {
     kind: Kind::Required,
-    name: "proof",
+    name: names::PROOF,
     value: "PROOF",
     help: "The proof",
 };
 
 const OLD: Word = Word {
     kind: Kind::Required,
-    name: "old",
+    name: names::OLD,
     value: "CHECKPOINT",
     help: "The older checkpoint",
 };
 
 const NEW: Word = Word {
     kind: Kind::Required,
-    name: "new",
+    name: names::NEW,
     value: "CHECKPOINT",
     help: "The newer checkpoint",
 };

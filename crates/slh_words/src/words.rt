@@ -1,5 +1,6 @@
 //! The words that the command knows, in tables, and the parser that they make.
 use crate::group_words::groups;
+use crate::names;
 use clap::builder::ValueParser;
 use clap::{Arg, ArgAction, Command, value_parser};
 use slh_sets::Set;
@@ -65,119 +66,119 @@ pub enum Kind {
 
 pub const SET: Word = Word {
     kind: Kind::Set,
-    name: "set",
+    name: names::SET,
     value: "SET",
     help: "The parameter set",
 };
 
 const KEYGEN_SET: Word = Word {
     kind: Kind::OptionalSet,
-    name: "set",
+    name: names::SET,
     value: "SET",
     help: "The parameter set; SLH-DSA-SHA2-128s if it is left out",
 };
 
 pub const SIGNING_KEY: Word = Word {
     kind: Kind::Required,
-    name: "key",
+    name: names::KEY,
     value: "NAME.key",
     help: "The signing key",
 };
 
 pub const VERIFYING_KEY: Word = Word {
     kind: Kind::Key,
-    name: "key",
+    name: names::KEY,
     value: "NAME.pub",
     help: "The verifying key",
 };
 
 pub const KEY_TEXT: Word = Word {
     kind: Kind::Optional,
-    name: "key-text",
+    name: names::KEY_TEXT,
     value: "TEXT",
     help: "The verifying key itself, as 'SET HEX'",
 };
 
 pub const SIGNATURE: Word = Word {
     kind: Kind::Optional,
-    name: "signature",
+    name: names::SIGNATURE,
     value: "FILE.sig",
     help: "The signature; FILE.sig if it is left out",
 };
 
 pub const CONTEXT: Word = Word {
     kind: Kind::Context,
-    name: "context",
+    name: names::CONTEXT,
     value: "TEXT",
     help: "The context, at most 255 bytes",
 };
 
 pub const CONTEXT_HEX: Word = Word {
     kind: Kind::Optional,
-    name: "context-hex",
+    name: names::CONTEXT_HEX,
     value: "HEX",
     help: "The context in hexadecimal",
 };
 
 pub const PREHASH: Word = Word {
     kind: Kind::Hash,
-    name: "prehash",
+    name: names::PREHASH,
     value: "HASH",
     help: "Signs this digest of the file",
 };
 
 pub const DETERMINISTIC: Word = Word {
     kind: Kind::Flag,
-    name: "deterministic",
+    name: names::DETERMINISTIC,
     value: "",
     help: "Signs without random bytes",
 };
 
 pub const FILE: Word = Word {
     kind: Kind::Operand,
-    name: "file",
+    name: names::FILE,
     value: "FILE",
     help: "The file; - is standard input",
 };
 
 pub const NAME: Word = Word {
     kind: Kind::Operand,
-    name: "name",
+    name: names::NAME,
     value: "NAME",
     help: "The files' name, without .key and .pub",
 };
 
 pub const OUTPUT: Word = Word {
     kind: Kind::Optional,
-    name: "output",
+    name: names::OUTPUT,
     value: "FILE",
     help: "Where it goes, in place of standard output",
 };
 
 pub const JSON: Word = Word {
     kind: Kind::Flag,
-    name: "json",
+    name: names::JSON,
     value: "",
     help: "Tells the verdict as an object of JSON",
 };
 
 const AUDIT: Word = Word {
     kind: Kind::Flag,
-    name: "audit",
+    name: names::AUDIT,
     value: "",
     help: "Makes the signature twice, and compares, before it is written",
 };
 
 const SIGNATURE_OUTPUT: Word = Word {
     kind: Kind::Optional,
-    name: "output",
+    name: names::OUTPUT,
     value: "FILE.sig",
     help: "Where the signature goes; - is standard output",
 };
 
 const EVIDENCE: Word = Word {
     kind: Kind::Required,
-    name: "evidence",
+    name: names::EVIDENCE,
     value: "WORDS",
     help: "What an audit printed after foreign",
 };
@@ -352,8 +353,8 @@ fn arg_of<'a>(alloc: Global, word: &'static Word) -> Result<Arg<'a>, AllocError>
         Kind::Flag => Ok(arg.long(word.name).action(ArgAction::SetTrue)),
         Kind::Operand | Kind::OptionalOperand => Ok(with_value(arg, word)),
         Kind::Operands => Ok(with_value(arg, word).num_args(1usize..)),
-        Kind::Context => with_value(arg.long(word.name), word).conflicts_with("context-hex"),
-        Kind::Key => with_value(arg.long(word.name), word).conflicts_with("key-text"),
+        Kind::Context => with_value(arg.long(word.name), word).conflicts_with(names::CONTEXT_HEX),
+        Kind::Key => with_value(arg.long(word.name), word).conflicts_with(names::KEY_TEXT),
         _ => Ok(with_value(arg.long(word.name), word)),
     }
 }

@@ -1,0 +1,70 @@
+//! What the options, the flags and the operands of the commands are called: an option by its name
+//! behind `--`, an operand by the name that the parser has for it.
+
+pub const AUDIT: &str = "audit";
+
+pub const CHAIN: &str = "chain";
+
+pub const CHECKPOINT: &str = "checkpoint";
+
+pub const CONTEXT: &str = "context";
+
+pub const CONTEXT_HEX: &str = "context-hex";
+
+pub const DEPTH: &str = "depth";
+
+pub const DETERMINISTIC: &str = "deterministic";
+
+pub const EVIDENCE: &str = "evidence";
+
+pub const FILE: &str = "file";
+
+pub const FILES: &str = "files";
+
+pub const FOLDER: &str = "folder";
+
+pub const FROM: &str = "from";
+
+pub const HEAD: &str = "head";
+
+pub const INDEX: &str = "index";
+
+pub const JSON: &str = "json";
+
+pub const KEY: &str = "key";
+
+pub const KEY_TEXT: &str = "key-text";
+
+pub const LINES: &str = "lines";
+
+pub const MANIFEST: &str = "manifest";
+
+pub const MASTER: &str = "master";
+
+pub const NAME: &str = "name";
+
+pub const NEW: &str = "new";
+
+pub const OLD: &str = "old";
+
+pub const ORIGIN: &str = "origin";
+
+pub const OUTPUT: &str = "output";
+
+pub const PATH: &str = "path";
+
+pub const PATHS: &str = "paths";
+
+pub const PREHASH: &str = "prehash";
+
+pub const PROOF: &str = "proof";
+
+pub const RECEIPT: &str = "receipt";
+
+pub const SET: &str = "set";
+
+pub const SIGNATURE: &str = "signature";
+
+pub const STRICT: &str = "strict";
+
+pub const SUBJECT: &str = "subject";
