@@ -1,9 +1,8 @@
 //! The folders of a log, and its lock.
+use crate::memory::{COUNT, NEVER, files, has, is_free};
 use log_files::{FolderError, Piece, free_lock, make_folder, take_lock};
 use std::alloc::{AllocError, Global};
 use whole_files::{FileSystem, Kind, MemFiles, WriteError};
-
-const NEVER: u64 = u64::MAX;
 
 const LOCK: Piece<'static> = Piece {
     path: "lock",
@@ -11,26 +10,10 @@ const LOCK: Piece<'static> = Piece {
     bytes: b"process 7",
 };
 
-// Files whose calls from `stop` on fail, and of these the one with this number.
-fn files(alloc: Global, call: u64, stop: u64) -> Result<MemFiles, AllocError> {
-    let mut files = MemFiles::new(alloc, vec![in alloc; call]?, stop);
-    files.put("file", Kind::Regular, 0o644, b"else")?;
-    files.put("old", Kind::Folder, 0o755, b"")?;
-    files.put("link", Kind::Link, 0o777, b"old")?;
-    Ok(files)
-}
-
 fn is_folder(files: &mut MemFiles, path: &str) -> bool {
     match files.stat(path) {
         Ok(Some(stat)) => stat.kind == Kind::Folder,
         _ => false,
-    }
-}
-
-fn has_lock(files: &MemFiles) -> bool {
-    match files.bytes("lock") {
-        Some(found) => found == LOCK.bytes,
-        None => false,
     }
 }
 
@@ -41,12 +24,12 @@ fn folders_are_made(alloc: Global) -> Result<bool, AllocError> {
         make_folder(&mut files, "new").is_ok()
             && is_folder(&mut files, "new")
             && files.is_settled()
-            && files.count() == 4
+            && files.count() == COUNT + 1
             && make_folder(&mut files, "new").is_ok()
-            && make_folder(&mut files, "old").is_ok()
-            && make_folder(&mut files, "file") == Err(FolderError::NoFolder)
+            && make_folder(&mut files, "folder").is_ok()
+            && make_folder(&mut files, "at") == Err(FolderError::NoFolder)
             && make_folder(&mut files, "link") == Err(FolderError::NoFolder)
-            && files.count() == 4,
+            && files.count() == COUNT + 1,
     )
 }
 
@@ -56,8 +39,8 @@ fn folder_fails(alloc: Global, call: u64) -> Result<bool, AllocError> {
     let mut files = files(alloc, call, NEVER)?;
     let made = make_folder(&mut files, "new");
     Ok(match call {
-        0 => made == Err(FolderError::Failed) && files.count() == 3,
-        1 => made == Err(FolderError::Unsettled) && files.count() == 4,
+        0 => made == Err(FolderError::Failed) && files.count() == COUNT,
+        1 => made == Err(FolderError::Unsettled) && files.count() == COUNT + 1,
         _ => made == Ok(()) && files.calls() == 2,
     })
 }
@@ -66,13 +49,13 @@ fn folder_fails(alloc: Global, call: u64) -> Result<bool, AllocError> {
 // is looked at, and its name brought to the disk.
 fn old_folder_fails(alloc: Global, call: u64) -> Result<bool, AllocError> {
     let mut files = files(alloc, call, NEVER)?;
-    let made = make_folder(&mut files, "old");
+    let made = make_folder(&mut files, "folder");
     Ok(
         match call {
             0 | 1 => made == Err(FolderError::Failed),
             2 => made == Err(FolderError::Unsettled),
             _ => made == Ok(()) && files.calls() == 3,
-        } && files.count() == 3,
+        } && files.count() == COUNT,
     )
 }
 
@@ -86,9 +69,9 @@ fn one_writer(alloc: Global) -> Result<bool, AllocError> {
     Ok(
         take_lock(&mut files, &LOCK).is_ok()
             && take_lock(&mut files, &other) == Err(WriteError::Taken)
-            && has_lock(&files)
+            && has(&files, "lock", LOCK.bytes)
             && free_lock(&mut files, "lock").is_ok()
-            && files.bytes("lock").is_none()
+            && is_free(&files, "lock")
             && take_lock(&mut files, &other).is_ok(),
     )
 }
@@ -97,7 +80,7 @@ fn one_writer(alloc: Global) -> Result<bool, AllocError> {
 fn lock_stops(alloc: Global, stop: u64) -> Result<bool, AllocError> {
     let mut files = files(alloc, NEVER, stop)?;
     let taken = take_lock(&mut files, &LOCK);
-    Ok((has_lock(&files) || files.bytes("lock").is_none()) && taken.is_ok() == (stop >= 5))
+    Ok((has(&files, "lock", LOCK.bytes) || is_free(&files, "lock")) && taken.is_ok() == (stop >= 5))
 }
 
 #[test]
