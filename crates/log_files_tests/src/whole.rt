@@ -17,6 +17,46 @@ const CALLS_OF_A_SECRET: u64 = 6;
 // The mode of what nobody but its owner reads.
 const OWN: Mode = Mode::Exact(0o600);
 
+// What is shown of files, where a call fails, or everything stops at one.
+#[derive(Clone, Copy)]
+enum Fact {
+    Replaced,
+    New,
+    OthersRefused,
+    WriteFails,
+    WriteStops,
+    SecretMade,
+    SecretFails,
+    SecretBegun,
+    PairFails,
+    PairStops,
+    KeyAlone,
+    PublicAlone,
+    AnyName,
+}
+
+// One function owns the files, of which each that does has to drop all.
+fn holds(alloc: Global, fact: Fact, call: u64, stop: u64) -> bool {
+    let Ok(mut files) = files(alloc, call, stop) else {
+        return false;
+    };
+    match fact {
+        Fact::Replaced => is_replaced(&mut files),
+        Fact::New => is_written(&mut files),
+        Fact::OthersRefused => are_others_refused(&mut files),
+        Fact::WriteFails => write_fails(&mut files, call),
+        Fact::WriteStops => write_stops(&mut files, stop),
+        Fact::SecretMade => is_made_once(&mut files),
+        Fact::SecretFails => secret_fails(&mut files, call),
+        Fact::SecretBegun => is_begun_secretly(&mut files),
+        Fact::PairFails => pair_fails(&mut files, call),
+        Fact::PairStops => pair_stops(&mut files, stop),
+        Fact::KeyAlone => is_alone(&mut files, "key"),
+        Fact::PublicAlone => is_alone(&mut files, "pub"),
+        Fact::AnyName => has_any_name(&mut files),
+    }
+}
+
 fn write(files: &mut MemFiles, path: &str, part: &str) -> Result<Written, WriteError> {
     if part == path {
         return Err(WriteError::Taken);
@@ -42,97 +82,85 @@ fn is_whole(files: &MemFiles, path: &str, bytes: &[u8]) -> bool {
 }
 
 // A file takes the place and the mode of the one that is there.
-fn is_replaced(alloc: Global) -> Result<bool, AllocError> {
-    let mut files = files(alloc, NEVER, NEVER)?;
-    Ok(
-        is_settled(write(&mut files, "at", "part"))
-            && files.calls() == CALLS_OF_A_WRITE
-            && has(&files, "at", b"newer")
-            && is_free(&files, "part")
-            && files.is_settled()
-            && files.mode("at") == Some(Mode::Exact(0o640))
-            && files.count() == COUNT,
-    )
+fn is_replaced(files: &mut MemFiles) -> bool {
+    is_settled(write(files, "at", "part"))
+        && files.calls() == CALLS_OF_A_WRITE
+        && has(files, "at", b"newer")
+        && is_free(files, "part")
+        && files.is_settled()
+        && files.mode("at") == Some(Mode::Exact(0o640))
+        && files.count() == COUNT
 }
 
 // A file is new, and its mode is left to the mask.
-fn is_written(alloc: Global) -> Result<bool, AllocError> {
-    let mut files = files(alloc, NEVER, NEVER)?;
-    Ok(
-        is_settled(write(&mut files, "new", "part"))
-            && has(&files, "new", b"newer")
-            && files.mode("new") == Some(Mode::Masked)
-            && files.count() == COUNT + 1,
-    )
+fn is_written(files: &mut MemFiles) -> bool {
+    is_settled(write(files, "new", "part"))
+        && has(files, "new", b"newer")
+        && files.mode("new") == Some(Mode::Masked)
+        && files.count() == COUNT + 1
 }
 
 #[test]
 fn a_file_is_written(rt: HostRuntime) {
-    assert!(rt; is_replaced(rt.alloc()) == Ok(true));
-    assert!(rt; is_written(rt.alloc()) == Ok(true));
+    assert!(rt; holds(rt.alloc(), Fact::Replaced, NEVER, NEVER));
+    assert!(rt; holds(rt.alloc(), Fact::New, NEVER, NEVER));
 }
 
 // What is no regular file isn't written over, nor is what stands at the name of a part.
-fn are_others_refused(alloc: Global) -> Result<bool, AllocError> {
-    let mut files = files(alloc, NEVER, NEVER)?;
-    Ok(
-        is_refused(write(&mut files, "link", "part"), WriteError::NotRegular)
-            && is_refused(write(&mut files, "folder", "part"), WriteError::NotRegular)
-            && is_refused(write(&mut files, "pipe", "part"), WriteError::NotRegular)
-            && is_refused(write(&mut files, "at", "pipe"), WriteError::Taken)
-            && has(&files, "link", b"at")
-            && has(&files, "at", b"old")
-            && has(&files, "pipe", b"")
-            && files.count() == COUNT,
-    )
+fn are_others_refused(files: &mut MemFiles) -> bool {
+    is_refused(write(files, "link", "part"), WriteError::NotRegular)
+        && is_refused(write(files, "folder", "part"), WriteError::NotRegular)
+        && is_refused(write(files, "pipe", "part"), WriteError::NotRegular)
+        && is_refused(write(files, "at", "pipe"), WriteError::Taken)
+        && has(files, "link", b"at")
+        && has(files, "at", b"old")
+        && has(files, "pipe", b"")
+        && files.count() == COUNT
 }
 
 #[test]
 fn a_link_and_a_folder_are_refused(rt: HostRuntime) {
-    assert!(rt; are_others_refused(rt.alloc()) == Ok(true));
+    assert!(rt; holds(rt.alloc(), Fact::OthersRefused, NEVER, NEVER));
 }
 
 // What comes of a write whose call with this number fails.
-fn write_fails(alloc: Global, call: u64) -> Result<bool, AllocError> {
-    let mut files = files(alloc, call, NEVER)?;
-    let written = write(&mut files, "at", "part");
-    Ok(
-        match call {
-            0..=4 => is_refused(written, WriteError::Failed) && has(&files, "at", b"old"),
-            5 => is_unsettled(written) && has(&files, "at", b"newer"),
-            _ => is_settled(written) && has(&files, "at", b"newer"),
-        } && files.count() == COUNT,
-    )
+fn write_fails(files: &mut MemFiles, call: u64) -> bool {
+    let written = write(files, "at", "part");
+    let is_told = match call {
+        0..=4 => is_refused(written, WriteError::Failed) && has(files, "at", b"old"),
+        5 => is_unsettled(written) && has(files, "at", b"newer"),
+        _ => is_settled(written) && has(files, "at", b"newer"),
+    };
+    is_told && files.count() == COUNT
 }
 
 #[test]
 fn each_call_of_a_write_fails_in_turn(rt: HostRuntime) {
     for call in 0..=CALLS_OF_A_WRITE {
-        assert!(rt; write_fails(rt.alloc(), call) == Ok(true), "{call}");
+        assert!(rt; holds(rt.alloc(), Fact::WriteFails, call, NEVER), "{call}");
     }
 }
 
 // What comes of a write where everything stops at a call. Once the part is made, it can't be taken
 // away.
-fn write_stops(alloc: Global, stop: u64) -> Result<bool, AllocError> {
-    let mut files = files(alloc, NEVER, stop)?;
-    let written = write(&mut files, "at", "part");
-    let is_left = !is_free(&files, "part");
-    Ok(
-        match stop {
-            0 | 1 => is_refused(written, WriteError::Failed) && !is_left,
-            2..=4 => is_refused(written, WriteError::Left) && is_left,
-            5 => is_unsettled(written) && !is_left,
-            _ => is_settled(written) && !is_left,
-        } && has(&files, "at", if stop < 5 { b"old" } else { b"newer" })
-            && has(&files, "link", b"at"),
-    )
+fn write_stops(files: &mut MemFiles, stop: u64) -> bool {
+    let written = write(files, "at", "part");
+    let is_left = !is_free(files, "part");
+    let is_told = match stop {
+        0 | 1 => is_refused(written, WriteError::Failed) && !is_left,
+        2..=4 => is_refused(written, WriteError::Left) && is_left,
+        5 => is_unsettled(written) && !is_left,
+        _ => is_settled(written) && !is_left,
+    };
+    is_told
+        && has(files, "at", if stop < 5 { b"old" } else { b"newer" })
+        && has(files, "link", b"at")
 }
 
 #[test]
 fn everything_stops_at_each_call_of_a_write(rt: HostRuntime) {
     for stop in 0..=CALLS_OF_A_WRITE {
-        assert!(rt; write_stops(rt.alloc(), stop) == Ok(true), "{stop}");
+        assert!(rt; holds(rt.alloc(), Fact::WriteStops, NEVER, stop), "{stop}");
     }
 }
 
@@ -145,62 +173,54 @@ fn secret(files: &mut MemFiles, path: &str) -> Result<Written, WriteError> {
 }
 
 // Nothing that stands there is replaced, be it a secret.
-fn is_made_once(alloc: Global) -> Result<bool, AllocError> {
-    let mut files = files(alloc, NEVER, NEVER)?;
-    Ok(
-        is_settled(secret(&mut files, "key"))
-            && files.calls() == CALLS_OF_A_SECRET
-            && has(&files, "key", b"secret")
-            && files.mode("key") == Some(OWN)
-            && is_refused(secret(&mut files, "key"), WriteError::Taken)
-            && is_refused(secret(&mut files, "link"), WriteError::Taken)
-            && is_refused(secret(&mut files, "at"), WriteError::Taken)
-            && has(&files, "link", b"at")
-            && has(&files, "at", b"old")
-            && files.count() == COUNT + 1,
-    )
+fn is_made_once(files: &mut MemFiles) -> bool {
+    is_settled(secret(files, "key"))
+        && files.calls() == CALLS_OF_A_SECRET
+        && has(files, "key", b"secret")
+        && files.mode("key") == Some(OWN)
+        && is_refused(secret(files, "key"), WriteError::Taken)
+        && is_refused(secret(files, "link"), WriteError::Taken)
+        && is_refused(secret(files, "at"), WriteError::Taken)
+        && has(files, "link", b"at")
+        && has(files, "at", b"old")
+        && files.count() == COUNT + 1
 }
 
 #[test]
 fn a_secret_is_made_once(rt: HostRuntime) {
-    assert!(rt; is_made_once(rt.alloc()) == Ok(true));
+    assert!(rt; holds(rt.alloc(), Fact::SecretMade, NEVER, NEVER));
 }
 
 // What comes of a secret whose call with this number fails.
-fn secret_fails(alloc: Global, call: u64) -> Result<bool, AllocError> {
-    let mut files = files(alloc, call, NEVER)?;
-    let made = secret(&mut files, "key");
-    Ok(
-        match call {
-            0..=3 => is_refused(made, WriteError::Failed) && files.count() == COUNT,
-            4 => is_refused(made, WriteError::Left) && files.count() == COUNT + 2,
-            5 => is_unsettled(made) && files.count() == COUNT + 1,
-            _ => is_settled(made) && files.count() == COUNT + 1,
-        } && is_whole(&files, "key", b"secret"),
-    )
+fn secret_fails(files: &mut MemFiles, call: u64) -> bool {
+    let made = secret(files, "key");
+    let is_told = match call {
+        0..=3 => is_refused(made, WriteError::Failed) && files.count() == COUNT,
+        4 => is_refused(made, WriteError::Left) && files.count() == COUNT + 2,
+        5 => is_unsettled(made) && files.count() == COUNT + 1,
+        _ => is_settled(made) && files.count() == COUNT + 1,
+    };
+    is_told && is_whole(files, "key", b"secret")
 }
 
 #[test]
 fn each_call_of_a_secret_fails_in_turn(rt: HostRuntime) {
     for call in 0..=CALLS_OF_A_SECRET {
-        assert!(rt; secret_fails(rt.alloc(), call) == Ok(true), "{call}");
+        assert!(rt; holds(rt.alloc(), Fact::SecretFails, call, NEVER), "{call}");
     }
 }
 
 // Whether a secret is left that nobody else reads, where everything stops at a call.
-fn is_begun_secretly(alloc: Global, stop: u64) -> Result<bool, AllocError> {
-    let mut files = files(alloc, NEVER, stop)?;
-    Ok(
-        is_refused(secret(&mut files, "key"), WriteError::Left)
-            && files.mode("part") == Some(OWN)
-            && is_whole(&files, "key", b"secret"),
-    )
+fn is_begun_secretly(files: &mut MemFiles) -> bool {
+    is_refused(secret(files, "key"), WriteError::Left)
+        && files.mode("part") == Some(OWN)
+        && is_whole(files, "key", b"secret")
 }
 
 #[test]
 fn a_secret_that_is_begun_is_secret(rt: HostRuntime) {
     for stop in 1..5u64 {
-        assert!(rt; is_begun_secretly(rt.alloc(), stop) == Ok(true), "{stop}");
+        assert!(rt; holds(rt.alloc(), Fact::SecretBegun, NEVER, stop), "{stop}");
     }
 }
 
@@ -217,81 +237,69 @@ fn is_pair(files: &MemFiles) -> bool {
 }
 
 // What comes of a pair whose call with this number fails.
-fn pair_fails(alloc: Global, call: u64) -> Result<bool, AllocError> {
-    let mut files = files(alloc, call, NEVER)?;
-    let made = pair(&mut files);
-    Ok(
-        match call {
-            4 | 9 => is_refused(made, WriteError::Left),
-            0..=8 => is_refused(made, WriteError::Failed) && files.count() == COUNT,
-            10 | 11 => is_unsettled(made) && is_pair(&files),
-            _ => is_settled(made) && is_pair(&files),
-        } && is_whole(&files, "key", b"secret")
-            && is_whole(&files, "pub", b"shown"),
-    )
+fn pair_fails(files: &mut MemFiles, call: u64) -> bool {
+    let made = pair(files);
+    let is_told = match call {
+        4 | 9 => is_refused(made, WriteError::Left),
+        0..=8 => is_refused(made, WriteError::Failed) && files.count() == COUNT,
+        10 | 11 => is_unsettled(made) && is_pair(files),
+        _ => is_settled(made) && is_pair(files),
+    };
+    is_told && is_whole(files, "key", b"secret") && is_whole(files, "pub", b"shown")
 }
 
 #[test]
 fn a_pair_is_made_or_nothing(rt: HostRuntime) {
     for call in 0..13u64 {
-        assert!(rt; pair_fails(rt.alloc(), call) == Ok(true), "{call}");
+        assert!(rt; holds(rt.alloc(), Fact::PairFails, call, NEVER), "{call}");
     }
 }
 
 // What comes of a pair where everything stops at a call.
-fn pair_stops(alloc: Global, stop: u64) -> Result<bool, AllocError> {
-    let mut files = files(alloc, NEVER, stop)?;
-    let made = pair(&mut files);
-    Ok(
-        made.is_ok() == (stop >= 10)
-            && is_whole(&files, "key", b"secret")
-            && is_whole(&files, "pub", b"shown")
-            && has(&files, "at", b"old"),
-    )
+fn pair_stops(files: &mut MemFiles, stop: u64) -> bool {
+    let made = pair(files);
+    made.is_ok() == (stop >= 10)
+        && is_whole(files, "key", b"secret")
+        && is_whole(files, "pub", b"shown")
+        && has(files, "at", b"old")
 }
 
 #[test]
 fn everything_stops_at_each_call_of_a_pair(rt: HostRuntime) {
     for stop in 0..13u64 {
-        assert!(rt; pair_stops(rt.alloc(), stop) == Ok(true), "{stop}");
+        assert!(rt; holds(rt.alloc(), Fact::PairStops, NEVER, stop), "{stop}");
     }
 }
 
 // Half of a pair that is there stays alone.
-fn is_alone(alloc: Global, path: &str) -> Result<bool, AllocError> {
-    let mut files = files(alloc, NEVER, NEVER)?;
-    files.put(path, Kind::Regular, 0o644, b"mine")?;
-    Ok(
-        is_refused(pair(&mut files), WriteError::Taken)
-            && has(&files, path, b"mine")
-            && files.count() == COUNT + 1,
-    )
+fn is_alone(files: &mut MemFiles, path: &str) -> bool {
+    files.put(path, Kind::Regular, 0o644, b"mine").is_ok()
+        && is_refused(pair(files), WriteError::Taken)
+        && has(files, path, b"mine")
+        && files.count() == COUNT + 1
 }
 
 #[test]
 fn half_a_pair_that_is_there_stays_alone(rt: HostRuntime) {
-    assert!(rt; is_alone(rt.alloc(), "key") == Ok(true));
-    assert!(rt; is_alone(rt.alloc(), "pub") == Ok(true));
+    assert!(rt; holds(rt.alloc(), Fact::KeyAlone, NEVER, NEVER));
+    assert!(rt; holds(rt.alloc(), Fact::PublicAlone, NEVER, NEVER));
 }
 
-fn has_any_name(alloc: Global) -> Result<bool, AllocError> {
-    let mut files = files(alloc, NEVER, NEVER)?;
+fn has_any_name(files: &mut MemFiles) -> bool {
     let Ok(Some(stat)) = files.stat("at") else {
-        return Ok(false);
+        return false;
     };
     let inputs = [stat.id];
-    Ok(
-        files.link("at", "again") == Ok(true)
-            && is_input(&mut files, "at", &inputs) == Ok(true)
-            && is_input(&mut files, "again", &inputs) == Ok(true)
-            && is_input(&mut files, "pipe", &inputs) == Ok(false)
-            && is_input(&mut files, "nothing", &inputs) == Ok(false),
-    )
+    files.link("at", "again") == Ok(true)
+        && is_input(files, "at", &inputs) == Ok(true)
+        && is_input(files, "again", &inputs) == Ok(true)
+        && is_input(files, "pipe", &inputs) == Ok(false)
+        && is_input(files, "nothing", &inputs) == Ok(false)
 }
 
 #[test]
 fn an_input_has_any_name(rt: HostRuntime) {
-    assert!(rt; has_any_name(rt.alloc()) == Ok(true));
+    assert!(rt; holds(rt.alloc(), Fact::AnyName, NEVER, NEVER));
 }
 
 // Paths, and the names of their parts with the number 255.
