@@ -1,251 +1,273 @@
 //! A log of 255 entries that grows to 257, over files in memory: each call failing in turn, and
-//! everything stopping at each. The roots are another program's (Python's hashlib).
-ghost use Rattle.std.specs.Prelude.{◌<◌};
-
-use hex::FromHex;
-use log_files::{Appending, LogFile, Piece, are_separate, publish};
-use log_tiles::{Bundle, Entries, GrowingTiles, LEVELS, last_tile};
+//! everything stopping at each.
+use crate::memory::NEVER;
+use log_files::{AppendError, Appending, LogFile, Piece, PublishError, are_separate, publish};
+use log_tiles::GrowingTiles;
 use merkle_tree::{Sha256, TreeHash};
-use std::alloc::Global;
-use whole_files::{Kind, MemFiles, Written};
+use std::alloc::{AllocError, Global};
+use whole_files::{Kind, MemFiles, WriteError, Written};
 
-const NEVER: u64 = u64::MAX;
+// The files of the log of the entries `entry 0` to `entry 254`, of which the last has its size and
+// its root, and of each the SHA-256 of a zero and its bytes. They are another program's (Python's
+// hashlib), as the rules for tiles have them.
+const OLD: &str = "\
+tile/entries/000.p/255 3acd37c4d39aff849b1b1e62f94eccdf0bd21a600d73a3d544b4033184798d04
+tile/0/000.p/255 511d57b5edf272fb77e55df2e98cce358ceef74cdaabc933e3edb421aa5d7f76
+checkpoint 9f35b55edba488314852b3f707949174f7fc6be91b014f71aba550cffc8923cf";
 
-const OLD: u64 = 255;
+// Those of the log of two entries more. The files of the old one stay.
+const NEW: &str = "\
+tile/entries/000 41ed034a2dbc32e5ef3fb416fdd43150c9929d9395de0cd6116d86854d0a2fcd
+tile/entries/001.p/1 6673fad0fd9e0d2a6c510e9e22021e3e0b6710e87f9905b70235aae409018bb6
+tile/0/000 f819f6d99f39486aa9f8db16f9046786d6f9824a55a5a6bea16bd321c8022020
+tile/0/001.p/1 c039a4a27a1af659efebdb732e8fddc744bd5cfdfb14e5a3da597a8e7e394f9b
+tile/1/000.p/1 bc967b4e3abc103937c77fc2f636e195b84abbc014861d0c89f4ac27f40938d0
+checkpoint 5f789479e57beff0bc897eb5048733c0fa74ce138d2b4448d04bc74da73e84ab";
 
-const OLD_ROOT: &str = "cf66793e6329dff242eb3cee0a6f36ad3e3a196dcc573a1ec775e102be863f1c";
-
-const NEW: u64 = 257;
-
-const NEW_ROOT: &str = "5c1fdfe835358022f2392de478dbe053fc130cfe1d3a082879a90cf6bf14bf7e";
-
-// The files of the two entries more, as the rules for names have them.
-const NAMES: [&str; 5] = [
-    "tile/entries/000",
-    "tile/entries/001.p/1",
-    "tile/0/000",
-    "tile/0/001.p/1",
-    "tile/1/000.p/1",
-];
-
-// Each of these and the head takes six calls, of which the last brings its name to the disk.
+// Each of these takes six calls, of which the last brings its name to the disk.
 const CALLS: u64 = 36;
 
 const LAST_CALL: u64 = 35;
 
-// What an append makes: files, and a head of 40 bytes with the size and the root.
+// How many paths there are in the end.
+const COUNT: usize = 8;
+
+// The files of a log but the head, and the head of 40 bytes with the size and the root.
 #[derive(Drop)]
-struct Append {
+struct Log {
     files: Vec<LogFile>,
     head: [u8; 40],
 }
 
-// The files of the log of the first `count` entries that the one of no entries hasn't.
-fn append_of(alloc: Global, count: u64) -> Option<Append> {
-    let mut log = Appending::<Sha256>::new(alloc, GrowingTiles::new(), Vec::new(alloc));
+fn add_entry(alloc: Global, log: &mut Appending<Sha256>, i: u64) -> Result<(), AppendError> {
+    let entry = format!(in alloc; "entry {i}")?;
+    log.push(entry.as_bytes())
+}
+
+fn add_entries(alloc: Global, log: &mut Appending<Sha256>, count: u64) -> Result<(), AppendError> {
     for i in 0..count {
-        let entry = format!(in alloc; "entry {i}").ok()?;
-        log.push(entry.as_bytes()).ok()?;
+        add_entry(alloc, log, i)?;
     }
+    Ok(())
+}
+
+fn head_of(log: &Appending<Sha256>) -> [u8; 40] {
     let mut head = [0; 40];
     head[..8].copy_from_slice(&log.len().to_be_bytes());
     head[8..].copy_from_slice(&log.root());
-    Some(Append {
-        files: log.finish().ok()?,
-        head,
+    head
+}
+
+fn log_of(alloc: Global, count: u64) -> Result<Log, AppendError> {
+    let mut log = Appending::new(alloc, GrowingTiles::new(), Vec::new(alloc));
+    add_entries(alloc, &mut log, count)?;
+    let head = head_of(&log);
+    let files = log.finish()?;
+    Ok(Log { files, head })
+}
+
+// The files of a log as they are to be written, the head last.
+fn pieces<'a>(alloc: Global, log: &'a Log) -> Result<Vec<Piece<'a>>, AllocError> {
+    let part = "part";
+    let mut pieces = Vec::new(alloc);
+    for file in &log.files {
+        let (path, bytes) = (file.name.as_str(), file.bytes.as_slice());
+        pieces.push(Piece { path, part, bytes })?;
+    }
+    let (path, bytes) = ("checkpoint", log.head.as_slice());
+    pieces.push(Piece { path, part, bytes })?;
+    Ok(pieces)
+}
+
+// Files that have a log. Of the calls that with this number fails, and all from `stop` on.
+fn files_of(
+    alloc: Global,
+    log: &[Piece<'_>],
+    call: u64,
+    stop: u64,
+) -> Result<MemFiles, AllocError> {
+    let mut files = MemFiles::new(alloc, vec![in alloc; call]?, stop);
+    for piece in log {
+        files.put(piece.path, Kind::Regular, 0o644, piece.bytes)?;
+    }
+    Ok(files)
+}
+
+fn write(files: &mut MemFiles, log: &[Piece<'_>]) -> Result<Written, PublishError> {
+    let inseparable = Err(PublishError::AtPiece(0, WriteError::Taken));
+    let Some((head, pieces)) = log.split_last() else {
+        return inseparable;
+    };
+    if !are_separate(pieces) || head.part == head.path {
+        return inseparable;
+    }
+    publish(files, pieces, head)
+}
+
+fn is_settled(written: Result<Written, PublishError>) -> bool {
+    written == Ok(Written::Settled)
+}
+
+fn has(files: &MemFiles, piece: &Piece<'_>) -> bool {
+    match files.bytes(piece.path) {
+        Some(found) => found == piece.bytes,
+        None => false,
+    }
+}
+
+fn has_all(files: &MemFiles, log: &[Piece<'_>]) -> bool {
+    let mut all = true;
+    for piece in log {
+        all = all && has(files, piece);
+    }
+    all
+}
+
+fn is_known(piece: &Piece<'_>, row: &str) -> bool {
+    let mut digest = [0; 32];
+    match row.split_once(' ') {
+        Some((path, digits)) => {
+            hex::decode_to_slice(digits, &mut digest).is_ok()
+                && piece.path == path
+                && piece.bytes.len() < 65_536
+                && Sha256::leaf(piece.bytes) == digest
+        }
+        None => false,
+    }
+}
+
+fn are_known(log: &[Piece<'_>], rows: &str) -> bool {
+    let mut rows = rows.lines();
+    let mut all = true;
+    for piece in log {
+        all = all
+            && match rows.next() {
+                Some(row) => is_known(piece, row),
+                None => false,
+            };
+    }
+    all && rows.next().is_none()
+}
+
+fn is_appended(files: &mut MemFiles, old: &[Piece<'_>], new: &[Piece<'_>]) -> bool {
+    are_known(old, OLD)
+        && are_known(new, NEW)
+        && is_settled(write(files, new))
+        && files.calls() == CALLS
+        && files.count() == COUNT
+        && has_all(files, new)
+}
+
+// What is answered where the call with this number fails. The six calls of a write: it asks what
+// stands there, then begins a part, and at last brings the name to the disk.
+fn refusal(call: u64) -> Result<Written, PublishError> {
+    let i = (call / 6) as usize;
+    let settles = call % 6 == 5;
+    match (i, settles) {
+        (5, true) => Ok(Written::Unsettled),
+        (5, false) => Err(PublishError::AtHead(WriteError::Failed)),
+        (_, true) => Err(PublishError::Unsettled(i)),
+        (_, false) => Err(PublishError::AtPiece(i, WriteError::Failed)),
+    }
+}
+
+// A call that fails leaves the old head and what it speaks of, or all of the new log; and the next
+// append mends it.
+fn is_mended(files: &mut MemFiles, old: &[Piece<'_>], new: &[Piece<'_>], call: u64) -> bool {
+    let is_refused = write(files, new) == refusal(call);
+    let is_whole = if call < LAST_CALL {
+        has_all(files, old)
+    } else {
+        has_all(files, new)
+    };
+    is_refused && is_whole && is_settled(write(files, new)) && has_all(files, new)
+}
+
+// Where everything stops, the old log is there, or the new one.
+fn is_whole(files: &mut MemFiles, old: &[Piece<'_>], new: &[Piece<'_>], stop: u64) -> bool {
+    let written = write(files, new);
+    written.is_ok() == (stop >= LAST_CALL)
+        && is_settled(written) == (stop == CALLS)
+        && if stop < LAST_CALL {
+            has_all(files, old)
+        } else {
+            has_all(files, new)
+        }
+}
+
+// Where a link stands at the path of the second piece, the first one alone is written.
+fn is_no_piece(files: &mut MemFiles, old: &[Piece<'_>], new: &[Piece<'_>]) -> bool {
+    let wanted = Err(PublishError::AtPiece(1, WriteError::NotRegular));
+    files
+        .put("tile/entries/001.p/1", Kind::Link, 0o777, b"checkpoint")
+        .is_ok()
+        && write(files, new) == wanted
+        && has_all(files, old)
+        && has_all(files, new.get(..1).unwrap_or(&[]))
+}
+
+// What is shown of an append.
+#[derive(Clone, Copy)]
+enum Shown {
+    Appended,
+    Mended(u64),
+    Whole(u64),
+    NoPiece,
+}
+
+fn is_shown_of(
+    alloc: Global,
+    old: &[Piece<'_>],
+    new: &[Piece<'_>],
+    shown: Shown,
+) -> Result<bool, AllocError> {
+    let (call, stop) = match shown {
+        Shown::Mended(call) => (call, NEVER),
+        Shown::Whole(stop) => (NEVER, stop),
+        _ => (NEVER, NEVER),
+    };
+    let mut files = files_of(alloc, old, call, stop)?;
+    Ok(match shown {
+        Shown::Appended => is_appended(&mut files, old, new),
+        Shown::Mended(call) => is_mended(&mut files, old, new, call),
+        Shown::Whole(stop) => is_whole(&mut files, old, new, stop),
+        Shown::NoPiece => is_no_piece(&mut files, old, new),
     })
 }
 
-// The files of the old log.
-fn old_log(alloc: Global, old: &Append, call: u64, stop: u64) -> Option<MemFiles> {
-    let mut files = MemFiles::new(alloc, vec![in alloc; call].ok()?, stop);
-    for file in &old.files {
-        files
-            .put(
-                file.name.as_str(),
-                Kind::Regular,
-                0o644,
-                file.bytes.as_slice(),
-            )
-            .ok()?;
-    }
-    files
-        .put("checkpoint", Kind::Regular, 0o644, &old.head)
-        .ok()?;
-    Some(files)
-}
-
-// Writes the files of an append, and then its head; `None` is want of memory.
-fn write(alloc: Global, files: &mut MemFiles, append: &Append, end: &str) -> Option<bool> {
-    let mut parts = Vec::new(alloc);
-    for file in &append.files {
-        let name = file.name.as_str();
-        parts.push(format!(in alloc; "{name}{end}").ok()?).ok()?;
-    }
-    let mut pieces = Vec::new(alloc);
-    for (file, part) in append.files.iter().zip(parts.iter()) {
-        let piece = Piece {
-            path: file.name.as_str(),
-            part: part.as_str(),
-            bytes: file.bytes.as_slice(),
-        };
-        pieces.push(piece).ok()?;
-    }
-    let part = format!(in alloc; "checkpoint{end}").ok()?;
-    let head = Piece {
-        path: "checkpoint",
-        part: part.as_str(),
-        bytes: &append.head,
-    };
-    if !are_separate(pieces.as_slice()) || head.part == head.path {
-        return None;
-    }
-    Some(publish(files, pieces.as_slice(), &head) == Ok(Written::Settled))
-}
-
-// Whether the last tile of a level is its file.
-fn is_tile(alloc: Global, files: &MemFiles, tiles: &GrowingTiles<Sha256>, level: u32) -> bool
-    requires { level < 8 }
-{
-    let Some(tile) = last_tile(level, tiles.len()) else {
-        return true;
-    };
-    match tile.path(alloc) {
-        Ok(name) => files.bytes(name.as_str()) == Some(tiles.last_bytes(level)),
-        Err(_) => false,
-    }
-}
-
-// Adds the entries of a bundle, and looks at the tiles that they make full.
-fn are_entries(
-    alloc: Global,
-    files: &MemFiles,
-    tiles: &mut GrowingTiles<Sha256>,
-    bundle: Bundle,
-) -> Option<bool> {
-    let name = bundle.path(alloc).ok()?;
-    let mut entries = Entries::of(files.bytes(name.as_str())?, bundle.width);
-    for _ in 0..bundle.width {
-        let entry = entries.next_entry().ok()??;
-        if entry.len() > 9 || tiles.len() >= NEW {
-            return None;
-        }
-        let full = tiles.push(&Sha256::leaf(entry));
-        if full > 0 && !is_tile(alloc, files, tiles, 0) {
-            return Some(false);
-        }
-    }
-    Some(entries.next_entry() == Ok(None))
-}
-
-// The size of the log of the checkpoint, whose files are all there, and whose root is this one.
-fn checked_size(alloc: Global, files: &MemFiles) -> Option<u64> {
-    let head = files.bytes("checkpoint")?;
-    let size = u64::from_be_bytes(*head.first_chunk::<8>()?);
-    let mut tiles = GrowingTiles::<Sha256>::new();
-    for index in 0..2u64 {
-        let width = size.checked_sub(256 * index)?.min(256) as u32;
-        let bundle = Bundle { index, width };
-        if width > 0 && are_entries(alloc, files, &mut tiles, bundle) != Some(true) {
-            return None;
-        }
-        if width < 256 {
-            break;
-        }
-    }
-    for level in 0..LEVELS as u32 {
-        if !is_tile(alloc, files, &tiles, level) {
-            return None;
-        }
-    }
-    let root = tiles.root();
-    if head.get(8..)? != root.as_slice() {
-        return None;
-    }
-    Some(size)
-}
-
-// Whether the head has a size, and the root that another program gave.
-fn has_root(append: &Append, size: u64, root: &str) -> bool {
-    match <[u8; 32] as FromHex>::from_hex(root.as_bytes()) {
-        Ok(root) => {
-            let (front, back) = append.head.split_at(8);
-            front == size.to_be_bytes().as_slice() && back == root.as_slice()
-        }
-        Err(_) => false,
-    }
-}
-
-// The files of two entries more have the names of the rules, and make a log with another program's
-// roots.
-fn is_appended(alloc: Global) -> Option<bool> {
-    let (old, new) = (append_of(alloc, OLD)?, append_of(alloc, NEW)?);
-    let mut files = old_log(alloc, &old, NEVER, NEVER)?;
-    let before = checked_size(alloc, &files)?;
-    let written = write(alloc, &mut files, &new, "-part")?;
-    let mut named = new.files.len() == NAMES.len();
-    for (file, name) in new.files.iter().zip(NAMES) {
-        named = named && file.name.as_str() == name;
-    }
-    Some(
-        named
-            && has_root(&old, OLD, OLD_ROOT)
-            && has_root(&new, NEW, NEW_ROOT)
-            && before == OLD
-            && written
-            && files.calls() == CALLS
-            && checked_size(alloc, &files)? == NEW,
-    )
-}
-
-// A call that fails leaves a log that checks, and the next append mends it.
-fn is_mended(alloc: Global, old: &Append, new: &Append, call: u64) -> Option<bool> {
-    let mut files = old_log(alloc, old, call, NEVER)?;
-    let written = write(alloc, &mut files, new, "-part")?;
-    let size = checked_size(alloc, &files)?;
-    let again = write(alloc, &mut files, new, "-other")?;
-    let is_new = size == NEW && call == LAST_CALL;
-    Some(!written && (size == OLD || is_new) && again && checked_size(alloc, &files)? == NEW)
-}
-
-// Where everything stops, the log checks.
-fn is_whole(alloc: Global, old: &Append, new: &Append, stop: u64) -> Option<bool> {
-    let mut files = old_log(alloc, old, NEVER, stop)?;
-    let written = write(alloc, &mut files, new, "-part")?;
-    let size = checked_size(alloc, &files)?;
-    let wanted = if stop < LAST_CALL { OLD } else { NEW };
-    Some(written == (stop == CALLS) && size == wanted)
+fn is_shown(alloc: Global, shown: Shown) -> Result<bool, AppendError> {
+    let old = log_of(alloc, 255)?;
+    let new = log_of(alloc, 257)?;
+    let (before, after) = (pieces(alloc, &old)?, pieces(alloc, &new)?);
+    Ok(is_shown_of(alloc, before.as_slice(), after.as_slice(), shown)?)
 }
 
 #[test]
 fn two_entries_are_appended(rt: HostRuntime) {
-    assert!(rt; is_appended(rt.alloc()) == Some(true));
+    assert!(rt; is_shown(rt.alloc(), Shown::Appended) == Ok(true));
 }
 
 #[test]
 fn an_append_that_fails_at_any_call_is_mended_by_the_next(rt: HostRuntime) {
-    let (Some(old), Some(new)) = (append_of(rt.alloc(), OLD), append_of(rt.alloc(), NEW)) else {
-        assert!(rt; false);
-        return;
-    };
     for call in 0..CALLS {
         assert!(rt;
-            is_mended(rt.alloc(), &old, &new, call) == Some(true),
+            is_shown(rt.alloc(), Shown::Mended(call)) == Ok(true),
             "{call}"
         );
     }
 }
 
 #[test]
-fn a_log_checks_wherever_an_append_stops(rt: HostRuntime) {
-    let (Some(old), Some(new)) = (append_of(rt.alloc(), OLD), append_of(rt.alloc(), NEW)) else {
-        assert!(rt; false);
-        return;
-    };
+fn a_log_is_whole_wherever_an_append_stops(rt: HostRuntime) {
     for stop in 0..=CALLS {
         assert!(rt;
-            is_whole(rt.alloc(), &old, &new, stop) == Some(true),
+            is_shown(rt.alloc(), Shown::Whole(stop)) == Ok(true),
             "{stop}"
         );
     }
+}
+
+#[test]
+fn a_link_is_no_piece(rt: HostRuntime) {
+    assert!(rt; is_shown(rt.alloc(), Shown::NoPiece) == Ok(true));
 }

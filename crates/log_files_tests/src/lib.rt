@@ -7,6 +7,6 @@ mod appending;
 #[cfg(test)]
 mod folders;
 #[cfg(test)]
-mod publishing;
+mod memory;
 #[cfg(test)]
 mod whole;

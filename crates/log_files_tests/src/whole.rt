@@ -1,197 +1,227 @@
 //! Files that are written whole: each call failing in turn, and everything stopping at each.
+use crate::memory::{COUNT, NEVER, files, has, is_free};
 use std::alloc::{AllocError, Global};
-use std::test::Fail;
 use whole_files::{
-    FileId, FileSystem, Kind, MemFiles, Mode, WriteError, Written, is_input, is_part, make_pair,
+    FileSystem, Kind, MemFiles, Mode, WriteError, Written, is_input, is_part, make_pair,
     make_secret, part_name, write_whole,
 };
-
-const NEVER: u64 = u64::MAX;
 
 // What a write makes: it asks what stands there, makes the part, fills it, brings it to the disk,
 // gives it the name, and brings the folder to the disk.
 const CALLS_OF_A_WRITE: u64 = 6;
 
-// A part is made, filled, brought to the disk, linked and taken away.
-const CALLS_OF_A_NEW_FILE: u64 = 5;
+// A part is made, filled, brought to the disk, linked and taken away, and the folder is brought to
+// the disk.
+const CALLS_OF_A_SECRET: u64 = 6;
 
-fn old_files(alloc: Global, fails: Vec<u64>, stop: u64) -> Result<MemFiles, AllocError> {
-    let mut files = MemFiles::new(alloc, fails, stop);
-    files.put("other", Kind::Regular, 0o644, b"else")?;
-    files.put("at", Kind::Regular, 0o640, b"old")?;
-    Ok(files)
+// The mode of what nobody but its owner reads.
+const OWN: Mode = Mode::Exact(0o600);
+
+// What is shown of files, where a call fails, or everything stops at one.
+#[derive(Clone, Copy)]
+enum Fact {
+    Replaced,
+    New,
+    OthersRefused,
+    WriteFails,
+    WriteStops,
+    SecretMade,
+    SecretFails,
+    SecretBegun,
+    PairFails,
+    PairStops,
+    KeyAlone,
+    PublicAlone,
+    AnyName,
 }
 
-fn has(files: &MemFiles, path: &str, bytes: &[u8]) -> bool {
-    match files.bytes(path) {
-        Some(found) => found == bytes,
-        None => false,
+// One function owns the files, of which each that does has to drop all.
+fn holds(alloc: Global, fact: Fact, call: u64, stop: u64) -> bool {
+    let Ok(mut files) = files(alloc, call, stop) else {
+        return false;
+    };
+    match fact {
+        Fact::Replaced => is_replaced(&mut files),
+        Fact::New => is_written(&mut files),
+        Fact::OthersRefused => are_others_refused(&mut files),
+        Fact::WriteFails => write_fails(&mut files, call),
+        Fact::WriteStops => write_stops(&mut files, stop),
+        Fact::SecretMade => is_made_once(&mut files),
+        Fact::SecretFails => secret_fails(&mut files, call),
+        Fact::SecretBegun => is_begun_secretly(&mut files),
+        Fact::PairFails => pair_fails(&mut files, call),
+        Fact::PairStops => pair_stops(&mut files, stop),
+        Fact::KeyAlone => is_alone(&mut files, "key"),
+        Fact::PublicAlone => is_alone(&mut files, "pub"),
+        Fact::AnyName => has_any_name(&mut files),
     }
+}
+
+fn write(files: &mut MemFiles, path: &str, part: &str) -> Result<Written, WriteError> {
+    if part == path {
+        return Err(WriteError::Taken);
+    }
+    write_whole(files, path, part, b"newer")
+}
+
+fn is_settled(written: Result<Written, WriteError>) -> bool {
+    written == Ok(Written::Settled)
+}
+
+fn is_unsettled(written: Result<Written, WriteError>) -> bool {
+    written == Ok(Written::Unsettled)
+}
+
+fn is_refused(written: Result<Written, WriteError>, error: WriteError) -> bool {
+    written == Err(error)
 }
 
 // Nothing, or all of it.
 fn is_whole(files: &MemFiles, path: &str, bytes: &[u8]) -> bool {
-    match files.bytes(path) {
-        Some(found) => found == bytes,
-        None => true,
+    is_free(files, path) || has(files, path, bytes)
+}
+
+// A file takes the place and the mode of the one that is there.
+fn is_replaced(files: &mut MemFiles) -> bool {
+    is_settled(write(files, "at", "part"))
+        && files.calls() == CALLS_OF_A_WRITE
+        && has(files, "at", b"newer")
+        && is_free(files, "part")
+        && files.is_settled()
+        && files.mode("at") == Some(Mode::Exact(0o640))
+        && files.count() == COUNT
+}
+
+// A file is new, and its mode is left to the mask.
+fn is_written(files: &mut MemFiles) -> bool {
+    is_settled(write(files, "new", "part"))
+        && has(files, "new", b"newer")
+        && files.mode("new") == Some(Mode::Masked)
+        && files.count() == COUNT + 1
+}
+
+#[test]
+fn a_file_is_written(rt: HostRuntime) {
+    assert!(rt; holds(rt.alloc(), Fact::Replaced, NEVER, NEVER));
+    assert!(rt; holds(rt.alloc(), Fact::New, NEVER, NEVER));
+}
+
+// What is no regular file isn't written over, nor is what stands at the name of a part.
+fn are_others_refused(files: &mut MemFiles) -> bool {
+    is_refused(write(files, "link", "part"), WriteError::NotRegular)
+        && is_refused(write(files, "folder", "part"), WriteError::NotRegular)
+        && is_refused(write(files, "pipe", "part"), WriteError::NotRegular)
+        && is_refused(write(files, "at", "pipe"), WriteError::Taken)
+        && has(files, "link", b"at")
+        && has(files, "at", b"old")
+        && has(files, "pipe", b"")
+        && files.count() == COUNT
+}
+
+#[test]
+fn a_link_and_a_folder_are_refused(rt: HostRuntime) {
+    assert!(rt; holds(rt.alloc(), Fact::OthersRefused, NEVER, NEVER));
+}
+
+// What comes of a write whose call with this number fails.
+fn write_fails(files: &mut MemFiles, call: u64) -> bool {
+    let written = write(files, "at", "part");
+    let is_told = match call {
+        0..=4 => is_refused(written, WriteError::Failed) && has(files, "at", b"old"),
+        5 => is_unsettled(written) && has(files, "at", b"newer"),
+        _ => is_settled(written) && has(files, "at", b"newer"),
+    };
+    is_told && files.count() == COUNT
+}
+
+#[test]
+fn each_call_of_a_write_fails_in_turn(rt: HostRuntime) {
+    for call in 0..=CALLS_OF_A_WRITE {
+        assert!(rt; holds(rt.alloc(), Fact::WriteFails, call, NEVER), "{call}");
     }
 }
 
-fn write(files: &mut MemFiles) -> Result<Written, WriteError> {
-    write_whole(files, "at", "part", b"newer")
+// What comes of a write where everything stops at a call. Once the part is made, it can't be taken
+// away.
+fn write_stops(files: &mut MemFiles, stop: u64) -> bool {
+    let written = write(files, "at", "part");
+    let is_left = !is_free(files, "part");
+    let is_told = match stop {
+        0 | 1 => is_refused(written, WriteError::Failed) && !is_left,
+        2..=4 => is_refused(written, WriteError::Left) && is_left,
+        5 => is_unsettled(written) && !is_left,
+        _ => is_settled(written) && !is_left,
+    };
+    is_told
+        && has(files, "at", if stop < 5 { b"old" } else { b"newer" })
+        && has(files, "link", b"at")
 }
 
 #[test]
-fn a_file_is_written(rt: HostRuntime) -> Result<(), Fail> {
-    let mut files = old_files(rt.alloc(), Vec::new(rt.alloc()), NEVER)?;
-    assert_eq!(rt; write(&mut files), Ok(Written::Settled));
-    assert_eq!(rt; files.calls(), CALLS_OF_A_WRITE);
-    assert!(rt; has(&files, "at", b"newer"));
-    assert!(rt; files.bytes("part").is_none());
-    assert!(rt; files.is_settled());
-    assert_eq!(rt; files.mode("at"), Some(Mode::Exact(0o640)));
-    assert_eq!(rt;
-        write_whole(&mut files, "new", "part", b"first"),
-        Ok(Written::Settled)
-    );
-    assert!(rt; has(&files, "new", b"first"));
-    assert_eq!(rt; files.mode("new"), Some(Mode::Masked));
-    assert_eq!(rt; files.count(), 3);
-    Ok(())
-}
-
-#[test]
-fn a_mode_is_kept_that_a_new_file_may_have_too(rt: HostRuntime) -> Result<(), Fail> {
-    let mut files = MemFiles::new(rt.alloc(), Vec::new(rt.alloc()), NEVER);
-    files.put("at", Kind::Regular, 0o666, b"old")?;
-    assert_eq!(rt; write(&mut files), Ok(Written::Settled));
-    assert_eq!(rt; files.mode("at"), Some(Mode::Exact(0o666)));
-    Ok(())
-}
-
-#[test]
-fn a_link_and_a_folder_are_refused(rt: HostRuntime) -> Result<(), Fail> {
-    let mut files = old_files(rt.alloc(), Vec::new(rt.alloc()), NEVER)?;
-    files.put("link", Kind::Link, 0o777, b"at")?;
-    files.put("folder", Kind::Folder, 0o755, b"")?;
-    files.put("pipe", Kind::Other, 0o644, b"")?;
-    for path in ["link", "folder", "pipe"] {
-        let written = write_whole(&mut files, path, "part", b"new");
-        assert_eq!(rt; written, Err(WriteError::NotRegular), "{path}");
-    }
-    let taken = write_whole(&mut files, "at", "other", b"new");
-    assert_eq!(rt; taken, Err(WriteError::Taken));
-    assert!(rt; has(&files, "link", b"at"));
-    assert!(rt; has(&files, "at", b"old"));
-    assert!(rt; has(&files, "other", b"else"));
-    assert_eq!(rt; files.count(), 5);
-    Ok(())
-}
-
-#[test]
-fn each_call_of_a_write_fails_in_turn(rt: HostRuntime) -> Result<(), Fail> {
-    for call in 0..CALLS_OF_A_WRITE {
-        let fails = vec![in rt.alloc(); call]?;
-        let mut files = old_files(rt.alloc(), fails, NEVER)?;
-        let is_last = call + 1 == CALLS_OF_A_WRITE;
-        let wanted = if is_last {
-            Ok(Written::Unsettled)
-        } else {
-            Err(WriteError::Failed)
-        };
-        assert_eq!(rt; write(&mut files), wanted, "{call}");
-        let bytes: &[u8] = if is_last { b"newer" } else { b"old" };
-        assert!(rt; has(&files, "at", bytes), "{call}");
-        assert_eq!(rt; files.count(), 2, "{call}");
-    }
-    Ok(())
-}
-
-#[test]
-fn a_part_that_cannot_be_removed_is_told(rt: HostRuntime) -> Result<(), Fail> {
-    for call in [2u64, 3, 4] {
-        let fails = vec![in rt.alloc(); call, call + 1]?;
-        let mut files = old_files(rt.alloc(), fails, NEVER)?;
-        assert_eq!(rt; write(&mut files), Err(WriteError::Left), "{call}");
-        assert!(rt; has(&files, "at", b"old"), "{call}");
-        assert!(rt; files.bytes("part").is_some(), "{call}");
-    }
-    Ok(())
-}
-
-#[test]
-fn everything_stops_at_each_call_of_a_write(rt: HostRuntime) -> Result<(), Fail> {
+fn everything_stops_at_each_call_of_a_write(rt: HostRuntime) {
     for stop in 0..=CALLS_OF_A_WRITE {
-        let mut files = old_files(rt.alloc(), Vec::new(rt.alloc()), stop)?;
-        let written = write(&mut files);
-        let (wanted, count) = match stop {
-            0 | 1 => (Err(WriteError::Failed), 2),
-            2..=4 => (Err(WriteError::Left), 3),
-            5 => (Ok(Written::Unsettled), 2),
-            _ => (Ok(Written::Settled), 2),
-        };
-        assert_eq!(rt; written, wanted, "{stop}");
-        assert_eq!(rt; files.count(), count, "{stop}");
-        let bytes: &[u8] = if stop < 5 { b"old" } else { b"newer" };
-        assert!(rt; has(&files, "at", bytes), "{stop}");
-        assert!(rt; has(&files, "other", b"else"), "{stop}");
+        assert!(rt; holds(rt.alloc(), Fact::WriteStops, NEVER, stop), "{stop}");
     }
-    Ok(())
 }
 
-fn other_file(alloc: Global, fails: Vec<u64>, stop: u64) -> Result<MemFiles, AllocError> {
-    let mut files = MemFiles::new(alloc, fails, stop);
-    files.put("other", Kind::Regular, 0o644, b"else")?;
-    Ok(files)
+fn secret(files: &mut MemFiles, path: &str) -> Result<Written, WriteError> {
+    let part = "part";
+    if part == path {
+        return Err(WriteError::Taken);
+    }
+    make_secret(files, path, part, b"secret")
 }
 
-#[test]
-fn a_secret_is_made_once(rt: HostRuntime) -> Result<(), Fail> {
-    let mut files = other_file(rt.alloc(), Vec::new(rt.alloc()), NEVER)?;
-    let made = make_secret(&mut files, "key", "part", b"secret");
-    assert_eq!(rt; made, Ok(Written::Settled));
-    assert_eq!(rt; files.calls(), CALLS_OF_A_NEW_FILE + 1);
-    assert!(rt; has(&files, "key", b"secret"));
-    assert_eq!(rt; files.mode("key"), Some(Mode::Exact(0o600)));
-    files.put("link", Kind::Link, 0o777, b"nowhere")?;
-    for path in ["key", "link", "other"] {
-        let again = make_secret(&mut files, path, "part", b"another");
-        assert_eq!(rt; again, Err(WriteError::Taken), "{path}");
-    }
-    assert!(rt; has(&files, "key", b"secret"));
-    assert!(rt; has(&files, "link", b"nowhere"));
-    assert_eq!(rt; files.count(), 3);
-    Ok(())
+// Nothing that stands there is replaced, be it a secret.
+fn is_made_once(files: &mut MemFiles) -> bool {
+    is_settled(secret(files, "key"))
+        && files.calls() == CALLS_OF_A_SECRET
+        && has(files, "key", b"secret")
+        && files.mode("key") == Some(OWN)
+        && is_refused(secret(files, "key"), WriteError::Taken)
+        && is_refused(secret(files, "link"), WriteError::Taken)
+        && is_refused(secret(files, "at"), WriteError::Taken)
+        && has(files, "link", b"at")
+        && has(files, "at", b"old")
+        && files.count() == COUNT + 1
 }
 
 #[test]
-fn each_call_of_a_secret_fails_in_turn(rt: HostRuntime) -> Result<(), Fail> {
-    for call in 0..=CALLS_OF_A_NEW_FILE {
-        let fails = vec![in rt.alloc(); call]?;
-        let mut files = other_file(rt.alloc(), fails, NEVER)?;
-        let made = make_secret(&mut files, "key", "part", b"secret");
-        let (wanted, count) = match call {
-            0..=3 => (Err(WriteError::Failed), 1),
-            4 => (Err(WriteError::Left), 3),
-            _ => (Ok(Written::Unsettled), 2),
-        };
-        assert_eq!(rt; made, wanted, "{call}");
-        assert_eq!(rt; files.count(), count, "{call}");
-        assert!(rt; is_whole(&files, "key", b"secret"), "{call}");
-    }
-    Ok(())
+fn a_secret_is_made_once(rt: HostRuntime) {
+    assert!(rt; holds(rt.alloc(), Fact::SecretMade, NEVER, NEVER));
+}
+
+// What comes of a secret whose call with this number fails.
+fn secret_fails(files: &mut MemFiles, call: u64) -> bool {
+    let made = secret(files, "key");
+    let is_told = match call {
+        0..=3 => is_refused(made, WriteError::Failed) && files.count() == COUNT,
+        4 => is_refused(made, WriteError::Left) && files.count() == COUNT + 2,
+        5 => is_unsettled(made) && files.count() == COUNT + 1,
+        _ => is_settled(made) && files.count() == COUNT + 1,
+    };
+    is_told && is_whole(files, "key", b"secret")
 }
 
 #[test]
-fn a_secret_that_is_begun_is_secret(rt: HostRuntime) -> Result<(), Fail> {
-    for stop in 1..CALLS_OF_A_NEW_FILE {
-        let mut files = other_file(rt.alloc(), Vec::new(rt.alloc()), stop)?;
-        let made = make_secret(&mut files, "key", "part", b"secret");
-        assert_eq!(rt; made, Err(WriteError::Left), "{stop}");
-        assert_eq!(rt; files.mode("part"), Some(Mode::Exact(0o600)), "{stop}");
-        assert!(rt; is_whole(&files, "key", b"secret"), "{stop}");
+fn each_call_of_a_secret_fails_in_turn(rt: HostRuntime) {
+    for call in 0..=CALLS_OF_A_SECRET {
+        assert!(rt; holds(rt.alloc(), Fact::SecretFails, call, NEVER), "{call}");
     }
-    Ok(())
+}
+
+// Whether a secret is left that nobody else reads, where everything stops at a call.
+fn is_begun_secretly(files: &mut MemFiles) -> bool {
+    is_refused(secret(files, "key"), WriteError::Left)
+        && files.mode("part") == Some(OWN)
+        && is_whole(files, "key", b"secret")
+}
+
+#[test]
+fn a_secret_that_is_begun_is_secret(rt: HostRuntime) {
+    for stop in 1..5u64 {
+        assert!(rt; holds(rt.alloc(), Fact::SecretBegun, NEVER, stop), "{stop}");
+    }
 }
 
 fn pair(files: &mut MemFiles) -> Result<Written, WriteError> {
@@ -200,93 +230,104 @@ fn pair(files: &mut MemFiles) -> Result<Written, WriteError> {
     )
 }
 
-#[test]
-fn a_pair_is_made_or_nothing(rt: HostRuntime) -> Result<(), Fail> {
-    for call in 0..13u64 {
-        let fails = vec![in rt.alloc(); call]?;
-        let mut files = other_file(rt.alloc(), fails, NEVER)?;
-        let made = pair(&mut files);
-        match call {
-            4 | 9 => assert_eq!(rt; made, Err(WriteError::Left), "{call}"),
-            10 | 11 => assert_eq!(rt; made, Ok(Written::Unsettled), "{call}"),
-            12 => assert_eq!(rt; made, Ok(Written::Settled), "{call}"),
-            _ => assert_eq!(rt; made, Err(WriteError::Failed), "{call}"),
-        }
-        if made.is_ok() {
-            assert_eq!(rt; files.count(), 3, "{call}");
-            assert_eq!(rt; files.mode("key"), Some(Mode::Exact(0o600)), "{call}");
-            assert_eq!(rt; files.mode("pub"), Some(Mode::Masked), "{call}");
-        } else if call != 4 && call != 9 {
-            assert_eq!(rt; files.count(), 1, "{call}");
-        }
-        assert!(rt; is_whole(&files, "key", b"secret"), "{call}");
-        assert!(rt; is_whole(&files, "pub", b"shown"), "{call}");
-    }
-    Ok(())
+fn is_pair(files: &MemFiles) -> bool {
+    files.mode("key") == Some(OWN)
+        && files.mode("pub") == Some(Mode::Masked)
+        && files.count() == COUNT + 2
 }
 
-#[test]
-fn half_a_pair_that_is_there_stays_alone(rt: HostRuntime) -> Result<(), Fail> {
-    for path in ["key", "pub"] {
-        let mut files = other_file(rt.alloc(), Vec::new(rt.alloc()), NEVER)?;
-        files.put(path, Kind::Regular, 0o644, b"mine")?;
-        assert_eq!(rt; pair(&mut files), Err(WriteError::Taken), "{path}");
-        assert!(rt; has(&files, path, b"mine"), "{path}");
-        assert_eq!(rt; files.count(), 2, "{path}");
-    }
-    Ok(())
-}
-
-#[test]
-fn everything_stops_at_each_call_of_a_pair(rt: HostRuntime) -> Result<(), Fail> {
-    for stop in 0..13u64 {
-        let mut files = other_file(rt.alloc(), Vec::new(rt.alloc()), stop)?;
-        let made = pair(&mut files);
-        assert_eq!(rt; made.is_ok(), stop >= 10, "{stop}");
-        assert!(rt; is_whole(&files, "key", b"secret"), "{stop}");
-        assert!(rt; is_whole(&files, "pub", b"shown"), "{stop}");
-        assert!(rt; has(&files, "other", b"else"), "{stop}");
-    }
-    Ok(())
-}
-
-#[test]
-fn an_input_has_any_name(rt: HostRuntime) -> Result<(), Fail> {
-    let mut files = old_files(rt.alloc(), Vec::new(rt.alloc()), NEVER)?;
-    let found = files.stat("at");
-    let Ok(Some(stat)) = found else {
-        assert!(rt; false, "{found:?}");
-        return Ok(());
+// What comes of a pair whose call with this number fails.
+fn pair_fails(files: &mut MemFiles, call: u64) -> bool {
+    let made = pair(files);
+    let is_told = match call {
+        4 | 9 => is_refused(made, WriteError::Left),
+        0..=8 => is_refused(made, WriteError::Failed) && files.count() == COUNT,
+        10 | 11 => is_unsettled(made) && is_pair(files),
+        _ => is_settled(made) && is_pair(files),
     };
-    let inputs: [FileId; 1] = [stat.id];
-    assert_eq!(rt; files.link("at", "again"), Ok(true));
-    assert_eq!(rt; is_input(&mut files, "at", &inputs), Ok(true));
-    assert_eq!(rt; is_input(&mut files, "again", &inputs), Ok(true));
-    assert_eq!(rt; is_input(&mut files, "other", &inputs), Ok(false));
-    assert_eq!(rt; is_input(&mut files, "nothing", &inputs), Ok(false));
-    Ok(())
+    is_told && is_whole(files, "key", b"secret") && is_whole(files, "pub", b"shown")
 }
 
 #[test]
-fn parts_have_short_names_in_the_same_folder(rt: HostRuntime) -> Result<(), Fail> {
-    for (path, wanted) in [
-        ("notes.txt.sig", "00000000000000ff.part"),
-        ("/tmp/notes", "/tmp/00000000000000ff.part"),
-        ("/notes", "/00000000000000ff.part"),
-        ("a/b/../c", "a/b/../00000000000000ff.part"),
-        ("00000000000000ff.part", "00000000000000ff.part_"),
-    ] {
-        let part = part_name(rt.alloc(), path, 255)?;
-        assert_eq!(rt; part.as_str(), wanted);
+fn a_pair_is_made_or_nothing(rt: HostRuntime) {
+    for call in 0..13u64 {
+        assert!(rt; holds(rt.alloc(), Fact::PairFails, call, NEVER), "{call}");
     }
-    assert!(rt; is_part("00000000000000ff.part"));
-    for name in [
-        "0.part",
-        "00000000000000ff",
-        "00000000000000fg.part",
-        "a00000000000000ff.part",
-    ] {
-        assert!(rt; !is_part(name), "{name}");
+}
+
+// What comes of a pair where everything stops at a call.
+fn pair_stops(files: &mut MemFiles, stop: u64) -> bool {
+    let made = pair(files);
+    made.is_ok() == (stop >= 10)
+        && is_whole(files, "key", b"secret")
+        && is_whole(files, "pub", b"shown")
+        && has(files, "at", b"old")
+}
+
+#[test]
+fn everything_stops_at_each_call_of_a_pair(rt: HostRuntime) {
+    for stop in 0..13u64 {
+        assert!(rt; holds(rt.alloc(), Fact::PairStops, NEVER, stop), "{stop}");
     }
-    Ok(())
+}
+
+// Half of a pair that is there stays alone.
+fn is_alone(files: &mut MemFiles, path: &str) -> bool {
+    files.put(path, Kind::Regular, 0o644, b"mine").is_ok()
+        && is_refused(pair(files), WriteError::Taken)
+        && has(files, path, b"mine")
+        && files.count() == COUNT + 1
+}
+
+#[test]
+fn half_a_pair_that_is_there_stays_alone(rt: HostRuntime) {
+    assert!(rt; holds(rt.alloc(), Fact::KeyAlone, NEVER, NEVER));
+    assert!(rt; holds(rt.alloc(), Fact::PublicAlone, NEVER, NEVER));
+}
+
+fn has_any_name(files: &mut MemFiles) -> bool {
+    let Ok(Some(stat)) = files.stat("at") else {
+        return false;
+    };
+    let inputs = [stat.id];
+    files.link("at", "again") == Ok(true)
+        && is_input(files, "at", &inputs) == Ok(true)
+        && is_input(files, "again", &inputs) == Ok(true)
+        && is_input(files, "pipe", &inputs) == Ok(false)
+        && is_input(files, "nothing", &inputs) == Ok(false)
+}
+
+#[test]
+fn an_input_has_any_name(rt: HostRuntime) {
+    assert!(rt; holds(rt.alloc(), Fact::AnyName, NEVER, NEVER));
+}
+
+// Paths, and the names of their parts with the number 255.
+const PARTS: &str = "\
+notes.txt.sig 00000000000000ff.part
+/tmp/notes /tmp/00000000000000ff.part
+/notes /00000000000000ff.part
+a/b/../c a/b/../00000000000000ff.part
+00000000000000ff.part 00000000000000ff.part_";
+
+fn has_part(alloc: Global, row: &str) -> Result<bool, AllocError> {
+    match row.split_once(' ') {
+        Some((path, wanted)) => Ok(part_name(alloc, path, 255)?.as_str() == wanted),
+        None => Ok(false),
+    }
+}
+
+fn are_no_parts() -> bool {
+    !is_part("0.part")
+        && !is_part("00000000000000ff")
+        && !is_part("00000000000000fg.part")
+        && !is_part("a00000000000000ff.part")
+}
+
+#[test]
+fn parts_have_short_names_in_the_same_folder(rt: HostRuntime) {
+    for row in PARTS.lines() {
+        assert!(rt; has_part(rt.alloc(), row) == Ok(true), "{row}");
+    }
+    assert!(rt; is_part("00000000000000ff.part") && are_no_parts());
 }
