@@ -1,8 +1,9 @@
 /*
  * Holds the header's numbers of sets and modes to known answers: `known_answers SET MODE` writes a
  * signature of the key of data/known_answers.txt, which has its SHA-256. The status is 0 where the
- * verifying key accepts it, in this mode alone, by each call that verifies, and where signing by
- * the message's digest gives the same bytes.
+ * verifying key accepts it, in this mode and with this context alone, by each call that verifies,
+ * and where signing by the message's digest, or with the public seed as random bytes, gives the
+ * same bytes.
  */
 #include <stdio.h>
 #include <string.h>
@@ -106,35 +107,67 @@ static slh_dsa_status sign(const struct parameters *p, const struct job *job)
                              p->signature);
 }
 
-/* Whether the signature is accepted in its mode, and is none in another. */
+/* Whether each call that verifies answers so, in a mode and with a context. */
+static int all_answer(const struct parameters *p, const char *text, slh_dsa_mode mode,
+                      const char *with, size_t context_length, slh_dsa_status wanted)
+{
+    const uint8_t *message = (const uint8_t *)text, *context = (const uint8_t *)with;
+    size_t length = strlen(text);
+
+    return slh_dsa_sha2_verify(p->set, mode, public_key, p->public_key, message, length, context,
+                               context_length, signature, p->signature) == wanted &&
+           p->verify(mode, public_key, message, length, context, context_length, signature) ==
+               wanted &&
+           p->verify_small(mode, public_key, message, length, context, context_length,
+                           signature) == wanted &&
+           (mode != SLH_DSA_PURE || p->verify_pure_small(public_key, message, length, context,
+                                                         context_length, signature) == wanted);
+}
+
+/* Whether the signature is accepted in its mode with its context, and is none in another mode or
+ * with another context; a mode that doesn't exist and a context that is too long are told. */
 static int is_of_its_mode_alone(const struct parameters *p, const struct job *job)
 {
-    int good = 1;
+    static const char other[SLH_DSA_MAX_CONTEXT_BYTES + 1];
+    size_t context_length = strlen(job->context);
+    int good = all_answer(p, job->message, 3, other, sizeof other, SLH_DSA_UNKNOWN_MODE);
 
     for (size_t i = 0; i < sizeof JOBS / sizeof JOBS[0]; i++) {
-        const uint8_t *message = (const uint8_t *)job->message;
-        const uint8_t *context = (const uint8_t *)job->context;
-        size_t length = strlen(job->message), context_length = strlen(job->context);
         slh_dsa_mode mode = JOBS[i].mode;
         slh_dsa_status wanted = &JOBS[i] == job ? SLH_DSA_OK : SLH_DSA_INVALID;
 
-        good &= slh_dsa_sha2_verify(p->set, mode, public_key, p->public_key, message, length,
-                                    context, context_length, signature, p->signature) == wanted;
-        good &= p->verify(mode, public_key, message, length, context, context_length,
-                          signature) == wanted;
-        good &= p->verify_small(mode, public_key, message, length, context, context_length,
-                                signature) == wanted;
-        if (mode == SLH_DSA_PURE)
-            good &= p->verify_pure_small(public_key, message, length, context, context_length,
-                                         signature) == wanted;
+        good &= all_answer(p, job->message, mode, job->context, context_length, wanted);
+        good &= all_answer(p, job->message, mode, other, 1, SLH_DSA_INVALID);
+        good &= all_answer(p, job->message, mode, other, sizeof other, SLH_DSA_CONTEXT_TOO_LONG);
     }
     return good;
 }
 
-/* Whether the digest of the message is signed as the message is, and verified. */
+/* Whether the public seed as random bytes makes the signature that is made without any (FIPS 205,
+ * section 9.2). */
+static int is_by_public_seed(const struct parameters *p, const struct job *job)
+{
+    static uint8_t by_seed[SLH_DSA_MAX_SIGNATURE_BYTES];
+
+    return slh_dsa_sha2_sign(p->set, job->mode, key, p->key, (const uint8_t *)job->message,
+                             strlen(job->message), (const uint8_t *)job->context,
+                             strlen(job->context), public_key, p->randomizer, by_seed,
+                             p->signature) == SLH_DSA_OK &&
+           memcmp(by_seed, signature, p->signature) == 0;
+}
+
+static slh_dsa_status verify_digest(const struct parameters *p, const struct job *job,
+                                    const uint8_t *digest)
+{
+    return slh_dsa_sha2_verify_digest(p->set, job->mode, public_key, p->public_key, digest,
+                                      job->digest_bytes, (const uint8_t *)job->context,
+                                      strlen(job->context), signature, p->signature);
+}
+
+/* Whether the digest of the message is signed as the message is, and verified, and no other. */
 static int is_signed_by_digest(const struct parameters *p, const struct job *job)
 {
-    static uint8_t by_digest[SLH_DSA_MAX_SIGNATURE_BYTES];
+    static uint8_t by_digest[SLH_DSA_MAX_SIGNATURE_BYTES], other[sizeof SHA512_DIGEST];
     const uint8_t *context = (const uint8_t *)job->context;
     size_t context_length = strlen(job->context);
     uint8_t randomizer[SLH_DSA_MAX_RANDOMIZER_BYTES];
@@ -150,9 +183,23 @@ static int is_signed_by_digest(const struct parameters *p, const struct job *job
                           p->set, job->mode, key, p->key, job->digest, job->digest_bytes, context,
                           context_length, by_digest, p->signature);
     return signed_by == SLH_DSA_OK && memcmp(by_digest, signature, p->signature) == 0 &&
-           slh_dsa_sha2_verify_digest(p->set, job->mode, public_key, p->public_key, job->digest,
-                                      job->digest_bytes, context, context_length, signature,
-                                      p->signature) == SLH_DSA_OK;
+           verify_digest(p, job, job->digest) == SLH_DSA_OK &&
+           verify_digest(p, job, other) == SLH_DSA_INVALID;
+}
+
+/* The root of the key of 128f that the Rust crate slh-dsa 0.1.0 gives. */
+static const uint8_t ROOT_OF_128F[] = {
+    0x40, 0x52, 0xe0, 0x73, 0x3e, 0x69, 0xe7, 0x87, 0x39, 0xd6, 0xe6, 0x7c, 0x77, 0xf9, 0xa3, 0x7d,
+};
+
+/* Whether the verifying key is the third seed and, of 128f, that root. */
+static int has_known_halves(const struct parameters *p)
+{
+    for (size_t i = 0; i < p->randomizer; i++)
+        if (public_key[i] != 3)
+            return 0;
+    return p->set != SLH_DSA_SHA2_128F ||
+           memcmp(public_key + p->randomizer, ROOT_OF_128F, sizeof ROOT_OF_128F) == 0;
 }
 
 /* Whether the signing key tells the verifying key, and that its root is its own. */
@@ -169,7 +216,9 @@ static int answer(const struct parameters *p, const struct job *job)
 {
     if (make_key(p) != SLH_DSA_OK || sign(p, job) != SLH_DSA_OK || !is_of_its_mode_alone(p, job))
         return 1;
-    if (!tells_its_halves(p) || (job->digest != NULL && !is_signed_by_digest(p, job)))
+    if (!has_known_halves(p) || !tells_its_halves(p))
+        return 1;
+    if (job->digest != NULL ? !is_signed_by_digest(p, job) : !is_by_public_seed(p, job))
         return 1;
     return fwrite(signature, 1, p->signature, stdout) != p->signature;
 }

@@ -30,7 +30,7 @@ static void want(int line, size_t got, size_t wanted)
     }
 }
 
-#define WANT(call, wanted) want(__LINE__, (call), (wanted))
+#define WANT(call, wanted) want(__LINE__, (size_t)(call), (size_t)(wanted))
 
 static slh_dsa_status begin(slh_dsa_verifier *v, slh_dsa_mode mode)
 {
@@ -179,6 +179,52 @@ static void sign_refused(void)
     WANT(slh_dsa_sha2_sign_finish(&s, key, 4 * n, signature, bytes), SLH_DSA_STATE);
 }
 
+/* Signing ends in its second pass alone, and with the key that it began with: another PRF key,
+ * public seed or root is another key. */
+static void sign_ends_in_order(void)
+{
+    uint8_t other[sizeof key];
+    slh_dsa_signer s;
+
+    memset(signature, 0x5a, sizeof signature);
+    WANT(slh_dsa_sha2_sign_begin_deterministic(&s, set, key, 4 * n, ctx, CTX), SLH_DSA_OK);
+    WANT(slh_dsa_sha2_sign_finish(&s, key, 4 * n, signature, bytes), SLH_DSA_STATE);
+    WANT(slh_dsa_sha2_sign_again(&s, ctx, CTX), SLH_DSA_STATE);
+    for (size_t part = 1; part < 4; part++) {
+        memcpy(other, key, sizeof key);
+        other[part * n] ^= 1;
+        WANT(slh_dsa_sha2_sign_begin_deterministic(&s, set, key, 4 * n, ctx, CTX), SLH_DSA_OK);
+        WANT(slh_dsa_sha2_sign_again(&s, ctx, CTX), SLH_DSA_OK);
+        WANT(slh_dsa_sha2_sign_finish(&s, other, 4 * n, signature, bytes), SLH_DSA_STATE);
+    }
+    WANT(signature[0] == 0x5a && memcmp(signature, signature + 1, bytes - 1) == 0, 1);
+}
+
+/* The library takes a state to have all bytes of the header's type, and none behind them: the end
+ * of each writes the same whatever stood there. */
+static void states_are_whole(void)
+{
+    const uint64_t paints[2] = {UINT64_C(0x5a5a5a5a5a5a5a5a), UINT64_C(0xa5a5a5a5a5a5a5a5)};
+    struct {
+        slh_dsa_verifier state;
+        uint64_t behind;
+    } v[2];
+    struct {
+        slh_dsa_signer state;
+        uint64_t behind;
+    } s[2];
+
+    for (int i = 0; i < 2; i++) {
+        memset(&v[i], (int)(paints[i] & 0xff), sizeof v[i]);
+        memset(&s[i], (int)(paints[i] & 0xff), sizeof s[i]);
+        WANT(slh_dsa_sha2_verify_finish(&v[i].state, whole, bytes), SLH_DSA_STATE);
+        WANT(slh_dsa_sha2_sign_finish(&s[i].state, key, 4 * n, signature, bytes), SLH_DSA_STATE);
+        WANT(v[i].behind == paints[i] && s[i].behind == paints[i], 1);
+    }
+    WANT(memcmp(&v[0].state, &v[1].state, sizeof v[0].state) == 0, 1);
+    WANT(memcmp(&s[0].state, &s[1].state, sizeof s[0].state) == 0, 1);
+}
+
 /* Each call of a state of any bytes answers something. */
 static void any_bytes(const uint8_t *filling, size_t filling_bytes)
 {
@@ -195,6 +241,7 @@ static void any_bytes(const uint8_t *filling, size_t filling_bytes)
     }
     WANT(slh_dsa_sha2_verify_update(v, msg, 1) == SLH_DSA_STATE, 1);
     WANT(slh_dsa_sha2_sign_update(s, msg, 1) == SLH_DSA_STATE, 1);
+    WANT(slh_dsa_sha2_sign_again(s, ctx, CTX) == SLH_DSA_STATE, 1);
     /* With a set, a mode and a pass, what they stand for is up to the rest. */
     for (uint32_t number = 0; number < 9; number++) {
         set_of[0] = set;
@@ -244,6 +291,8 @@ int main(void)
         if (set == SLH_DSA_SHA2_128F || set == SLH_DSA_SHA2_192F || set == SLH_DSA_SHA2_256F) {
             signed_twice();
             sign_refused();
+            sign_ends_in_order();
+            states_are_whole();
             any_states();
         }
     }

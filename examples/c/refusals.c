@@ -19,7 +19,7 @@ static void want(int line, size_t got, size_t wanted)
     }
 }
 
-#define WANT(call, wanted) want(__LINE__, (call), (wanted))
+#define WANT(call, wanted) want(__LINE__, (size_t)(call), (size_t)(wanted))
 
 /* One set with its key, a message and a context, each in memory of exactly its size. */
 struct bench {
@@ -77,6 +77,14 @@ static slh_dsa_status keygen(const struct bench *b, slh_dsa_set set, size_t less
                                b->public_key, 2 * b->n);
 }
 
+/* Signs with a context that is too long and a randomizer that is too short. */
+static slh_dsa_status sign_in(const struct bench *b, slh_dsa_set set, slh_dsa_mode mode,
+                              size_t less_key, size_t less_sig)
+{
+    return slh_dsa_sha2_sign(set, mode, b->key, 4 * b->n - less_key, b->msg, MSG, b->ctx, CTX + 1,
+                             b->rand, 0, b->sig, b->sig_bytes - less_sig);
+}
+
 static slh_dsa_status sign(const struct bench *b, slh_dsa_mode mode, size_t msg, size_t ctx,
                            size_t rand)
 {
@@ -89,6 +97,12 @@ static slh_dsa_status verify(const struct bench *b, slh_dsa_mode mode, size_t ms
 {
     return slh_dsa_sha2_verify(b->set, mode, b->public_key, 2 * b->n, b->msg, msg, b->ctx, ctx,
                                b->sig, sig);
+}
+
+static slh_dsa_status sign_digest(const struct bench *b, slh_dsa_mode mode, size_t digest)
+{
+    return slh_dsa_sha2_sign_digest(b->set, mode, b->key, 4 * b->n, b->msg, digest, b->ctx, CTX,
+                                    b->rand, b->n, b->sig, b->sig_bytes);
 }
 
 static slh_dsa_status audit(const struct bench *b, slh_dsa_mode mode, slh_dsa_evidence *evidence)
@@ -118,10 +132,36 @@ static void keys(const struct bench *b)
     WANT(memcmp(b->key + 2 * b->n, b->public_key, 2 * b->n) == 0, 1);
 }
 
+/* What a signing key tells of itself. */
+static void told_by_keys(const struct bench *b)
+{
+    const size_t key = 4 * b->n, public_key = 2 * b->n;
+    uint8_t *told = filled(public_key);
+
+    WANT(slh_dsa_sha2_public(7, b->key, 0, told, 0), SLH_DSA_UNKNOWN_SET);
+    WANT(slh_dsa_sha2_public(b->set, b->key, key - 1, told, public_key), SLH_DSA_LENGTH);
+    WANT(slh_dsa_sha2_public(b->set, b->key, key, told, public_key - 1), SLH_DSA_LENGTH);
+    WANT(is_filled(told, public_key), 1);
+    WANT(slh_dsa_sha2_public(b->set, b->key, key, told, public_key), SLH_DSA_OK);
+    WANT(memcmp(told, b->public_key, public_key) == 0, 1);
+    free(told);
+    WANT(slh_dsa_sha2_check_key(7, b->key, 0), SLH_DSA_UNKNOWN_SET);
+    WANT(slh_dsa_sha2_check_key(b->set, b->key, key - 1), SLH_DSA_LENGTH);
+    WANT(slh_dsa_sha2_check_key(b->set, b->key, key), SLH_DSA_OK);
+    b->key[key - 1] ^= 1;
+    WANT(slh_dsa_sha2_check_key(b->set, b->key, key), SLH_DSA_KEY_MISMATCH);
+    b->key[key - 1] ^= 1;
+}
+
 static void refused(const struct bench *b)
 {
     const size_t too_long = ((size_t)1 << 60) + 1;
 
+    WANT(sign_in(b, 0, 3, 1, 1), SLH_DSA_UNKNOWN_SET);
+    WANT(sign_in(b, b->set, 3, 1, 1), SLH_DSA_UNKNOWN_MODE);
+    WANT(sign_in(b, b->set, SLH_DSA_PURE, 1, 0), SLH_DSA_LENGTH);
+    WANT(sign_in(b, b->set, SLH_DSA_PURE, 4 * b->n, 0), SLH_DSA_LENGTH);
+    WANT(sign_in(b, b->set, SLH_DSA_PURE, 0, 1), SLH_DSA_LENGTH);
     WANT(sign(b, 3, MSG, CTX + 1, b->n), SLH_DSA_UNKNOWN_MODE);
     WANT(sign(b, SLH_DSA_PURE, too_long, CTX + 1, b->n - 1), SLH_DSA_CONTEXT_TOO_LONG);
     WANT(sign(b, SLH_DSA_PURE, too_long, CTX, b->n - 1), SLH_DSA_RANDOMIZER_LENGTH);
@@ -132,6 +172,16 @@ static void refused(const struct bench *b)
     WANT(verify(b, SLH_DSA_PURE, too_long, CTX + 1, b->sig_bytes - 1), SLH_DSA_LENGTH);
     WANT(verify(b, SLH_DSA_PURE, too_long, CTX + 1, b->sig_bytes), SLH_DSA_CONTEXT_TOO_LONG);
     WANT(verify(b, SLH_DSA_PURE, too_long, CTX, b->sig_bytes), SLH_DSA_MESSAGE_TOO_LONG);
+}
+
+/* A digest has the length of its mode's hash, and the mode pure has none. */
+static void digests_refused(const struct bench *b)
+{
+    WANT(sign_digest(b, SLH_DSA_PURE, 32), SLH_DSA_LENGTH);
+    WANT(sign_digest(b, SLH_DSA_PREHASH_SHA256, 31), SLH_DSA_LENGTH);
+    WANT(sign_digest(b, SLH_DSA_PREHASH_SHA512, 32), SLH_DSA_LENGTH);
+    WANT(sign_digest(b, 3, 32), SLH_DSA_UNKNOWN_MODE);
+    WANT(is_filled(b->sig, b->sig_bytes), 1);
 }
 
 static void signed_in(const struct bench *b, slh_dsa_mode mode)
@@ -168,6 +218,7 @@ static void evidences(const struct bench *b)
         WANT(check(b, kind, 1), wanted);
         WANT(check(b, kind, UINT32_MAX), wanted);
     }
+    WANT(check(b, UINT32_MAX, 1), SLH_DSA_UNKNOWN_EVIDENCE);
 }
 
 #define WANT_SIZES(name) \
@@ -195,6 +246,7 @@ static void sizes(void)
     WANT_SIZES(256F);
     WANT(slh_dsa_sha2_n(0) == 0 && slh_dsa_sha2_n(7) == 0, 1);
     WANT(slh_dsa_sha2_signature_bytes(0) == 0 && slh_dsa_sha2_signature_bytes(7) == 0, 1);
+    WANT(slh_dsa_sha2_n(UINT32_MAX) == 0 && slh_dsa_sha2_signature_bytes(UINT32_MAX) == 0, 1);
     WANT(SLH_DSA_MAX_RANDOMIZER_BYTES, slh_dsa_sha2_n(SLH_DSA_SHA2_256F));
     WANT(SLH_DSA_MAX_SIGNATURE_BYTES, slh_dsa_sha2_signature_bytes(SLH_DSA_SHA2_256F));
     WANT(SLH_DSA_SEEDS_BYTES(SLH_DSA_MAX_RANDOMIZER_BYTES), SLH_DSA_MAX_SEEDS_BYTES);
@@ -226,7 +278,9 @@ int main(void)
         struct bench b = make_bench(sets[i]);
 
         keys(&b);
+        told_by_keys(&b);
         refused(&b);
+        digests_refused(&b);
         for (slh_dsa_mode mode = SLH_DSA_PURE; mode <= SLH_DSA_PREHASH_SHA512; mode++)
             signed_in(&b, mode);
         evidences(&b);

@@ -1,12 +1,12 @@
-// Holds the tiles of log_rates to Go's golang.org/x/mod/sumdb/tlog, which nobody here wrote.
+// Holds the tiles of rates to Go's golang.org/x/mod/sumdb/tlog, which nobody here wrote.
 //
 //	tiles_both_ways read FOLDER    puts the tiles of standard input, a name and the bytes on each
 //	                               line, in a folder, and proves records and growth of all logs of
 //	                               them, with the tiles as they are and with a bit changed
-//	tiles_both_ways write FOLDER   puts tiles in a folder, and has log_rates make proofs of them,
+//	tiles_both_ways write FOLDER   puts tiles in a folder, and has rates make proofs of them,
 //	                               with the tiles as they are, with a bit changed and without one
 //
-// LOG_RATES_PROGRAM names log_rates.
+// RATES_PROGRAM names rates.
 package main
 
 import (
@@ -68,9 +68,9 @@ func readTiles(path string) {
 	fmt.Printf("%d proofs of our tiles by Go, %d of bent ones refused\n", proofs, refused)
 }
 
-// ours is what log_rates answers on the growth from m to n entries.
+// ours is what rates answers on the growth from m to n entries.
 func ours(path string, m, n int64, roots []tlog.Hash) string {
-	command := exec.Command(os.Getenv("LOG_RATES_PROGRAM"), "prove", path, fmt.Sprint(m),
+	command := exec.Command(os.Getenv("RATES_PROGRAM"), "prove", path, fmt.Sprint(m),
 		hex.EncodeToString(roots[m][:]), fmt.Sprint(n), hex.EncodeToString(roots[n][:]))
 	reply, err := command.Output()
 	check(err)
@@ -86,7 +86,7 @@ func joined(proof []tlog.Hash) string {
 	return text
 }
 
-// proofsOf holds what log_rates makes of the tiles of a log to what Go makes.
+// proofsOf holds what rates makes of the tiles of a log to what Go makes.
 func proofsOf(path string, n int64, reader tlog.HashReader, roots []tlog.Hash) int {
 	made := 0
 	for _, m := range []int64{1, (n + 1) / 2, 7919%n + 1, n} {
@@ -103,7 +103,7 @@ func proofsOf(path string, n int64, reader tlog.HashReader, roots []tlog.Hash) i
 	return made
 }
 
-// bentOf has log_rates make the path of the first of n entries with a bit of the first tile changed,
+// bentOf has rates make the path of the first of n entries with a bit of the first tile changed,
 // and without that tile.
 func bentOf(path string, n int64, data []byte, roots []tlog.Hash, first string) {
 	data[32] ^= 1

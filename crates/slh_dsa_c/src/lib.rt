@@ -27,10 +27,6 @@ mod sign;
 mod sign_pieces;
 mod sizes;
 mod status;
-#[cfg(test)]
-mod tests;
-#[cfg(test)]
-mod update_tests;
 mod verify;
 mod verify_pieces;
 mod verify_set;

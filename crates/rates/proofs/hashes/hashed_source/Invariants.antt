@@ -1,6 +1,6 @@
 use Rattle.std.proofs.Common.{◌≤◌, ◌*◌}
 use Rattle.hmac_sha256.specs.Hash.{absorbed_bytes}
-use Rattle.hash_rates.proofs.hashed.Given as goal
+use Rattle.rates.proofs.hashes.hashed_source.Given as goal
 
 abbrev pub invariant-pieces : goal.invariant-pieces
-invariant-pieces l = absorbed_bytes l.hash ≤ 65536 * l.i
+invariant-pieces g l = absorbed_bytes l.hash ≤ 65536 * l.i

@@ -1,4 +1,5 @@
-//! The steps that are measured.
+//! A log that grows.
+use crate::job::{Job, MAX_ENTRIES, tell, tell_bytes, tell_number};
 use log_tiles::GrowingTiles;
 use merkle_tree::{Sha256, TreeHash};
 
@@ -30,20 +31,22 @@ fn add(tiles: &mut GrowingTiles<Sha256>, count: u64) {
     }
 }
 
-/// Hashes, adds, and adds to logs that are short and long, with a line after each step.
-pub(crate) fn all_steps(rt: &HostRuntime, count: u64) -> Option<()> {
-    println!(rt; "begun").ok()?;
-    let first = hashed(count)[0];
-    println!(rt; "hashed {first}").ok()?;
+// Adds to a log of so many entries.
+fn add_more(size: u64) {
+    add(&mut GrowingTiles::<Sha256>::resume(size), MORE);
+}
+
+/// Hashes, adds, and adds to logs that are short and long, and tells each step.
+pub(crate) fn all_steps(rt: &HostRuntime, job: &Job<'_>) -> Option<()> {
+    let count = job.number(1, MAX_ENTRIES)?;
+    tell(rt, "begun")?;
+    tell_number(rt, "hashed", u64::from(hashed(count)[0]))?;
     let mut tiles = GrowingTiles::<Sha256>::new();
     add(&mut tiles, count);
-    println!(rt; "added {count}").ok()?;
-    let root = hex::encode(rt.alloc(), &tiles.root()).ok()?;
-    println!(rt; "root {root}").ok()?;
-    let mut short = GrowingTiles::<Sha256>::resume(1_000);
-    add(&mut short, MORE);
-    println!(rt; "short {MORE}").ok()?;
-    let mut long = GrowingTiles::<Sha256>::resume(10_000_000);
-    add(&mut long, MORE);
-    println!(rt; "long {MORE}").ok()
+    tell_number(rt, "added", count)?;
+    tell_bytes(rt, "root", &tiles.root())?;
+    add_more(1_000);
+    tell_number(rt, "short", MORE)?;
+    add_more(10_000_000);
+    tell_number(rt, "long", MORE)
 }

@@ -1,15 +1,10 @@
-//! Makes a batch and takes receipts from it, step by step, and writes a line after each step.
-//! `examples/batch_rates` takes the times between the lines. The word is the number of messages.
-#![tactic(auto)]
+//! A batch, and receipts from it.
+ghost use Rattle.std.specs.Prelude.{◌<◌};
 
-ghost use Rattle.std.specs.Prelude.{◌<◌, IfSome};
-
-use line_serve::decimal_value;
-use line_stdio::words_of;
+use crate::job::{Job, tell, tell_number};
 use slh_batch::{Batch, BatchError, MAX_MESSAGES, Sealed, accept};
 use slh_dsa::{ParameterSet, Sha2_128f, SigningKey, VerifyingKey};
 use std::alloc::Global;
-use std::process::ExitCode;
 
 const RECEIPTS: u32 = 4096;
 
@@ -64,39 +59,29 @@ fn are_accepted<P: ParameterSet>(
     Ok(true)
 }
 
-// Whether each step was done, in a set whose seeds have 16 bytes.
-fn run<P: ParameterSet>(rt: &HostRuntime, count: u32) -> Option<bool>
+// Each step, in a set whose seeds have 16 bytes. `None` where one wasn't done.
+fn run<P: ParameterSet>(rt: &HostRuntime, count: u32) -> Option<()>
     requires { 0 < count }
 {
     let alloc = rt.alloc();
     let key = SigningKey::<P>::slh_keygen_internal(&[1; 16], &[2; 16], &[3; 16]).ok()?;
-    println!(rt; "begun").ok()?;
+    tell(rt, "begun")?;
     let batch = pushed(alloc, count).ok()?;
-    println!(rt; "pushed {count}").ok()?;
+    tell_number(rt, "pushed", u64::from(count))?;
     let sealed = batch.seal(alloc, &key, None).ok()?;
-    println!(rt; "sealed {count}").ok()?;
+    tell_number(rt, "sealed", u64::from(count))?;
     take_receipts(alloc, &sealed, count).ok()?;
-    println!(rt; "receipts {RECEIPTS}").ok()?;
+    tell_number(rt, "receipts", u64::from(RECEIPTS))?;
     let accepted = are_accepted(alloc, &sealed, &key.verifying_key(), count).ok()?;
-    println!(rt; "accepted {CHECKS}").ok()?;
-    Some(accepted)
+    tell_number(rt, "accepted", u64::from(CHECKS))?;
+    if accepted { Some(()) } else { None }
 }
 
-// The number of messages that the words ask for.
-fn count_of(rt: &HostRuntime) -> Option<u32>
-    ensures { IfSome result (λ count. 0 < count) }
-{
-    let words = words_of(rt).ok()?;
-    let count = decimal_value(words.get(0)?, 7, MAX_MESSAGES as u64)?;
-    if count == 0 { None } else { Some(count as u32) }
-}
-
-fn main(rt: HostRuntime) -> ExitCode {
-    let Some(count) = count_of(&rt) else {
-        return ExitCode::from(2);
-    };
-    match run::<Sha2_128f>(&rt, count) {
-        Some(true) => ExitCode::SUCCESS,
-        _ => ExitCode::from(1),
+/// Makes a batch of as many messages as the job asks for, and tells each step.
+pub(crate) fn all_steps(rt: &HostRuntime, job: &Job<'_>) -> Option<()> {
+    let count = job.number(1, MAX_MESSAGES as u64)?;
+    if count == 0 {
+        return None;
     }
+    run::<Sha2_128f>(rt, count as u32)
 }

@@ -1,4 +1,5 @@
 //! Proofs of tiles in a folder.
+use crate::job::{Job, MAX_ENTRIES, tell_bytes};
 use crate::tiles::leaf;
 use hex::FromHex;
 use log_tiles::{Tile, TileError, TileSource, prove_growth, prove_presence};
@@ -39,31 +40,23 @@ impl<'r> TileSource for Folder<'r> {
 
 fn write_proof(rt: &HostRuntime, proof: Result<Vec<[u8; 32]>, TileError>) -> Option<()> {
     match proof {
-        Ok(hashes) => {
-            let text = hex::encode(rt.alloc(), hashes.as_slice().as_flattened()).ok()?;
-            println!(rt; "proof {text}").ok()
-        }
+        Ok(hashes) => tell_bytes(rt, "proof", hashes.as_slice().as_flattened()),
         Err(error) => println!(rt; "{error:?}").ok(),
     }
 }
 
 /// Writes the path of the last entry of the old log in the log, and the proof that the log grew
 /// from the old one, or why there is none.
-pub(crate) fn write_proofs(
-    rt: &HostRuntime,
-    folder: &[u8],
-    old_size: u64,
-    old_root: &[u8],
-    size: u64,
-    root: &[u8],
-) -> Option<()> {
+pub(crate) fn write_proofs(rt: &HostRuntime, job: &Job<'_>) -> Option<()> {
     let alloc = rt.alloc();
     let source = Folder {
         rt,
-        path: str::from_utf8(folder).ok()?,
+        path: str::from_utf8(job.word(1)?).ok()?,
     };
-    let old_root = <[u8; 32] as FromHex>::from_hex(old_root).ok()?;
-    let root = <[u8; 32] as FromHex>::from_hex(root).ok()?;
+    let old_size = job.number(2, MAX_ENTRIES)?;
+    let old_root = <[u8; 32] as FromHex>::from_hex(job.word(3)?).ok()?;
+    let size = job.number(4, MAX_ENTRIES)?;
+    let root = <[u8; 32] as FromHex>::from_hex(job.word(5)?).ok()?;
     let index = old_size.checked_sub(1)?;
     let leaf = leaf(alloc, index).ok()?;
     let path = prove_presence::<Sha256, Folder<'_>>(&source, index, size, &leaf, &root, alloc);

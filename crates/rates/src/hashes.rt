@@ -1,18 +1,12 @@
-//! Hashes, signs and verifies a message of pieces of 64 KiB, and writes a line after each step, where
-//! the word is the number of pieces. Where it is `sha256` or `sha512`, hashes standard input, and writes
-//! the digest. `examples/hash_rates` takes the times.
-#![tactic(auto)]
-
-ghost use Rattle.std.specs.Prelude.{◌≤◌, IfSome};
-
+//! A long message: hashed, signed and verified in pieces of 64 KiB.
+use crate::job::{Job, tell, tell_number};
 use hmac_sha256::Hash;
-use line_serve::{Source, decimal_value};
-use line_stdio::{StdSource, words_of};
+use line_serve::Source;
+use line_stdio::StdSource;
 use sha512_lanes::Hash512;
 use slh_core::pieces::MessageSuite;
 use slh_dsa::{Error, Mode, ParameterSet, Sha2_128f, Sha2_192f, SigningKey, VerifyingKey};
 use slh_stream::{FirstPass, MessageVerifier, PassError};
-use std::process::ExitCode;
 
 const PIECE_LEN: usize = 65_536;
 
@@ -64,48 +58,42 @@ fn signed<P: ParameterSet + MessageSuite>(
     Ok(pass.finish_into(out))
 }
 
-// Signs and verifies, with seeds of n bytes, and tells whether both were done.
+// Signs and verifies, with seeds of n bytes. `None` where one wasn't done.
 fn run<P: ParameterSet + MessageSuite>(
     rt: &HostRuntime,
     seed: &[u8],
     piece: &[u8],
     pieces: u32,
-) -> Option<bool> {
+) -> Option<()> {
     let key = SigningKey::<P>::slh_keygen_internal(seed, seed, seed).ok()?;
     let small = key.try_sign_with_context(rt.alloc(), b"", b"", None).ok()?;
     let mut out = small.into_array();
-    println!(rt; "begun").ok()?;
+    tell(rt, "begun")?;
     let made = signed(&key, piece, pieces, out.as_mut_slice()).ok()?;
-    println!(rt; "signed").ok()?;
+    tell(rt, "signed")?;
     let answer = verified(&key.verifying_key(), out.as_slice(), piece, pieces);
-    println!(rt; "verified").ok()?;
-    Some(made.is_ok() && answer.is_ok())
+    tell(rt, "verified")?;
+    if made.is_ok() && answer.is_ok() {
+        Some(())
+    } else {
+        None
+    }
 }
 
 fn hash_both(rt: &HostRuntime, piece: &[u8; PIECE_LEN], pieces: u32) -> Option<()> {
-    println!(rt; "pieces {pieces}").ok()?;
-    let first = hashed(piece, pieces)[0];
-    println!(rt; "sha256 {first}").ok()?;
-    let first = hashed_512(piece, pieces)[0];
-    println!(rt; "sha512 {first}").ok()
+    tell_number(rt, "pieces", u64::from(pieces))?;
+    tell_number(rt, "sha256", u64::from(hashed(piece, pieces)[0]))?;
+    tell_number(rt, "sha512", u64::from(hashed_512(piece, pieces)[0]))
 }
 
-// The number of pieces that a word asks for.
-fn count_of(word: &[u8]) -> Option<u32>
-    ensures { IfSome result (λ count. count ≤ MAX_PIECES) }
-{
-    let count = decimal_value(word, 7, MAX_PIECES)?;
-    Some(count as u32)
-}
-
-fn all_steps(rt: &HostRuntime, pieces: u32) -> Option<bool>
-    requires { pieces ≤ MAX_PIECES }
-{
+/// Hashes a message of as many pieces as the job asks for, signs and verifies it, and tells each
+/// step.
+pub(crate) fn all_steps(rt: &HostRuntime, job: &Job<'_>) -> Option<()> {
+    let pieces = job.number(1, MAX_PIECES)? as u32;
     let piece = [7; PIECE_LEN];
     hash_both(rt, &piece, pieces)?;
-    let category_1 = run::<Sha2_128f>(rt, &[1; 16], &piece, pieces)?;
-    let category_3 = run::<Sha2_192f>(rt, &[1; 24], &piece, pieces)?;
-    Some(category_1 && category_3)
+    run::<Sha2_128f>(rt, &[1; 16], &piece, pieces)?;
+    run::<Sha2_192f>(rt, &[1; 24], &piece, pieces)
 }
 
 // The SHA-256 of what a source gives.
@@ -134,32 +122,16 @@ fn hashed_source_512<S: Source>(source: &mut S) -> Option<[u8; 64]> {
     None
 }
 
-fn write_digest(rt: &HostRuntime, digest: &[u8]) -> Option<bool> {
-    let text = hex::encode(rt.alloc(), digest).ok()?;
-    println!(rt; "{text}").ok()?;
-    Some(true)
+fn write_digest(rt: &HostRuntime, digest: &[u8]) -> Option<()> {
+    tell(rt, hex::encode(rt.alloc(), digest).ok()?.as_str())
 }
 
-fn run_word(rt: &HostRuntime, word: &[u8]) -> Option<bool> {
-    let mut source = StdSource::new(rt.reader());
-    match word {
-        b"sha256" => write_digest(rt, &hashed_source(&mut source)?),
-        b"sha512" => write_digest(rt, &hashed_source_512(&mut source)?),
-        _ => all_steps(rt, count_of(word)?),
-    }
+/// Writes the SHA-256 of standard input.
+pub(crate) fn write_sha256(rt: &HostRuntime) -> Option<()> {
+    write_digest(rt, &hashed_source(&mut StdSource::new(rt.reader()))?)
 }
 
-fn main(rt: HostRuntime) -> ExitCode {
-    let Ok(words) = words_of(&rt) else {
-        return ExitCode::from(1);
-    };
-    let done = match words.get(0) {
-        Some(word) => run_word(&rt, word),
-        None => None,
-    };
-    match done {
-        Some(true) => ExitCode::SUCCESS,
-        Some(false) => ExitCode::from(1),
-        None => ExitCode::from(2),
-    }
+/// Writes its SHA-512.
+pub(crate) fn write_sha512(rt: &HostRuntime) -> Option<()> {
+    write_digest(rt, &hashed_source_512(&mut StdSource::new(rt.reader()))?)
 }

@@ -1,6 +1,7 @@
 //! Tiles for others to read.
 ghost use Rattle.std.specs.Prelude.{◌<◌};
 
+use crate::job::{Job, MAX_ENTRIES, tell_bytes};
 use log_tiles::{GrowingTiles, LEVELS, last_tile};
 use merkle_tree::{Sha256, TreeHash};
 use std::alloc::{AllocError, Global};
@@ -19,14 +20,14 @@ fn write_tile(rt: &HostRuntime, tiles: &GrowingTiles<Sha256>, level: u32) -> Opt
     let Some(tile) = last_tile(level, tiles.len()) else {
         return Some(());
     };
-    let alloc = rt.alloc();
-    let name = tile.path(alloc).ok()?;
-    let bytes = hex::encode(alloc, tiles.last_bytes(level)).ok()?;
-    println!(rt; "{name} {bytes}").ok()
+    let name = tile.path(rt.alloc()).ok()?;
+    tell_bytes(rt, name.as_str(), tiles.last_bytes(level))
 }
 
-/// Writes the last tiles of the logs of 1 to so many entries, as their names and their bytes.
-pub(crate) fn write_tiles(rt: &HostRuntime, count: u64) -> Option<()> {
+/// Writes the last tiles of the logs of 1 to as many entries as the job asks for, as their names and
+/// their bytes.
+pub(crate) fn write_tiles(rt: &HostRuntime, job: &Job<'_>) -> Option<()> {
+    let count = job.number(1, MAX_ENTRIES)?;
     let mut tiles = GrowingTiles::<Sha256>::new();
     for i in 0..count {
         if tiles.len() == u64::MAX {
