@@ -67,9 +67,12 @@ const F_ROW: [u8; ROW_LEN] = [
 ];
 
 fn are_steps<L: Ledger>(keyed: &Sha2Keyed<U16>, steps: &mut Steps<L>) -> bool {
-    let mut bytes = counted();
-    Sha2_128f::f_each(keyed, &chains(), &NUMBERS, &mut bytes[..ROW_LEN], steps);
-    bytes[..ROW_LEN] == F_ROW[..]
+    let mut values = [0; ROW_LEN];
+    for i in 0..ROW_LEN {
+        values[i] = i as u8;
+    }
+    Sha2_128f::f_each(keyed, &chains(), &NUMBERS, &mut values, steps);
+    values == F_ROW
 }
 
 // PRF of 16 bytes 0a at the secrets of the same chains.
