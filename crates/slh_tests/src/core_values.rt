@@ -38,26 +38,6 @@ fn example_of_the_page(rt: HostRuntime) {
     assert!(rt; first_step(&[0x3c; 15]).err() == Some(TryFromSliceError));
 }
 
-fn is_compressed(adrs: &WotsHash, wanted: &[u8; 22]) -> bool {
-    adrs.compressed() == *wanted
-}
-
-// Cut by hand from the 32 bytes (FIPS 205, section 11.2).
-#[test]
-fn compressed_bytes(rt: HostRuntime) {
-    let adrs = WotsHash {
-        layer_adrs: 1,
-        tree_adrs_low: 0x0203,
-        key_pair_adrs: 4,
-        chain_adrs: 5,
-        hash_adrs: 6,
-    };
-    let wanted = [
-        1, 0, 0, 0, 0, 0, 0, 2, 3, 0, 0, 0, 0, 4, 0, 0, 0, 5, 0, 0, 0, 6,
-    ];
-    assert!(rt; is_compressed(&adrs, &wanted));
-}
-
 fn has_digits(byte: u8, wanted: &[u16]) -> bool {
     &message_digits(&NBytes::<U1>::exact(&[byte]))[..5] == wanted
 }

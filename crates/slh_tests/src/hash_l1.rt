@@ -21,19 +21,14 @@ const RANDOMIZER: [u8; 16] = [
     0x6a, 0x4b, 0x5c, 0xf2, 0x39, 0x11, 0xd4, 0xf3, 0xa6, 0x59, 0x1d, 0x70, 0x03, 0x44, 0x53, 0x16,
 ];
 
-fn is_randomizer_of_whole() -> bool {
-    let made = Sha2_128f::prf_msg(&filled(0), &filled(1), &[], &[], &[2; 32]);
-    made.as_slice() == RANDOMIZER.as_slice()
-}
-
-fn is_randomizer_of_pieces() -> bool {
+fn is_randomizer() -> bool {
     let made = Sha2_128s::prf_msg(&filled(0), &filled(1), &[2; 2], &[2; 7], &[2; 23]);
     made.as_slice() == RANDOMIZER.as_slice()
 }
 
 #[test]
 fn randomizer_of_a_message(rt: HostRuntime) {
-    assert!(rt; is_randomizer_of_whole() && is_randomizer_of_pieces());
+    assert!(rt; is_randomizer());
 }
 
 // MGF1 over 16 bytes 00, 16 bytes 01 and the hash of these, 16 bytes 02 and 32 bytes 03.
@@ -43,23 +38,16 @@ const DIGEST: [u8; 34] = [
     0x7f, 0x5b,
 ];
 
-fn is_digest_of_whole() -> bool {
+fn is_digest() -> bool {
     let mut digest = [0; 34];
     let (rand, seed, root) = (filled(0), filled(1), filled(2));
-    Sha2_128f::h_msg(&rand, &seed, &root, &[], &[], &[3; 32], &mut digest);
+    Sha2_128f::h_msg(&rand, &seed, &root, &[3; 2], &[3; 7], &[3; 23], &mut digest);
     digest == DIGEST
-}
-
-fn is_digest_of_pieces() -> bool {
-    let mut digest = [0; 30];
-    let (rand, seed, root) = (filled(0), filled(1), filled(2));
-    Sha2_128s::h_msg(&rand, &seed, &root, &[3; 2], &[3; 7], &[3; 23], &mut digest);
-    digest.as_slice() == &DIGEST[..30]
 }
 
 #[test]
 fn digest_of_a_message(rt: HostRuntime) {
-    assert!(rt; is_digest_of_whole() && is_digest_of_pieces());
+    assert!(rt; is_digest());
 }
 
 const SEED: [u8; 16] = [0, 1, 2, 3, 4, 5, 6, 7, 8, 9, 10, 11, 12, 13, 14, 15];
@@ -92,10 +80,6 @@ const ADRS: WotsHash = WotsHash {
     hash_adrs: 6,
 };
 
-fn is_f<L: Ledger>(keyed: &Sha2Keyed<U16>, steps: &mut Steps<L>) -> bool {
-    Sha2_128f::f(keyed, &ADRS, &filled(7), steps).as_slice() == F_VALUE.as_slice()
-}
-
 fn is_h<L: Ledger>(keyed: &Sha2Keyed<U16>, steps: &mut Steps<L>) -> bool {
     Sha2_128f::h(keyed, &ADRS, &filled(7), &filled(8), steps).as_slice() == H_VALUE.as_slice()
 }
@@ -113,12 +97,10 @@ fn are_hashes<L: Ledger>(blank: Blank) -> bool
 {
     let mut steps = Steps::<L>::new(blank);
     let keyed = Sha2_128f::keyed(&NBytes::exact(&SEED));
-    is_f(&keyed, &mut steps)
-        && is_h(&keyed, &mut steps)
-        && is_t(&keyed, &mut steps)
-        && is_prf(&keyed, &mut steps)
+    is_h(&keyed, &mut steps) && is_t(&keyed, &mut steps) && is_prf(&keyed, &mut steps)
 }
 
+// F is that of the page's example below.
 #[test]
 fn hashes_of_an_address(rt: HostRuntime) {
     assert!(rt; are_hashes::<Brand>(Blank::new(1)));

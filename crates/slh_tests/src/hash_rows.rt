@@ -1,14 +1,13 @@
 // The wanted values were computed with Python's `hashlib` from the formulas of FIPS 205,
 // sections 11.2.1 and 11.2.2, value by value.
-ghost use Rattle.std.specs.Prelude.{◌≤◌};
 ghost use Rattle.slh_core.specs.Steps.{IsFresh};
 
-use hybrid_array::sizes::{U16, U32};
+use hybrid_array::sizes::U16;
 use slh_core::address::{ForsTree, HashTree, WotsHash};
 use slh_core::nbytes::NBytes;
 use slh_core::steps::Steps;
 use slh_core::suite::HashSuite;
-use slh_hash::{Sha2_128f, Sha2_192f, Sha2_256f, Sha2Keyed, Sha2Keyed512};
+use slh_hash::{Sha2_128f, Sha2_256f, Sha2Keyed};
 use std::marker::Brand;
 use std::sync::ledger::{Blank, Ledger};
 
@@ -24,7 +23,7 @@ const PAIRS_LEN: usize = 2 * ROW_LEN;
 // The numbers of a row, which stand in no order.
 const NUMBERS: [u32; LONGEST] = [7, 0, 0x0102_0304, 34, 2, 33, 5, 6, 1, 12, 3, 0xffff_ffff, 8];
 
-// A public seed of so many bytes as a set has is the start of it.
+// A public seed of 16 bytes is the start of it.
 const SEED: [u8; 32] = [
     0, 1, 2, 3, 4, 5, 6, 7, 8, 9, 10, 11, 12, 13, 14, 15, 16, 17, 18, 19, 20, 21, 22, 23, 24, 25,
     26, 27, 28, 29, 30, 31,
@@ -37,11 +36,6 @@ fn counted() -> [u8; PAIRS_LEN] {
         bytes[i] = (i % 256) as u8;
     }
     bytes
-}
-
-// The state for the public seed of a set whose values have 16 bytes.
-fn keyed() -> Sha2Keyed<U16> {
-    Sha2_128f::keyed(&NBytes::exact(&SEED[..16]))
 }
 
 // The steps 6 of the chains of key pair 4 of tree 0x0203 of layer 1.
@@ -72,31 +66,13 @@ const F_ROW: [u8; ROW_LEN] = [
     0xa2, 0xe5, 0xc7, 0x0e, 0x85, 0x90, 0xe3, 0x93, 0x46, 0x1e, 0x6a, 0x8c, 0x9f, 0xb7, 0x6f, 0x28,
 ];
 
-fn steps_alike<L: Ledger>(count: usize, keyed: &Sha2Keyed<U16>, steps: &mut Steps<L>) -> bool
-    requires { count ≤ LONGEST }
-{
-    let mut bytes = counted();
-    let values = &mut bytes[..count * 16];
-    Sha2_128f::f_each(keyed, &chains(), &NUMBERS[..count], values, steps);
-    bytes[..count * 16] == F_ROW[..count * 16]
-}
-
-fn all_steps_alike<L: Ledger>(blank: Blank) -> bool
-    requires fresh { IsFresh blank L.name L.parts }
-{
-    let mut steps = Steps::<L>::new(blank);
-    let keyed = keyed();
-    steps_alike(1, &keyed, &mut steps)
-        && steps_alike(2, &keyed, &mut steps)
-        && steps_alike(4, &keyed, &mut steps)
-        && steps_alike(5, &keyed, &mut steps)
-        && steps_alike(8, &keyed, &mut steps)
-        && steps_alike(13, &keyed, &mut steps)
-}
-
-#[test]
-fn steps_of_rows(rt: HostRuntime) {
-    assert!(rt; all_steps_alike::<Brand>(Blank::new(1)));
+fn are_steps<L: Ledger>(keyed: &Sha2Keyed<U16>, steps: &mut Steps<L>) -> bool {
+    let mut values = [0; ROW_LEN];
+    for i in 0..ROW_LEN {
+        values[i] = i as u8;
+    }
+    Sha2_128f::f_each(keyed, &chains(), &NUMBERS, &mut values, steps);
+    values == F_ROW
 }
 
 // PRF of 16 bytes 0a at the secrets of the same chains.
@@ -116,37 +92,11 @@ const PRF_ROW: [u8; ROW_LEN] = [
     0xd7, 0x54, 0xd3, 0x88, 0xeb, 0xa5, 0xb8, 0xbc, 0xa4, 0x8a, 0x5f, 0xd4, 0x63, 0x80, 0x7a, 0x4f,
 ];
 
-fn secrets_alike<L: Ledger>(count: usize, keyed: &Sha2Keyed<U16>, steps: &mut Steps<L>) -> bool
-    requires { count ≤ LONGEST }
-{
-    let seed = NBytes::exact(&[10; 16]);
-    let mut bytes = [0; ROW_LEN];
-    let secrets = &mut bytes[..count * 16];
-    Sha2_128f::prf_each(
-        keyed,
-        &seed,
-        &chains().prf_adrs(),
-        &NUMBERS[..count],
-        secrets,
-        steps,
-    );
-    bytes[..count * 16] == PRF_ROW[..count * 16]
-}
-
-fn all_secrets_alike<L: Ledger>(blank: Blank) -> bool
-    requires fresh { IsFresh blank L.name L.parts }
-{
-    let mut steps = Steps::<L>::new(blank);
-    let keyed = keyed();
-    secrets_alike(1, &keyed, &mut steps)
-        && secrets_alike(3, &keyed, &mut steps)
-        && secrets_alike(6, &keyed, &mut steps)
-        && secrets_alike(13, &keyed, &mut steps)
-}
-
-#[test]
-fn secrets_of_rows(rt: HostRuntime) {
-    assert!(rt; all_secrets_alike::<Brand>(Blank::new(1)));
+fn are_secrets<L: Ledger>(keyed: &Sha2Keyed<U16>, steps: &mut Steps<L>) -> bool {
+    let (seed, adrs) = (NBytes::exact(&[10; 16]), chains().prf_adrs());
+    let mut secrets = [0; ROW_LEN];
+    Sha2_128f::prf_each(keyed, &seed, &adrs, &NUMBERS, &mut secrets, steps);
+    secrets == PRF_ROW
 }
 
 // H of the bytes from 0 on, 32 a node, at height 6 of the forest of key pair 4 of tree 0x0203.
@@ -166,71 +116,31 @@ const H_ROW: [u8; ROW_LEN] = [
     0x3d, 0xcc, 0x05, 0x02, 0x0e, 0x0a, 0xd9, 0x89, 0x0b, 0xac, 0x88, 0x0a, 0xa5, 0xdc, 0xc8, 0x72,
 ];
 
-fn parents_alike<L: Ledger>(count: usize, keyed: &Sha2Keyed<U16>, steps: &mut Steps<L>) -> bool
-    requires { count ≤ LONGEST }
-{
+fn are_parents<L: Ledger>(keyed: &Sha2Keyed<U16>, steps: &mut Steps<L>) -> bool {
     let adrs = ForsTree {
         tree_adrs_low: 0x0203,
         key_pair_adrs: 4,
         tree_height: 6,
         tree_index: 0,
     };
-    let pairs = &counted()[..count * 32];
-    let mut bytes = [0; ROW_LEN];
-    let parents = &mut bytes[..count * 16];
-    Sha2_128f::h_each(keyed, &adrs, &NUMBERS[..count], pairs, parents, steps);
-    bytes[..count * 16] == H_ROW[..count * 16]
+    let mut parents = [0; ROW_LEN];
+    Sha2_128f::h_each(keyed, &adrs, &NUMBERS, &counted(), &mut parents, steps);
+    parents == H_ROW
 }
 
-fn all_parents_alike<L: Ledger>(blank: Blank) -> bool
+fn are_rows<L: Ledger>(blank: Blank) -> bool
     requires fresh { IsFresh blank L.name L.parts }
 {
     let mut steps = Steps::<L>::new(blank);
-    let keyed = keyed();
-    parents_alike(1, &keyed, &mut steps)
-        && parents_alike(3, &keyed, &mut steps)
-        && parents_alike(6, &keyed, &mut steps)
-        && parents_alike(13, &keyed, &mut steps)
+    let keyed = Sha2_128f::keyed(&NBytes::exact(&SEED[..16]));
+    are_steps(&keyed, &mut steps)
+        && are_secrets(&keyed, &mut steps)
+        && are_parents(&keyed, &mut steps)
 }
 
 #[test]
-fn parents_of_rows(rt: HostRuntime) {
-    assert!(rt; all_parents_alike::<Brand>(Blank::new(1)));
-}
-
-// F of the bytes from 0 on, 24 a chain: SHA-256.
-const WIDE_F_ROW: [u8; 144] = [
-    0xe6, 0xab, 0x05, 0xd3, 0x69, 0x30, 0x13, 0x82, 0xdf, 0x5f, 0x0b, 0x94, 0xaa, 0x1e, 0xc5, 0xd4,
-    0x7f, 0x50, 0x63, 0xcb, 0x42, 0xaf, 0xa8, 0x8b, 0xed, 0x98, 0xf3, 0xaa, 0xff, 0x9a, 0xbc, 0xd6,
-    0xfe, 0xcf, 0xf0, 0x37, 0x5e, 0x61, 0xb4, 0xd4, 0x13, 0xc8, 0x1d, 0xc5, 0xc5, 0x46, 0xe1, 0xb6,
-    0x11, 0xc7, 0x54, 0x5e, 0x75, 0x7f, 0xfd, 0x82, 0x08, 0x64, 0xd1, 0x61, 0x78, 0xcd, 0x1d, 0xee,
-    0x88, 0x7a, 0xec, 0xa7, 0x0a, 0xe8, 0xae, 0x06, 0xce, 0x79, 0x64, 0x83, 0xe2, 0xda, 0xe3, 0xdd,
-    0x27, 0x5b, 0xaf, 0xac, 0xb6, 0x34, 0x4e, 0xcc, 0xab, 0x5e, 0x2b, 0x91, 0x9b, 0xcc, 0x2d, 0xa7,
-    0xeb, 0x1e, 0x44, 0x29, 0xf6, 0x10, 0xb5, 0xe4, 0x1f, 0x70, 0x4b, 0xe7, 0x2b, 0xff, 0x10, 0xaf,
-    0xfe, 0xce, 0x50, 0x94, 0x82, 0xfe, 0x8c, 0xf6, 0x37, 0xa6, 0x7d, 0x2f, 0xa5, 0xec, 0x0a, 0x2e,
-    0xbe, 0x38, 0x9f, 0xa4, 0x67, 0xdc, 0x7b, 0xfa, 0x58, 0x99, 0x23, 0x20, 0xa9, 0x92, 0x88, 0x5c,
-];
-
-fn wide_steps_alike<L: Ledger>(count: usize, steps: &mut Steps<L>) -> bool
-    requires { count ≤ 6 }
-{
-    let keyed = Sha2_192f::keyed(&NBytes::exact(&SEED[..24]));
-    let mut bytes = counted();
-    let values = &mut bytes[..count * 24];
-    Sha2_192f::f_each(&keyed, &chains(), &NUMBERS[..count], values, steps);
-    bytes[..count * 24] == WIDE_F_ROW[..count * 24]
-}
-
-fn all_wide_steps_alike<L: Ledger>(blank: Blank) -> bool
-    requires fresh { IsFresh blank L.name L.parts }
-{
-    let mut steps = Steps::<L>::new(blank);
-    wide_steps_alike(6, &mut steps)
-}
-
-#[test]
-fn wide_steps_of_a_row(rt: HostRuntime) {
-    assert!(rt; all_wide_steps_alike::<Brand>(Blank::new(1)));
+fn steps_secrets_and_parents_of_a_row(rt: HostRuntime) {
+    assert!(rt; are_rows::<Brand>(Blank::new(1)));
 }
 
 // A whole group of four pairs and two of the next.
@@ -252,38 +162,25 @@ const WIDE_H_ROW: [u8; 32 * WIDE_PAIRS] = [
     0xff, 0x8c, 0x1d, 0x5c, 0x72, 0x52, 0x37, 0x6a, 0xde, 0x4c, 0x70, 0xdf, 0xec, 0x44, 0x2a, 0xa8,
 ];
 
-fn wide_parents_alike<L: Ledger>(
-    count: usize,
-    keyed: &Sha2Keyed512<U32>,
-    steps: &mut Steps<L>,
-) -> bool
-    requires { count ≤ WIDE_PAIRS }
+fn are_wide_parents<L: Ledger>(blank: Blank) -> bool
+    requires fresh { IsFresh blank L.name L.parts }
 {
+    let mut steps = Steps::<L>::new(blank);
+    let keyed = Sha2_256f::keyed(&NBytes::exact(&SEED));
     let adrs = HashTree {
         layer_adrs: 1,
         tree_adrs_low: 0x0203,
         tree_height: 6,
         tree_index: 0,
     };
-    let pairs = &counted()[..count * 64];
-    let mut bytes = [0; 32 * WIDE_PAIRS];
-    let parents = &mut bytes[..count * 32];
-    Sha2_256f::h_each(keyed, &adrs, &NUMBERS[..count], pairs, parents, steps);
-    bytes[..count * 32] == WIDE_H_ROW[..count * 32]
-}
-
-fn all_wide_parents_alike<L: Ledger>(blank: Blank) -> bool
-    requires fresh { IsFresh blank L.name L.parts }
-{
-    let mut steps = Steps::<L>::new(blank);
-    let keyed = Sha2_256f::keyed(&NBytes::exact(&SEED));
-    wide_parents_alike(1, &keyed, &mut steps)
-        && wide_parents_alike(3, &keyed, &mut steps)
-        && wide_parents_alike(4, &keyed, &mut steps)
-        && wide_parents_alike(6, &keyed, &mut steps)
+    let pairs = &counted()[..64 * WIDE_PAIRS];
+    let mut parents = [0; 32 * WIDE_PAIRS];
+    let numbers = &NUMBERS[..WIDE_PAIRS];
+    Sha2_256f::h_each(&keyed, &adrs, numbers, pairs, &mut parents, &mut steps);
+    parents == WIDE_H_ROW
 }
 
 #[test]
-fn wide_parents_of_rows(rt: HostRuntime) {
-    assert!(rt; all_wide_parents_alike::<Brand>(Blank::new(1)));
+fn wide_parents_of_a_row(rt: HostRuntime) {
+    assert!(rt; are_wide_parents::<Brand>(Blank::new(1)));
 }

@@ -1,13 +1,11 @@
 //! Tests of `slh_trees`, `slh_audit` and `slh_dsa` from outside: the toy suite, whose values were
-//! worked by hand, and known keys of SLH-DSA-SHA2-128f. Below them those of `slh_core` (`core_`),
+//! worked by hand, and a known key of SLH-DSA-SHA2-128f. Below them those of `slh_core` (`core_`),
 //! `slh_hash` (`hash_`) and `signature_core` (`signature_traits`), above them those of `slh_sets`
 //! (`sets`).
 #![tactic(auto)]
 
 #[cfg(test)]
 mod audits;
-#[cfg(test)]
-mod bytes;
 #[cfg(test)]
 mod changed;
 #[cfg(test)]
@@ -21,8 +19,6 @@ mod hash_l35;
 #[cfg(test)]
 mod hash_rows;
 #[cfg(test)]
-mod hash_started;
-#[cfg(test)]
 mod keys;
 #[cfg(test)]
 mod layers;
@@ -33,8 +29,6 @@ mod page_of_keys;
 #[cfg(test)]
 mod page_of_trees;
 #[cfg(test)]
-mod places;
-#[cfg(test)]
 mod sets;
 #[cfg(test)]
 mod signature_traits;
@@ -44,7 +38,5 @@ mod signatures;
 mod traits;
 #[cfg(test)]
 mod trees;
-#[cfg(test)]
-mod uncounted;
 #[cfg(test)]
 mod worked;

@@ -1,4 +1,5 @@
 //! The example of the page of `slh_trees`.
+use crate::worked::{SIGNATURE, changed};
 use slh_trees::toy::Toy;
 use slh_trees::uncounted::check_root;
 use slh_trees::{NBytes, SigView};
@@ -15,17 +16,9 @@ fn accepts(signature: &[u8]) -> bool {
     found == root
 }
 
-// The signature of the message by the key of secret seed 5, PRF key 7 and public seed 3, worked by
-// hand from the definitions.
-const SIGNATURE: [u8; 21] = [
-    0x52, 0x52, 0x34, 0x89, 0x73, 0x3b, 0x15, 0x14, 0x1a, 0x49, 0x2b, 0x57, 0xa3, 0x3e, 0x1e, 0x17,
-    0x2f, 0x36, 0x20, 0xa3, 0x3e,
-];
-
 #[test]
 fn example_of_the_page_of_trees(rt: HostRuntime) {
     // The root is 228 then.
-    let mut changed = SIGNATURE;
-    changed[18] = 0x21;
-    assert!(rt; accepts(&SIGNATURE) && !accepts(&SIGNATURE[..20]) && !accepts(&changed));
+    let other = changed(&[(18, 0x21)]);
+    assert!(rt; accepts(&SIGNATURE) && !accepts(&SIGNATURE[..20]) && !accepts(&other));
 }

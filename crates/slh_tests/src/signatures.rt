@@ -1,12 +1,10 @@
 // Signatures and keys of the toy suite by value, and what is signed in each mode.
 ghost use Rattle.std.specs.Prelude.{◌≤◌, length};
 
-use crate::worked::{
-    KEY, LONG_CONTEXT, MESSAGE, SIGNATURE, are_equal, changed, signed, signing_key, verifying_key,
-};
+use crate::worked::{KEY, MESSAGE, SIGNATURE, signing_key};
 use hybrid_array::{Array, ArraySize};
 use signature_core::SignatureEncoding;
-use slh_dsa::{Error, Frame, Mode, ParameterSet, Signature, VerifyingKey};
+use slh_dsa::{Error, Frame, Mode, ParameterSet, Signature, SigningKey};
 use slh_trees::toy::Toy;
 use std::alloc::{AllocError, Global};
 
@@ -25,144 +23,13 @@ const BY_SHA512: [u8; 75] = [
     0x3c, 0xe8, 0x0e, 0x2a, 0x9a, 0xc9, 0x4f, 0xa5, 0x4c, 0xa4, 0x9f,
 ];
 
-fn made(alloc: Global, ctx: &[u8], opt_rand: Option<&[u8]>) -> Result<Signature<Toy>, Error> {
-    signed(alloc, &signing_key(&KEY)?, &MESSAGE, ctx, opt_rand)
-}
-
 // The bytes 0 and 0 before the message are the frame of an empty context.
-fn made_as_it_stands(alloc: Global, opt_rand: Option<&[u8]>) -> Result<Signature<Toy>, Error> {
-    signing_key(&KEY)?.slh_sign_internal(alloc, &[0, 0, 0x48], opt_rand)
+fn made_as_it_stands(alloc: Global) -> Result<Signature<Toy>, Error> {
+    signing_key(&KEY)?.slh_sign_internal(alloc, &[0, 0, 0x48], None)
 }
 
 fn made_in_pure_mode(alloc: Global) -> Result<Signature<Toy>, Error> {
     signing_key(&KEY)?.hash_sign_with_context(alloc, Mode::Pure, &MESSAGE, &[], None)
-}
-
-// Whether a signature was made that is the worked one.
-fn is_worked(made: Result<Signature<Toy>, Error>) -> bool {
-    match made {
-        Ok(sig) => sig.as_slice() == SIGNATURE.as_slice() && sig.encoded_len() == 21,
-        Err(_) => false,
-    }
-}
-
-#[test]
-fn a_message_is_signed_with_an_empty_context(rt: HostRuntime) {
-    assert!(rt; is_worked(made(rt.alloc(), &[], None)));
-}
-
-#[test]
-fn a_framed_message_is_signed_as_it_stands(rt: HostRuntime) {
-    assert!(rt; is_worked(made_as_it_stands(rt.alloc(), None)));
-}
-
-#[test]
-fn pure_mode_signs_as_the_call_without_a_mode(rt: HostRuntime) {
-    assert!(rt; is_worked(made_in_pure_mode(rt.alloc())));
-}
-
-fn verified(sig: &Signature<Toy>, ctx: &[u8]) -> Result<(), Error> {
-    verifying_key(&KEY[2..])?.try_verify_with_context(&MESSAGE, ctx, sig)
-}
-
-fn verified_as_it_stands(sig: &Signature<Toy>) -> Result<(), Error> {
-    verifying_key(&KEY[2..])?.slh_verify_internal(&[0, 0, 0x48], sig)
-}
-
-fn verified_in_pure_mode(sig: &Signature<Toy>) -> Result<(), Error> {
-    verifying_key(&KEY[2..])?.hash_verify_with_context(Mode::Pure, &MESSAGE, &[], sig)
-}
-
-fn signature(alloc: Global, bytes: &[u8]) -> Result<Signature<Toy>, Error> {
-    Signature::try_from(alloc, bytes)
-}
-
-// Whether each call answers so to a signature of these bytes.
-fn all_answer(alloc: Global, bytes: &[u8], answer: Result<(), Error>) -> bool {
-    match signature(alloc, bytes) {
-        Ok(sig) => {
-            verified(&sig, &[]) == answer
-                && verified_as_it_stands(&sig) == answer
-                && verified_in_pure_mode(&sig) == answer
-        }
-        Err(_) => false,
-    }
-}
-
-#[test]
-fn the_worked_signature_is_accepted(rt: HostRuntime) {
-    assert!(rt; all_answer(rt.alloc(), &SIGNATURE, Ok(())));
-}
-
-#[test]
-fn a_signature_that_leads_to_another_root_is_invalid(rt: HostRuntime) {
-    let bytes = changed(&[(18, 0x21)]);
-    assert!(rt; all_answer(rt.alloc(), &bytes, Err(Error::Invalid)));
-}
-
-// Whether a randomizer of another length is refused after a long context.
-fn refuses_in_order(alloc: Global, opt_rand: &[u8]) -> bool {
-    let given = Some(opt_rand);
-    made(alloc, &LONG_CONTEXT, given).err() == Some(Error::ContextTooLong)
-        && made(alloc, &LONG_CONTEXT[1..], given).err() == Some(Error::RandomizerLength)
-}
-
-fn is_signed(alloc: Global, ctx: &[u8], opt_rand: &[u8]) -> bool {
-    made(alloc, ctx, Some(opt_rand)).is_ok()
-}
-
-#[test]
-fn signing_by_value_refuses_in_order(rt: HostRuntime) {
-    assert!(rt; refuses_in_order(rt.alloc(), &[]) && refuses_in_order(rt.alloc(), &[1, 2]));
-    assert!(rt; is_signed(rt.alloc(), &LONG_CONTEXT[1..], &[3]));
-}
-
-fn refuses_as_it_stands(alloc: Global, opt_rand: &[u8]) -> bool {
-    made_as_it_stands(alloc, Some(opt_rand)).err() == Some(Error::RandomizerLength)
-}
-
-#[test]
-fn signing_as_it_stands_refuses_another_randomizer(rt: HostRuntime) {
-    assert!(rt; refuses_as_it_stands(rt.alloc(), &[]) && refuses_as_it_stands(rt.alloc(), &[1, 2]));
-}
-
-fn worked(alloc: Global) -> Result<Signature<Toy>, Error> {
-    signature(alloc, &SIGNATURE)
-}
-
-// A context of 256 bytes is refused, and with one of 255 bytes the signature is invalid.
-fn is_long_context_refused(alloc: Global) -> bool {
-    match worked(alloc) {
-        Ok(sig) => {
-            verified(&sig, &LONG_CONTEXT) == Err(Error::ContextTooLong)
-                && verified(&sig, &LONG_CONTEXT[1..]) == Err(Error::Invalid)
-        }
-        Err(_) => false,
-    }
-}
-
-#[test]
-fn verifying_by_value_refuses_a_long_context(rt: HostRuntime) {
-    assert!(rt; is_long_context_refused(rt.alloc()));
-}
-
-fn is_length_refused(alloc: Global, bytes: &[u8]) -> bool {
-    match signature(alloc, bytes) {
-        Ok(_) => false,
-        Err(cause) => cause == Error::Length,
-    }
-}
-
-fn are_lengths_refused(alloc: Global) -> bool {
-    is_length_refused(alloc, &[])
-        && is_length_refused(alloc, &[0])
-        && is_length_refused(alloc, &[0; 20])
-        && is_length_refused(alloc, &[0; 22])
-}
-
-#[test]
-fn no_signature_of_another_number_of_bytes(rt: HostRuntime) {
-    assert!(rt; are_lengths_refused(rt.alloc()));
 }
 
 // Whether bytes were given, and are these.
@@ -180,99 +47,56 @@ fn is_vector(given: Result<Vec<u8>, AllocError>, bytes: &[u8]) -> bool {
     }
 }
 
-fn is_copied<P: ParameterSet>(alloc: Global, sig: &Signature<P>) -> bool {
-    is_array(sig.to_bytes(alloc), &SIGNATURE)
-        && is_vector(sig.to_vec(alloc), &SIGNATURE)
-        && sig.view().as_slice() == SIGNATURE.as_slice()
-}
-
-fn is_worked_copied(alloc: Global) -> bool {
-    match worked(alloc) {
-        Ok(sig) => is_copied(alloc, &sig),
+fn is_cloned<P: ParameterSet>(alloc: Global, sig: &Signature<P>) -> bool {
+    match sig.clone(alloc) {
+        Ok(copy) => copy == *sig,
         Err(_) => false,
     }
-}
-
-fn is_the_array_that_it_was(alloc: Global) -> bool {
-    match worked(alloc) {
-        Ok(sig) => sig.into_array().as_slice() == SIGNATURE.as_slice(),
-        Err(_) => false,
-    }
-}
-
-#[test]
-fn a_signature_gives_its_bytes_back(rt: HostRuntime) {
-    assert!(rt; is_worked_copied(rt.alloc()) && is_the_array_that_it_was(rt.alloc()));
 }
 
 // Whether the bytes of a signature by the bound, as an array and as a vector, are these.
-fn encodes<S: SignatureEncoding>(alloc: Global, signature: &S, bytes: &[u8]) -> bool {
-    is_array(signature.to_bytes(alloc), bytes)
-        && is_vector(signature.to_vec(alloc), bytes)
-        && signature.encoded_len() == bytes.len()
+fn encodes<S: SignatureEncoding>(alloc: Global, sig: &S, bytes: &[u8]) -> bool {
+    is_array(sig.to_bytes(alloc), bytes) && is_vector(sig.to_vec(alloc), bytes)
 }
 
-fn encodes_by_the_bound(alloc: Global) -> bool {
-    match worked(alloc) {
-        Ok(sig) => encodes(alloc, &sig, &SIGNATURE),
+// Whether a signature was made that is the worked one, and gives its bytes back.
+fn is_worked(alloc: Global, made: Result<Signature<Toy>, Error>) -> bool {
+    match made {
+        Ok(sig) => {
+            is_array(sig.to_bytes(alloc), &SIGNATURE)
+                && is_cloned(alloc, &sig)
+                && encodes(alloc, &sig, &SIGNATURE)
+        }
         Err(_) => false,
     }
 }
 
 #[test]
-fn a_signature_gives_its_bytes_by_the_bound(rt: HostRuntime) {
-    assert!(rt; encodes_by_the_bound(rt.alloc()));
-}
-
-fn is_cloned(alloc: Global, sig: &Signature<Toy>) -> bool {
-    match sig.clone(alloc) {
-        Ok(copy) => are_equal(&copy, sig),
-        Err(_) => false,
-    }
-}
-
-fn is_worked_cloned(alloc: Global) -> bool {
-    match worked(alloc) {
-        Ok(sig) => is_cloned(alloc, &sig),
-        Err(_) => false,
-    }
+fn a_framed_message_is_signed_as_it_stands(rt: HostRuntime) {
+    assert!(rt; is_worked(rt.alloc(), made_as_it_stands(rt.alloc())));
 }
 
 #[test]
-fn a_clone_of_a_signature_is_equal(rt: HostRuntime) {
-    assert!(rt; is_worked_cloned(rt.alloc()));
+fn pure_mode_signs_as_the_call_without_a_mode(rt: HostRuntime) {
+    assert!(rt; is_worked(rt.alloc(), made_in_pure_mode(rt.alloc())));
 }
 
-fn is_signing_key_its_bytes(alloc: Global) -> bool {
+fn are_bytes<P: ParameterSet>(alloc: Global, key: &SigningKey<P>) -> bool {
+    is_array(key.to_bytes(alloc), &KEY)
+        && is_vector(key.to_vec(alloc), &KEY)
+        && is_array(key.verifying_key().to_bytes(alloc), &KEY[2..])
+}
+
+fn are_keys_their_bytes(alloc: Global) -> bool {
     match signing_key(&KEY) {
-        Ok(key) => is_array(key.to_bytes(alloc), &KEY) && is_vector(key.to_vec(alloc), &KEY),
+        Ok(key) => are_bytes(alloc, &key),
         Err(_) => false,
     }
 }
 
 #[test]
-fn a_signing_key_gives_its_bytes_back(rt: HostRuntime) {
-    assert!(rt; is_signing_key_its_bytes(rt.alloc()));
-}
-
-// Whether the array of a verifying key's bytes is these, and gives the key again.
-fn is_key_of_its_array<P: ParameterSet>(alloc: Global, key: &VerifyingKey<P>) -> bool {
-    match key.to_bytes(alloc) {
-        Ok(bytes) => bytes.as_slice() == &KEY[2..] && VerifyingKey::<P>::from_array(&bytes) == *key,
-        Err(_) => false,
-    }
-}
-
-fn is_verifying_key_its_bytes(alloc: Global) -> bool {
-    match verifying_key(&KEY[2..]) {
-        Ok(key) => is_vector(key.to_vec(alloc), &KEY[2..]) && is_key_of_its_array(alloc, &key),
-        Err(_) => false,
-    }
-}
-
-#[test]
-fn a_verifying_key_gives_its_bytes_back(rt: HostRuntime) {
-    assert!(rt; is_verifying_key_its_bytes(rt.alloc()));
+fn keys_give_their_bytes_back(rt: HostRuntime) {
+    assert!(rt; are_keys_their_bytes(rt.alloc()));
 }
 
 // Whether what is signed of `abc` has these bytes before the context, and these after it.
@@ -290,15 +114,4 @@ fn a_frame_has_an_identifier_and_a_digest(rt: HostRuntime) {
     assert!(rt; is_frame(Mode::Pure, &[7, 8], [0, 2], b"abc"));
     assert!(rt; is_frame(Mode::Sha256, &[], [1, 0], &BY_SHA256));
     assert!(rt; is_frame(Mode::Sha512, &[7, 8], [1, 2], &BY_SHA512));
-}
-
-fn has_frame_77_bytes() -> bool {
-    let frame = Frame::new(Mode::Sha512, &[], b"abc");
-    frame.head().len() + frame.tail().len() == 77
-}
-
-// 1, 0, the identifier and the digest: 77 bytes.
-#[test]
-fn a_frame_by_sha512_without_a_context_has_77_bytes(rt: HostRuntime) {
-    assert!(rt; is_frame(Mode::Sha512, &[], [1, 0], &BY_SHA512) && has_frame_77_bytes());
 }

@@ -3,9 +3,8 @@
 // definitions.
 // Each operation on keys of the suite stands here once: a call that names a set is dear to prove.
 
-use slh_dsa::{Error, Signature, SigningKey, VerifyingKey};
+use slh_dsa::{Error, SigningKey};
 use slh_trees::toy::Toy;
-use std::alloc::Global;
 
 pub(crate) const KEY: [u8; 4] = [5, 7, 3, 0xe1];
 
@@ -16,8 +15,6 @@ pub(crate) const SIGNATURE: [u8; 21] = [
     0x52, 0x52, 0x34, 0x89, 0x73, 0x3b, 0x15, 0x14, 0x1a, 0x49, 0x2b, 0x57, 0xa3, 0x3e, 0x1e, 0x17,
     0x2f, 0x36, 0x20, 0xa3, 0x3e,
 ];
-
-pub(crate) const LONG_CONTEXT: [u8; 256] = [0; 256];
 
 // The signature with some of its bytes changed, and zeros where it has no such place.
 pub(crate) fn changed(changes: &[(usize, u8)]) -> [u8; 21] {
@@ -33,22 +30,4 @@ pub(crate) fn changed(changes: &[(usize, u8)]) -> [u8; 21] {
 
 pub(crate) fn signing_key(bytes: &[u8]) -> Result<SigningKey<Toy>, Error> {
     SigningKey::try_from(bytes)
-}
-
-pub(crate) fn verifying_key(bytes: &[u8]) -> Result<VerifyingKey<Toy>, Error> {
-    VerifyingKey::try_from(bytes)
-}
-
-pub(crate) fn signed(
-    alloc: Global,
-    key: &SigningKey<Toy>,
-    message: &[u8],
-    ctx: &[u8],
-    opt_rand: Option<&[u8]>,
-) -> Result<Signature<Toy>, Error> {
-    key.try_sign_with_context(alloc, message, ctx, opt_rand)
-}
-
-pub(crate) fn are_equal(one: &Signature<Toy>, other: &Signature<Toy>) -> bool {
-    one == other
 }
