@@ -21,7 +21,12 @@ fn chain(alloc: Global, count: u8) -> Option<Vec<u8>> {
 }
 
 fn part_ends(alloc: Global, count: u8) -> Option<bool> {
-    ends(&chain(alloc, count)?, count, 16u8.saturating_sub(count), u32::from(count))
+    ends(
+        &chain(alloc, count)?,
+        count,
+        16u8.saturating_sub(count),
+        u32::from(count),
+    )
 }
 
 #[test]
@@ -44,7 +49,10 @@ fn has_no_form_where_cut(alloc: Global, number: u8) -> Option<bool> {
 #[test]
 fn a_chain_that_is_cut_has_no_form_in_its_last_link(rt: HostRuntime) {
     for number in [0u8, 7, 15] {
-        assert!(rt; has_no_form_where_cut(rt.alloc(), number) == Some(true), "{number}");
+        assert!(rt;
+            has_no_form_where_cut(rt.alloc(), number) == Some(true),
+            "{number}"
+        );
     }
 }
 

@@ -129,7 +129,9 @@ fn verdict(chain: &[u8], message: &[u8], sig: &[u8]) -> Option<Result<u32, Under
 // missing and no other link.
 fn is_verified(alloc: Global) -> Option<bool> {
     let mut chain = chain_of_names(alloc)?;
-    let sig = key(3)?.try_sign_with_context(alloc, b"message", b"app", None).ok()?;
+    let sig = key(3)?
+        .try_sign_with_context(alloc, b"message", b"app", None)
+        .ok()?;
     let sig = sig.as_slice();
     let is_accepted = verdict(&chain, b"message", sig)? == Ok(3);
     let shorter = verdict(&chain, b"message", b"")?;

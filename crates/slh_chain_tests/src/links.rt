@@ -9,7 +9,9 @@ fn body_and_signature(alloc: Global) -> Option<[u8; LINK_LEN]> {
     let mut link = [0u8; LINK_LEN];
     link[..6].copy_from_slice(b"\x03\x04name");
     public(2)?.write_to(&mut link[6..8]);
-    let sig = key(1)?.try_sign_with_context(alloc, &link[..8], b"slh-chain", None).ok()?;
+    let sig = key(1)?
+        .try_sign_with_context(alloc, &link[..8], b"slh-chain", None)
+        .ok()?;
     if sig.as_slice().len() != 21 {
         return None;
     }

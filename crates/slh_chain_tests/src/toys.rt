@@ -27,7 +27,15 @@ pub(crate) fn delegated(
 
 /// The link by which one key lets another act, under the name `name`.
 pub(crate) fn link(alloc: Global, signer: u8, subject: u8, depth: u8) -> Option<Vec<u8>> {
-    delegate(alloc, &key(signer)?, b"name", depth, &public(subject)?, None).ok()
+    delegate(
+        alloc,
+        &key(signer)?,
+        b"name",
+        depth,
+        &public(subject)?,
+        None,
+    )
+    .ok()
 }
 
 /// Whether a chain under key 0 ends with this key, budget and number of links.

@@ -57,7 +57,11 @@ fn is_known_by_digest<P: ParameterSet>(
     wanted: &str,
     out: &mut [u8],
 ) -> bool {
-    let mode = if digest.len() == 32 { Mode::Sha256 } else { Mode::Sha512 };
+    let mode = if digest.len() == 32 {
+        Mode::Sha256
+    } else {
+        Mode::Sha512
+    };
     sign_digest(key, mode, digest, ctx, opt_rand, out).is_ok()
         && has_digest(out, wanted)
         && verify_digest(&key.verifying_key(), mode, digest, ctx, out).is_ok()

@@ -1,7 +1,5 @@
 // Of two causes that stand together the first one is answered, and nothing is written.
-use crate::pieces::{
-    UNTOUCHED, is_untouched, key, signed_by_digest, signed_in_passes, verified,
-};
+use crate::pieces::{UNTOUCHED, is_untouched, key, signed_by_digest, signed_in_passes, verified};
 use slh_dsa::{Error, Mode, SigningKey};
 use slh_stream::{PassError, sign_digest, verify_digest};
 use slh_trees::toy::Toy;
