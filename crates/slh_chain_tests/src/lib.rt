@@ -6,10 +6,10 @@ mod chains;
 #[cfg(test)]
 mod extended;
 #[cfg(test)]
-mod faults;
-#[cfg(test)]
 mod links;
 #[cfg(test)]
 mod page_of_chains;
 #[cfg(test)]
 mod policy;
+#[cfg(test)]
+mod toys;

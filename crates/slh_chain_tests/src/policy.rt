@@ -1,7 +1,7 @@
 //! The example of docs/KEYS.md: names of links that say until when, under which number and for what.
+use crate::toys::{key, opened};
 use slh_chain::{Chain, delegate};
-use slh_dsa::{ParameterSet, SigningKey};
-use slh_trees::toy::Toy;
+use slh_dsa::ParameterSet;
 use std::alloc::Global;
 use std::str;
 
@@ -33,10 +33,6 @@ fn is_allowed<P: ParameterSet>(
     true
 }
 
-fn key(number: u8) -> Option<SigningKey<Toy>> {
-    SigningKey::slh_keygen_internal(&[5], &[7], &[number]).ok()
-}
-
 // A day, the revoked numbers and a purpose, and whether a chain of one link allows them.
 const DAYS: [(&str, &[&str], &str, bool); 5] = [
     ("2027-06-29", &[], "firmware", true),
@@ -52,7 +48,7 @@ fn are_judged(alloc: Global) -> Option<bool> {
     let name = b"2027-06-30/17/firmware";
     let bytes = delegate(alloc, &root, name, 0, &subject, None).ok()?;
     let public = root.verifying_key();
-    let chain = Chain::open(&public, &bytes).ok()?;
+    let chain = opened(&public, &bytes)?;
     for (today, revoked, purpose, allowed) in &DAYS {
         if is_allowed(&chain, today, revoked, purpose) != *allowed {
             return Some(false);

@@ -1,96 +1,87 @@
 //! Each read that fails in turn, and each allocation.
-use crate::manifests::{Row, store, toy_answers, toy_key, toy_manifest};
-use slh_manifest::{BuildError, Builder, CheckError, MemStore};
+use crate::manifests::{name_of, put_row, store, toy_answer, toy_manifest, toy_sealed};
+use slh_manifest::{BuildError, Builder, MemStore};
 use std::alloc::Global;
 
 // The second takes two reads of at most 4096 bytes, and each a last one, that finds the end.
-const ROWS: [Row<'static>; 3] = [(b"a", b"abc"), (b"b", &[7; 5000]), (b"ba", b"")];
+const ROWS: &str = "a=abc b=# ba=";
 
-const NAMES: [&[u8]; 3] = [b"a", b"b", b"ba"];
+// How many reads they take.
+const READS: u64 = 6;
 
-// How many names were added before a read, by the number of the read. The last isn't made.
-const ADDED: [(u64, Option<usize>); 7] = [
-    (0, Some(0)),
-    (1, Some(0)),
-    (2, Some(1)),
-    (3, Some(1)),
-    (4, Some(1)),
-    (5, Some(2)),
-    (6, None),
-];
-
-// Adds each name, once more after a refusal of this kind. Before which it came, if it did.
-fn add_all(builder: &mut Builder, files: &mut MemStore, refusal: BuildError) -> Option<usize> {
-    let mut refused = None;
-    for (i, name) in NAMES.iter().enumerate() {
-        if builder.add(name, files) == Err(refusal) {
-            refused = Some(i);
-            builder.add(name, files).ok()?;
-        }
+// Adds a name, once more after a refusal of this kind, and says whether it came.
+fn add_again(
+    builder: &mut Builder,
+    files: &mut MemStore,
+    row: &str,
+    refusal: BuildError,
+) -> Option<bool> {
+    let refused = builder.add(name_of(row), files) == Err(refusal);
+    if refused {
+        builder.add(name_of(row), files).ok()?;
     }
-    refused
+    Some(refused)
 }
 
-// Seals with the toy key.
-fn sealed(alloc: Global, builder: Builder) -> Option<Vec<u8>> {
-    builder.seal(alloc, &toy_key()?, None).ok()
+// Adds each name so. How many were there before the refusal, if it came.
+fn add_all(builder: &mut Builder, files: &mut MemStore, refusal: BuildError) -> Option<usize> {
+    let mut before = None;
+    for row in ROWS.split(' ') {
+        let count = builder.len();
+        if add_again(builder, files, row, refusal)? {
+            before = Some(count);
+        }
+    }
+    before
+}
+
+// How many names were added before a read. The last isn't made.
+fn added(read: u64) -> Option<usize> {
+    match read {
+        0 | 1 => Some(0),
+        2..=4 => Some(1),
+        5 => Some(2),
+        _ => None,
+    }
 }
 
 // Whether the read with this number fails where it stands, and is made good by another call.
-fn is_made_good(alloc: Global, read: u64, added: Option<usize>) -> Option<bool> {
-    let mut files = store(alloc, &ROWS, &[read]).ok()?;
+fn is_made_good(alloc: Global, read: u64) -> Option<bool> {
+    let mut files = store(alloc, ROWS, read)?;
     let mut builder = Builder::new(alloc);
     let refused = add_all(&mut builder, &mut files, BuildError::Fault);
-    let own = toy_manifest(alloc, &NAMES, &ROWS)?;
-    Some(refused == added && sealed(alloc, builder)?.as_slice() == own.as_slice())
+    let own = toy_manifest(alloc, ROWS)?;
+    Some(refused == added(read) && toy_sealed(alloc, builder)?.as_slice() == own.as_slice())
 }
 
 #[test]
 fn a_build_goes_on_after_each_fault(rt: HostRuntime) {
-    for (read, added) in &ADDED {
-        assert!(rt;
-            is_made_good(rt.alloc(), *read, *added) == Some(true),
-            "read {read}"
-        );
+    for read in 0..=READS {
+        assert!(rt; is_made_good(rt.alloc(), read) == Some(true), "read {read}");
     }
 }
 
-// Whether a check answers this where the read with this number fails.
-fn answers(alloc: Global, manifest: &[u8], read: u64, answer: Result<(), CheckError>) -> bool {
-    match store(alloc, &ROWS, &[read]) {
-        Ok(mut files) => toy_answers(manifest, &mut files, answer),
-        Err(_) => false,
-    }
-}
-
-// Whether each of so many reads that fails ends the check of a manifest, and no later one does.
-fn ends_by_each(alloc: Global, manifest: &[u8], count: u64) -> bool {
-    for read in 0..count {
-        if !answers(alloc, manifest, read, Err(CheckError::Fault)) {
-            return false;
-        }
-    }
-    answers(alloc, manifest, count, Ok(()))
-}
-
-fn ends_by_each_of_six(alloc: Global) -> bool {
-    match toy_manifest(alloc, &NAMES, &ROWS) {
-        Some(manifest) => ends_by_each(alloc, &manifest, 6),
-        None => false,
-    }
+// Whether a read that fails ends the check of a manifest, unless it isn't made.
+fn ends_a_check(alloc: Global, read: u64) -> Option<bool> {
+    let manifest = toy_manifest(alloc, ROWS)?;
+    let mut files = store(alloc, ROWS, read)?;
+    let wanted = if read < READS { "fault" } else { "ok" };
+    Some(toy_answer(&manifest, &mut files) == wanted)
 }
 
 #[test]
 fn each_fault_ends_a_check(rt: HostRuntime) {
-    assert!(rt; ends_by_each_of_six(rt.alloc()));
+    for read in 0..=READS {
+        assert!(rt; ends_a_check(rt.alloc(), read) == Some(true), "read {read}");
+    }
 }
 
 // A store in which each name was put, once more where there was no memory.
 fn put_all(alloc: Global) -> Option<MemStore> {
     let mut files = MemStore::new(alloc, Vec::new(alloc));
-    for (name, bytes) in &ROWS {
-        if files.put(name, bytes).is_err() {
-            files.put(name, bytes).ok()?;
+    for row in ROWS.split(' ') {
+        if put_row(&mut files, row).is_none() {
+            put_row(&mut files, row)?;
         }
     }
     Some(files)
@@ -102,7 +93,7 @@ fn manifest_at_last(alloc: Global) -> Option<Vec<u8>> {
     for _ in 0..2 {
         let mut builder = Builder::new(alloc);
         let _refused = add_all(&mut builder, &mut files, BuildError::Memory);
-        if let Some(manifest) = sealed(alloc, builder) {
+        if let Some(manifest) = toy_sealed(alloc, builder) {
             return Some(manifest);
         }
     }
@@ -113,7 +104,7 @@ fn manifest_at_last(alloc: Global) -> Option<Vec<u8>> {
 fn is_accepted_at_last(alloc: Global) -> Option<bool> {
     let manifest = manifest_at_last(alloc)?;
     let mut files = put_all(alloc)?;
-    Some(manifest.len() == 4 + 3 * 41 + 4 + 21 && toy_answers(&manifest, &mut files, Ok(())))
+    Some(manifest.len() == 4 + 3 * 41 + 4 + 21 && toy_answer(&manifest, &mut files) == "ok")
 }
 
 // Run with each allocation failing in turn, too (`rt try --test --fail-alloc`).

@@ -1,6 +1,6 @@
 //! How a store is read: in pieces, and at most one byte further than an entry says.
-use crate::manifests::{toy_answers, toy_sealed};
-use slh_manifest::{CheckError, Failed, Store};
+use crate::manifests::{built, toy_answer, toy_sealed};
+use slh_manifest::{Failed, Store};
 use std::alloc::Global;
 
 // How many bytes a piece has that is made up at once.
@@ -55,108 +55,77 @@ impl Store for MadeUp {
     }
 }
 
-// The entry of so many bytes with that digest.
-fn entry_with(len: u64, digest: &str) -> Option<[u8; 42]> {
-    let mut bytes = [0u8; 42];
-    bytes[..2].copy_from_slice(b"\x01a");
-    bytes[2..10].copy_from_slice(&len.to_be_bytes());
-    hex::decode_to_slice(digest, &mut bytes[10..]).ok()?;
-    Some(bytes)
-}
-
-// Whether it stands in a manifest of so many bytes that a read gives at most so many of.
-fn is_entry(alloc: Global, len: u64, most: u64, digest: &str) -> Option<bool> {
-    let manifest = toy_sealed(alloc, &[b"a"], &mut MadeUp::new(len, most))?;
-    Some(manifest.get(4..46)? == entry_with(len, digest)?.as_slice())
-}
-
-fn is_hashed(alloc: Global, len: u64, digest: &str) -> bool {
-    is_entry(alloc, len, PIECE, digest) == Some(true)
-        && is_entry(alloc, len, 1000, digest) == Some(true)
+// The manifest of the name `a`, under which a store has so many bytes, of which it gives at most so
+// many.
+fn manifest_of(alloc: Global, len: u64, most: u64) -> Option<Vec<u8>> {
+    toy_sealed(alloc, built(alloc, "a", &mut MadeUp::new(len, most))?)
 }
 
 // Numbers of bytes, and SHA-256 of them by Python's hashlib: sha256(bytes(p // 4096 % 251 for p in
 // range(len))).
-const DIGESTS: [(u64, &str); 6] = [
-    (
-        0,
-        "e3b0c44298fc1c149afbf4c8996fb92427ae41e4649b934ca495991b7852b855",
-    ),
-    (
-        1,
-        "6e340b9cffb37a989ca544e6bb780a2c78901d3fb33738768511a30617afa01d",
-    ),
-    (
-        4095,
-        "2cae68411db14d6b340e650cd7e512a0d604379425f48e5a8ba846336777ff5c",
-    ),
-    (
-        4096,
-        "ad7facb2586fc6e966c004d7d1d16b024f5805ff7cb47c7a85dabd8b48892ca7",
-    ),
-    (
-        4097,
-        "d68e9b6ca6ef568622005e43007475e22f47e488041fb1afb2c0cfaa7fec673b",
-    ),
-    (
-        2_000_000,
-        "10a0b3fad17972b3b1b9171c811c2a461674993cb410def99c5ae2522d811da4",
-    ),
-];
+const DIGESTS: &str = "\
+0 e3b0c44298fc1c149afbf4c8996fb92427ae41e4649b934ca495991b7852b855
+1 6e340b9cffb37a989ca544e6bb780a2c78901d3fb33738768511a30617afa01d
+4095 2cae68411db14d6b340e650cd7e512a0d604379425f48e5a8ba846336777ff5c
+4096 ad7facb2586fc6e966c004d7d1d16b024f5805ff7cb47c7a85dabd8b48892ca7
+4097 d68e9b6ca6ef568622005e43007475e22f47e488041fb1afb2c0cfaa7fec673b
+2000000 10a0b3fad17972b3b1b9171c811c2a461674993cb410def99c5ae2522d811da4";
+
+// Whether the manifest of so many bytes has the entry of that length and that digest.
+fn is_entry(alloc: Global, len: u64, most: u64, digits: &str) -> Option<bool> {
+    let mut digest = [0u8; 32];
+    hex::decode_to_slice(digits, &mut digest).ok()?;
+    let manifest = manifest_of(alloc, len, most)?;
+    Some(
+        manifest.get(4..6)? == b"\x01a".as_slice()
+            && manifest.get(6..14)? == len.to_be_bytes().as_slice()
+            && manifest.get(14..46)? == digest.as_slice(),
+    )
+}
+
+fn is_hashed(alloc: Global, row: &str) -> Option<bool> {
+    let (len, digits) = row.split_once(' ')?;
+    let len = len.parse::<u64>().ok()?;
+    Some(is_entry(alloc, len, PIECE, digits)? && is_entry(alloc, len, 1000, digits)?)
+}
 
 #[test]
 fn bytes_are_hashed_in_their_order_whatever_a_read_gives(rt: HostRuntime) {
-    for (len, digest) in &DIGESTS {
-        assert!(rt; is_hashed(rt.alloc(), *len, digest), "{len} bytes");
+    for row in DIGESTS.lines() {
+        assert!(rt; is_hashed(rt.alloc(), row) == Some(true), "{row}");
     }
 }
 
-// How many bytes an entry is of, and how many the store has; what a check answers; the highest
-// place that it asked for, how many bytes it asked for at once at most and in all, and how many it
-// was given.
-const ASKED: [(u64, u64, Result<(), CheckError>, [u64; 4]); 7] = [
-    (3, 3, Ok(()), [4, 4, 5, 3]),
-    (3, 2, Err(CheckError::Differs(0)), [4, 4, 6, 2]),
-    (3, u64::MAX, Err(CheckError::Differs(0)), [4, 4, 4, 4]),
-    (0, u64::MAX, Err(CheckError::Differs(0)), [1, 1, 1, 1]),
-    (4095, 4095, Ok(()), [4096, 4096, 4097, 4095]),
-    (
-        4096,
-        4097,
-        Err(CheckError::Differs(0)),
-        [4097, 4096, 4097, 4097],
-    ),
-    (
-        100_000,
-        u64::MAX,
-        Err(CheckError::Differs(0)),
-        [100_001, 4096, 100_001, 100_001],
-    ),
+// How many bytes an entry is of, and how many the store has; the highest place that a check asks
+// for, how many bytes it asks for at once at most and in all, and how many it is given.
+const ASKED: [[u64; 6]; 7] = [
+    [3, 3, 4, 4, 5, 3],
+    [3, 2, 4, 4, 6, 2],
+    [3, u64::MAX, 4, 4, 4, 4],
+    [0, u64::MAX, 1, 1, 1, 1],
+    [4095, 4095, 4096, 4096, 4097, 4095],
+    [4096, 4097, 4097, 4096, 4097, 4097],
+    [100_000, u64::MAX, 100_001, 4096, 100_001, 100_001],
 ];
 
-// Whether a check of an entry answers so, and leaves its store with these numbers.
-fn asks(
-    alloc: Global,
-    (len, has): (u64, u64),
-    answer: Result<(), CheckError>,
-    numbers: &[u64; 4],
-) -> bool {
+// Whether a check of an entry accepts its own bytes alone, and leaves its store with these numbers.
+fn asks(alloc: Global, row: &[u64; 6]) -> Option<bool> {
+    let [len, has, highest, room, asked, given] = *row;
+    let manifest = manifest_of(alloc, len, PIECE)?;
     let mut made = MadeUp::new(has, PIECE);
-    match toy_sealed(alloc, &[b"a"], &mut MadeUp::new(len, PIECE)) {
-        Some(manifest) => {
-            toy_answers(&manifest, &mut made, answer)
-                && [made.highest, made.room, made.asked, made.given] == *numbers
-        }
-        None => false,
-    }
+    let wanted = if has == len { "ok" } else { "differs-0" };
+    Some(
+        toy_answer(&manifest, &mut made) == wanted
+            && made.highest == highest
+            && made.room == room
+            && made.asked == asked
+            && made.given == given,
+    )
 }
 
 #[test]
 fn a_check_asks_for_one_byte_past_an_entry_at_most(rt: HostRuntime) {
-    for (len, has, answer, numbers) in &ASKED {
-        assert!(rt;
-            asks(rt.alloc(), (*len, *has), *answer, numbers),
-            "{has} bytes for {len}"
-        );
+    for row in &ASKED {
+        assert!(rt; asks(rt.alloc(), row) == Some(true), "{row:?}");
     }
 }

@@ -1,7 +1,7 @@
 //! Stores that fail: no call reads on after a fault, nor further than one byte past an entry.
-use crate::manifests::{Row, store, toy_key, toy_manifest};
+use crate::manifests::{NEVER, store, toy_answer, toy_manifest};
 use slh_manifest::{
-    BuildError, Builder, CheckError, EntryError, Failed, Manifest, MemStore, Store, check,
+    BuildError, Builder, CheckError, EntryError, Failed, Manifest, MemStore, Store,
 };
 use std::alloc::Global;
 
@@ -48,100 +48,91 @@ impl Store for Watched {
     }
 }
 
-const ROWS: [Row<'static>; 2] = [(b"a", b"abc"), (b"b", &[7; 5000])];
+// The second takes two reads of at most 4096 bytes, and each a last one, that finds the end.
+const ROWS: &str = "a=abc b=#";
 
-// A store of the rows of which this read fails.
-fn failing_at(alloc: Global, read: u64) -> Option<Watched> {
-    Some(Watched::new(store(alloc, &ROWS, &[read]).ok()?))
+// A store of these rows of which this read fails.
+fn failing_at(alloc: Global, rows: &str, fail: u64) -> Option<Watched> {
+    Some(Watched::new(store(alloc, rows, fail)?))
 }
 
-// Whether a fault ended the call after so many reads, with no other.
-fn is_ended(files: &Watched, reads: u64) -> bool {
-    files.failed && files.reads == reads && files.after == 0
+// Whether a fault ended the call, with no other read.
+fn is_ended(files: &Watched, fail: u64) -> bool {
+    files.failed && files.reads == fail.saturating_add(1) && files.after == 0
 }
 
 // Whether an `add` of the second name, which takes three reads, is ended by each that fails.
 fn add_is_ended(alloc: Global, read: u64) -> Option<bool> {
-    let mut files = failing_at(alloc, read)?;
+    let mut files = failing_at(alloc, ROWS, read)?;
     let answer = Builder::new(alloc).add(b"b", &mut files);
-    Some(answer == Err(BuildError::Fault) && is_ended(&files, read.saturating_add(1)))
+    Some(answer == Err(BuildError::Fault) && is_ended(&files, read))
 }
 
 // The same of a check of the whole manifest of both names, which takes five.
 fn check_is_ended(alloc: Global, manifest: &[u8], read: u64) -> Option<bool> {
-    let mut files = failing_at(alloc, read)?;
-    let answer = check(&toy_key()?.verifying_key(), manifest, &mut files);
-    Some(answer == Err(CheckError::Fault) && is_ended(&files, read.saturating_add(1)))
+    let mut files = failing_at(alloc, ROWS, read)?;
+    Some(toy_answer(manifest, &mut files) == "fault" && is_ended(&files, read))
 }
 
 // Of the check of an opened one,
 fn opened_check_is_ended(alloc: Global, manifest: &[u8], read: u64) -> Option<bool> {
-    let mut files = failing_at(alloc, read)?;
+    let mut files = failing_at(alloc, ROWS, read)?;
     let answer = Manifest::reopen(manifest)?.check(&mut files);
-    Some(answer == Err(CheckError::Fault) && is_ended(&files, read.saturating_add(1)))
+    Some(answer == Err(CheckError::Fault) && is_ended(&files, read))
 }
 
 // and of the check of its second entry.
 fn entry_check_is_ended(alloc: Global, manifest: &[u8], read: u64) -> Option<bool> {
-    let mut files = failing_at(alloc, read)?;
+    let mut files = failing_at(alloc, ROWS, read)?;
     let answer = Manifest::reopen(manifest)?.entry(1)?.check(&mut files);
-    Some(answer == Err(EntryError::Fault) && is_ended(&files, read.saturating_add(1)))
+    Some(answer == Err(EntryError::Fault) && is_ended(&files, read))
 }
 
-fn checks_are_ended(alloc: Global, manifest: &[u8]) -> Option<bool> {
-    for read in 0..5u64 {
-        if !check_is_ended(alloc, manifest, read)?
-            || !opened_check_is_ended(alloc, manifest, read)?
-        {
-            return Some(false);
-        }
-    }
-    Some(true)
-}
-
-fn single_calls_are_ended(alloc: Global, manifest: &[u8]) -> Option<bool> {
-    for read in 0..3u64 {
-        if !add_is_ended(alloc, read)? || !entry_check_is_ended(alloc, manifest, read)? {
-            return Some(false);
-        }
-    }
-    Some(true)
-}
-
-fn are_ended(alloc: Global) -> Option<[bool; 2]> {
-    let manifest = toy_manifest(alloc, &[b"a", b"b"], &ROWS)?;
-    Some([
-        checks_are_ended(alloc, &manifest)?,
-        single_calls_are_ended(alloc, &manifest)?,
-    ])
+fn are_ended(alloc: Global, read: u64) -> Option<bool> {
+    let manifest = toy_manifest(alloc, ROWS)?;
+    let checks = check_is_ended(alloc, &manifest, read)?
+        && opened_check_is_ended(alloc, &manifest, read)?;
+    let is_single = read >= 3
+        || add_is_ended(alloc, read)? && entry_check_is_ended(alloc, &manifest, read)?;
+    Some(checks && is_single)
 }
 
 #[test]
 fn a_read_that_fails_is_the_last(rt: HostRuntime) {
-    assert!(rt; are_ended(rt.alloc()) == Some([true; 2]));
+    for read in 0..5u64 {
+        assert!(rt; are_ended(rt.alloc(), read) == Some(true), "read {read}");
+    }
 }
 
 // The highest place that each check of the manifest asks for over a store that has more bytes under
 // both names: of the whole, of the opened one, of each entry.
-fn highest_places(alloc: Global) -> Option<[u64; 4]> {
-    let manifest = toy_manifest(alloc, &[b"a", b"b"], &ROWS)?;
-    let longer: [Row; 2] = [(b"a", &[7; 9000]), (b"b", &[7; 9000])];
-    let public = toy_key()?.verifying_key();
-    let opened = Manifest::reopen(&manifest)?;
-    let mut highest = [0u64; 4];
-    for (i, place) in highest.iter_mut().enumerate() {
-        let mut files = Watched::new(store(alloc, &longer, &[]).ok()?);
-        let _refused = match i {
-            0 => check(&public, &manifest, &mut files).is_err(),
-            1 => opened.check(&mut files).is_err(),
-            _ => opened.entry(i - 2)?.check(&mut files).is_err(),
-        };
-        *place = files.highest;
-    }
-    Some(highest)
+fn highest_of_whole(manifest: &[u8], mut files: Watched) -> Option<u64> {
+    let _refused = toy_answer(manifest, &mut files);
+    Some(files.highest)
+}
+
+fn highest_of_opened(manifest: &[u8], mut files: Watched) -> Option<u64> {
+    let _refused = Manifest::reopen(manifest)?.check(&mut files);
+    Some(files.highest)
+}
+
+fn highest_of_entry(manifest: &[u8], mut files: Watched, number: usize) -> Option<u64> {
+    let _refused = Manifest::reopen(manifest)?.entry(number)?.check(&mut files);
+    Some(files.highest)
+}
+
+fn asks_no_further(alloc: Global) -> Option<bool> {
+    let manifest = toy_manifest(alloc, ROWS)?;
+    let longer = "a=## b=##";
+    Some(
+        highest_of_whole(&manifest, failing_at(alloc, longer, NEVER)?)? == 4
+            && highest_of_opened(&manifest, failing_at(alloc, longer, NEVER)?)? == 4
+            && highest_of_entry(&manifest, failing_at(alloc, longer, NEVER)?, 0)? == 4
+            && highest_of_entry(&manifest, failing_at(alloc, longer, NEVER)?, 1)? == 5001,
+    )
 }
 
 #[test]
 fn no_check_asks_further_than_one_byte_past_an_entry(rt: HostRuntime) {
-    assert!(rt; highest_places(rt.alloc()) == Some([4, 4, 4, 5001]));
+    assert!(rt; asks_no_further(rt.alloc()) == Some(true));
 }

@@ -2,20 +2,10 @@
 #![tactic(auto)]
 
 #[cfg(test)]
-mod changed;
-#[cfg(test)]
-mod cuts;
-#[cfg(test)]
-mod digests;
-#[cfg(test)]
 mod known_answers;
 #[cfg(test)]
 mod page_of_pieces;
 #[cfg(test)]
 mod pieces;
 #[cfg(test)]
-mod random_cuts;
-#[cfg(test)]
 mod refusals;
-#[cfg(test)]
-mod suspended;
