@@ -41,10 +41,7 @@ fn is_body(alloc: Global, builder: &Builder) -> Option<bool> {
 
 fn have_their_body(alloc: Global) -> Option<bool> {
     let mut files = store(alloc, ROWS, NEVER)?;
-    Some(
-        is_body(alloc, &by_digests(alloc)?)?
-            && is_body(alloc, &built(alloc, ROWS, &mut files)?)?,
-    )
+    Some(is_body(alloc, &by_digests(alloc)?)? && is_body(alloc, &built(alloc, ROWS, &mut files)?)?)
 }
 
 #[test]
@@ -55,8 +52,12 @@ fn entries_by_digests_and_by_a_store_have_one_body(rt: HostRuntime) {
 // The manifest of a builder by a signature of its body that the plain call made.
 fn signed_elsewhere(alloc: Global, builder: &Builder) -> Option<Vec<u8>> {
     let body = builder.body(alloc).ok()?;
-    let signature = toy_key()?.try_sign_with_context(alloc, &body, CONTEXT, None).ok()?;
-    builder.with_signature::<Toy>(alloc, signature.as_slice()).ok()
+    let signature = toy_key()?
+        .try_sign_with_context(alloc, &body, CONTEXT, None)
+        .ok()?;
+    builder
+        .with_signature::<Toy>(alloc, signature.as_slice())
+        .ok()
 }
 
 // Whether a body that is signed elsewhere gives the manifest that its key seals.

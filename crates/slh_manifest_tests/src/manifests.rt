@@ -94,8 +94,9 @@ const FRONT: &[u8] = b"\x00\x00\x00\x01\x01a\x00\x00\x00\x00\x00\x00\x00\x03\
 fn is_manifest_of_abc(alloc: Global) -> Option<bool> {
     let mut files = store(alloc, "a=abc", NEVER)?;
     let builder = built(alloc, "a", &mut files)?;
-    let key: SigningKey<Sha2_128f> =
-        SigningKey::slh_keygen_internal(&[1; 16], &[2; 16], &[3; 16]).ok()?;
+    let key: SigningKey<Sha2_128f> = SigningKey::slh_keygen_internal(
+        &[1; 16], &[2; 16], &[3; 16],
+    ).ok()?;
     let manifest = builder.seal(alloc, &key, None).ok()?;
     Some(manifest.len() == 17134 && manifest.starts_with(FRONT))
 }
