@@ -17,9 +17,6 @@ const LONGEST: usize = 13;
 // The bytes of so many values of 16.
 const ROW_LEN: usize = LONGEST * 16;
 
-// The bytes of so many pairs.
-const PAIRS_LEN: usize = 2 * ROW_LEN;
-
 // The numbers of a row, which stand in no order.
 const NUMBERS: [u32; LONGEST] = [7, 0, 0x0102_0304, 34, 2, 33, 5, 6, 1, 12, 3, 0xffff_ffff, 8];
 
@@ -29,13 +26,11 @@ const SEED: [u8; 32] = [
     26, 27, 28, 29, 30, 31,
 ];
 
-// The bytes from 0 on, and after 255 from 0 again.
-fn counted() -> [u8; PAIRS_LEN] {
-    let mut bytes = [0; PAIRS_LEN];
-    for i in 0..PAIRS_LEN {
+// Writes the bytes from 0 on, and after 255 from 0 again.
+fn count(bytes: &mut [u8]) {
+    for i in 0..bytes.len() {
         bytes[i] = (i % 256) as u8;
     }
-    bytes
 }
 
 // The steps 6 of the chains of key pair 4 of tree 0x0203 of layer 1.
@@ -68,9 +63,7 @@ const F_ROW: [u8; ROW_LEN] = [
 
 fn are_steps<L: Ledger>(keyed: &Sha2Keyed<U16>, steps: &mut Steps<L>) -> bool {
     let mut values = [0; ROW_LEN];
-    for i in 0..ROW_LEN {
-        values[i] = i as u8;
-    }
+    count(&mut values);
     Sha2_128f::f_each(keyed, &chains(), &NUMBERS, &mut values, steps);
     values == F_ROW
 }
@@ -123,8 +116,10 @@ fn are_parents<L: Ledger>(keyed: &Sha2Keyed<U16>, steps: &mut Steps<L>) -> bool 
         tree_height: 6,
         tree_index: 0,
     };
+    let mut pairs = [0; 2 * ROW_LEN];
+    count(&mut pairs);
     let mut parents = [0; ROW_LEN];
-    Sha2_128f::h_each(keyed, &adrs, &NUMBERS, &counted(), &mut parents, steps);
+    Sha2_128f::h_each(keyed, &adrs, &NUMBERS, &pairs, &mut parents, steps);
     parents == H_ROW
 }
 
@@ -173,10 +168,11 @@ fn are_wide_parents<L: Ledger>(blank: Blank) -> bool
         tree_height: 6,
         tree_index: 0,
     };
-    let pairs = &counted()[..64 * WIDE_PAIRS];
+    let mut pairs = [0; 64 * WIDE_PAIRS];
+    count(&mut pairs);
     let mut parents = [0; 32 * WIDE_PAIRS];
     let numbers = &NUMBERS[..WIDE_PAIRS];
-    Sha2_256f::h_each(&keyed, &adrs, numbers, pairs, &mut parents, &mut steps);
+    Sha2_256f::h_each(&keyed, &adrs, numbers, &pairs, &mut parents, &mut steps);
     parents == WIDE_H_ROW
 }
 
