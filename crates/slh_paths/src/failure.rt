@@ -165,7 +165,7 @@ fn job_text(error: Error) -> &'static str {
     match error {
         Error::Length => "a key or a signature has a wrong length",
         Error::ContextTooLong => CONTEXT,
-        Error::RandomizerLength => Cause::RandomizerLength,
+        Error::RandomizerLength => "the randomizer has a wrong length",
         Error::MessageTooLong => "the file has more than 2^60 bytes",
         Error::KeyMismatch => ROOT,
         Error::Invalid => "the signature is invalid",
