@@ -219,7 +219,7 @@ fn verify_under<'a>(
         Err(UnderHeadError::Head(HeadError::Invalid)) => {
             report(rt, words, Outcome::Invalid, Detail::Nothing)
         }
-        Err(UnderHeadError::Head(HeadError::Form)) => { Err(Failure::Told(path, Cause::NotHead)) }
+        Err(UnderHeadError::Head(HeadError::Form)) => Err(Failure::Told(path, Cause::NotHead)),
     }
 }
 

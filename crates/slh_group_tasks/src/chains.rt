@@ -113,7 +113,7 @@ fn walk_failure<'a>(path: &'a str, error: WalkError) -> Failure<'a> {
     };
     match error {
         ChainError::Form(i) => Failure::BadLink(path, Cause::NoLink, i),
-        ChainError::Budget(i) => { Failure::BadLink(path, Cause::TooDeep, i) }
+        ChainError::Budget(i) => Failure::BadLink(path, Cause::TooDeep, i),
         ChainError::Invalid(i) => Failure::BadLink(path, Cause::NotByKeyBefore, i),
     }
 }

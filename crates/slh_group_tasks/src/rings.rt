@@ -136,7 +136,7 @@ fn record_at<'a>(rt: &HostRuntime, path: &'a str) -> Result<(Set, ByteString), F
 fn restore_failure<'a>(path: &'a str, error: RestoreError) -> Failure<'a> {
     match error {
         RestoreError::Form => Failure::Told(path, Cause::NotOfItsSet),
-        RestoreError::Mismatch(i) => { Failure::ToldAt(path, Cause::OtherMaster, i) }
+        RestoreError::Mismatch(i) => Failure::ToldAt(path, Cause::OtherMaster, i),
         RestoreError::Memory => Failure::Memory,
     }
 }

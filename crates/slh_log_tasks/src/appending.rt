@@ -63,7 +63,7 @@ pub fn init<'s, 'a>(
 fn push<'a>(log: &mut Appending<Sha256>, path: &'a str, entry: &[u8]) -> Result<(), Failure<'a>> {
     match log.push(entry) {
         Ok(()) => Ok(()),
-        Err(AppendError::TooLong) => { Err(Failure::Told(path, Cause::EntryTooLong)) }
+        Err(AppendError::TooLong) => Err(Failure::Told(path, Cause::EntryTooLong)),
         Err(AppendError::Full) => Err(Failure::Told(path, Cause::LogFull)),
         Err(AppendError::Memory) => Err(Failure::Memory),
     }

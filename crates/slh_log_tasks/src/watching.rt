@@ -115,16 +115,15 @@ fn outcome_of_entry<'a>(
         Ok(()) => Ok(Outcome::Accepted),
         Err(EntryError::Head(error)) => outcome_of_head(head, error),
         Err(EntryError::Path(PresenceError::Invalid)) => Ok(Outcome::Invalid),
-        Err(EntryError::Path(PresenceError::Index)) => {
-            Err(Failure::Told(proof, Cause::OtherIndex))
-        }
+        Err(EntryError::Path(PresenceError::Index)) => Err(Failure::Told(proof, Cause::OtherIndex)),
         Err(EntryError::Path(PresenceError::Length)) => Err(Failure::Told(
             proof,
             Cause::ProofLength,
         )),
-        Err(EntryError::Path(PresenceError::Entry)) => {
-            Err(Failure::Told(file, Cause::MessageTooLong))
-        }
+        Err(EntryError::Path(PresenceError::Entry)) => Err(Failure::Told(
+            file,
+            Cause::MessageTooLong,
+        )),
     }
 }
 
@@ -166,8 +165,8 @@ fn outcome_of_growth<'a>(
         Err(LogError::Old(error)) => outcome_of_head(old, error),
         Err(LogError::New(error)) => outcome_of_head(new, error),
         Err(LogError::Proof(GrowthError::Invalid)) => Ok(Outcome::Invalid),
-        Err(LogError::Proof(GrowthError::Empty)) => { Err(Failure::Told(old, Cause::EmptyOld)) }
-        Err(LogError::Proof(GrowthError::Smaller)) => { Err(Failure::Told(new, Cause::Smaller)) }
+        Err(LogError::Proof(GrowthError::Empty)) => Err(Failure::Told(old, Cause::EmptyOld)),
+        Err(LogError::Proof(GrowthError::Smaller)) => Err(Failure::Told(new, Cause::Smaller)),
         Err(LogError::Proof(GrowthError::Length)) => Err(Failure::Told(proof, Cause::ProofLength)),
     }
 }

@@ -145,9 +145,7 @@ pub fn read_beside<'a>(
         read_front(rt, name.as_str(), MOST + 1)
     };
     match read {
-        Ok(bytes) if bytes.len() as u64 > MOST => {
-            Err(Failure::NewTold(path, end, Cause::TooLong))
-        }
+        Ok(bytes) if bytes.len() as u64 > MOST => Err(Failure::NewTold(path, end, Cause::TooLong)),
         Ok(bytes) => Ok(bytes),
         Err(error) => Err(Failure::NewFile(path, end, error)),
     }

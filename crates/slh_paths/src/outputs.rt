@@ -136,7 +136,7 @@ fn put_at<'a>(
     match put_whole(alloc, &mut files, &mut fronts, path, part, bytes) {
         Ok(written) => told(name, Ok(written), files.fault.take()),
         Err(PutError::Write(error)) => told(name, Err(error), files.fault.take()),
-        Err(PutError::Secret) => { Err(Failure::NewTold(name.0, name.1, Cause::Secret)) }
+        Err(PutError::Secret) => Err(Failure::NewTold(name.0, name.1, Cause::Secret)),
         Err(PutError::Unread) => {
             let fault = known(fronts.fault.take());
             Err(Failure::NewFile(name.0, name.1, fault))
@@ -211,7 +211,7 @@ fn told<'a>(
     match written {
         Ok(Written::Settled) => Ok(()),
         Ok(Written::Unsettled) => Err(Failure::Unsettled(path, end, fault)),
-        Err(WriteError::NotRegular) => { Err(Failure::NewTold(path, end, Cause::NotRegular)) }
+        Err(WriteError::NotRegular) => Err(Failure::NewTold(path, end, Cause::NotRegular)),
         Err(WriteError::Taken) => Err(Failure::NewTold(path, end, Cause::Exists)),
         Err(WriteError::Failed) => Err(Failure::NewFile(path, end, fault)),
         Err(WriteError::Left) => Err(Failure::Left(path, end, fault)),
