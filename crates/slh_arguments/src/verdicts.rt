@@ -8,9 +8,9 @@ use crate::words::{mode, required, signature};
 use clap::ArgMatches;
 use slh_command::{Detail, verdict_json};
 use slh_files::{Key, Outcome};
-use slh_paths::Failure;
 use slh_paths::files::Reader;
 use slh_paths::shown::shown;
+use slh_paths::{Cause, Failure};
 use slh_readers::ReadError;
 use slh_run::ByteString;
 use slh_words::names;
@@ -134,6 +134,6 @@ pub fn read_failure(path: &str, error: ReadError) -> Failure<'_> {
     match error {
         ReadError::Read(error) => Failure::File(path, error),
         ReadError::Refused(error) => Failure::Refused(path, error),
-        ReadError::Changed => Failure::Told(path, "changed while it was read"),
+        ReadError::Changed => Failure::Told(path, Cause::Changed),
     }
 }

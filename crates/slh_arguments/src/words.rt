@@ -1,7 +1,7 @@
 //! What the words of a command stand for.
 use clap::ArgMatches;
 use slh_files::{Key, Kind, Outcome, digits_of, read_key, read_signature, read_signing_key};
-use slh_paths::{Failure, files, random};
+use slh_paths::{Cause, Failure, files, random};
 use slh_run::{ByteString, Mode};
 use slh_sets::Set;
 use slh_words::names;
@@ -38,7 +38,7 @@ pub fn required<'a>(
 ) -> Result<&'a str, Failure<'static>> {
     match words.get_str(name) {
         Some(value) => Ok(value),
-        None => Err(Failure::Told(name, "it is missing")),
+        None => Err(Failure::Told(name, Cause::Missing)),
     }
 }
 
@@ -49,7 +49,7 @@ pub fn required_all<'s, 'a>(
 ) -> Result<&'s [&'a str], Failure<'static>> {
     match words.get_strs(name) {
         Some(values) => Ok(values),
-        None => Err(Failure::Told(name, "it is missing")),
+        None => Err(Failure::Told(name, Cause::Missing)),
     }
 }
 
@@ -57,7 +57,7 @@ pub fn required_all<'s, 'a>(
 pub fn set_of(words: &ArgMatches<'_>) -> Result<Set, Failure<'static>> {
     match Set::from_name(required(words, names::SET)?.as_bytes()) {
         Some(set) => Ok(set),
-        None => Err(Failure::Told("--set", "no such set")),
+        None => Err(Failure::Told("--set", Cause::NoSet)),
     }
 }
 
@@ -86,7 +86,7 @@ pub fn check_output<'a>(
         if let Some(input) = words.get_str(name)
             && files::are_one(rt, input, output)
         {
-            return Err(Failure::Told(input, "the output would be written over it"));
+            return Err(Failure::Told(input, Cause::OverInput));
         }
     }
     Ok(())
@@ -97,7 +97,7 @@ pub fn mode(words: &ArgMatches<'_>) -> Result<Mode, Failure<'static>> {
     match words.get_str(names::PREHASH) {
         Some("sha256") => Ok(Mode::Sha256),
         Some("sha512") => Ok(Mode::Sha512),
-        Some(_) => Err(Failure::Told("--prehash", "no such hash")),
+        Some(_) => Err(Failure::Told("--prehash", Cause::NoHash)),
         None => Ok(Mode::Pure),
     }
 }
@@ -138,7 +138,7 @@ pub fn verifying_key<'a>(rt: &HostRuntime, words: &ArgMatches<'a>) -> Result<Key
     let Some(text) = words.get_str(names::KEY_TEXT) else {
         return match words.get_str(names::KEY) {
             Some(path) => key_of_kind(rt, Kind::Verifying, path),
-            None => Err(Failure::Told("--key", "it is missing, and so is --key-text")),
+            None => Err(Failure::Told("--key", Cause::KeyMissing)),
         };
     };
     match read_key(rt.alloc(), Kind::Verifying, text.as_bytes()) {
@@ -168,7 +168,7 @@ fn named_or_beside<'a>(
         return Ok((path, ""));
     }
     match required(words, names::FILE)? {
-        files::STANDARD => Err(Failure::Told(option, "standard input has none beside it")),
+        files::STANDARD => Err(Failure::Told(option, Cause::NothingBeside)),
         path => Ok((path, end)),
     }
 }

@@ -14,7 +14,7 @@ use slh_arguments::{
 };
 use slh_files::{Key, Outcome};
 use slh_paths::files::{self, FromStart, Reader};
-use slh_paths::{Failure, outputs};
+use slh_paths::{Cause, Failure, outputs};
 use slh_readers::{ReadError, sign_digest, sign_twice};
 use slh_run::{ByteString, Error, Mode, Verdict};
 use slh_words::names;
@@ -47,10 +47,7 @@ fn check_signature_output<'a>(
         return Ok(());
     }
     if files::is_stream(rt, path) {
-        return Err(Failure::Told(
-            path,
-            "no regular file: --output says where its signature goes",
-        ));
+        return Err(Failure::Told(path, Cause::NowhereBeside));
     }
     let output = format!(in rt.alloc(); "{path}{SIGNATURE_END}")?;
     check_output(rt, words, &[names::KEY, names::FILE], output.as_str())

@@ -11,7 +11,7 @@ use slh_command::{
 };
 use slh_files::{Key, Outcome};
 use slh_paths::files::{self, FileId};
-use slh_paths::{Failure, outputs};
+use slh_paths::{Cause, Failure, outputs};
 use slh_run::ByteString;
 use slh_words::names;
 use std::alloc::AllocError;
@@ -43,7 +43,7 @@ impl<'s, 'a> Receipts for Beside<'s, 'a> {
 
     fn take(&mut self, receipt: &[u8]) -> Result<(), Failure<'a>> {
         let Some(path) = self.paths.get(self.count) else {
-            return Err(Failure::Told("the batch", "it has a receipt and no file for it"));
+            return Err(Failure::Told("the batch", Cause::NoReceiptFile));
         };
         outputs::put_beside(self.rt, *path, RECEIPT_END, receipt)?;
         self.count = self.count.saturating_add(1);
@@ -53,11 +53,11 @@ impl<'s, 'a> Receipts for Beside<'s, 'a> {
 
 fn batch_failure<'a>(path: &'a str, error: BatchError) -> Failure<'a> {
     match error {
-        BatchError::Message => Failure::Told(path, "it has more than 2^60 bytes"),
-        BatchError::Full => Failure::Told(path, "a batch holds 2^20 files"),
-        BatchError::Empty => Failure::Told(path, "it has no files"),
-        BatchError::Randomizer => Failure::Told(path, "the randomizer has a wrong length"),
-        BatchError::Index => Failure::Told(path, "it has no such file"),
+        BatchError::Message => Failure::Told(path, Cause::MessageTooLong),
+        BatchError::Full => Failure::Told(path, Cause::BatchFull),
+        BatchError::Empty => Failure::Told(path, Cause::BatchEmpty),
+        BatchError::Randomizer => Failure::Told(path, Cause::RandomizerLength),
+        BatchError::Index => Failure::Told(path, Cause::NoSuchFile),
         BatchError::Memory => Failure::Memory,
     }
 }
@@ -94,14 +94,14 @@ fn check_names<'a>(
     let ids = ids_of(rt, paths)?;
     for path in paths {
         if *path == files::STANDARD {
-            return Err(Failure::Told(*path, "a file of a batch has a name, for its receipt"));
+            return Err(Failure::Told(*path, Cause::NeedsName));
         }
         let output = format!(in rt.alloc(); "{path}{RECEIPT_END}")?;
         check_output(rt, words, &[names::KEY], output.as_str())?;
         if let Some(id) = FileId::of(rt, output.as_str())
             && ids.binary_search(&id).is_ok()
         {
-            return Err(Failure::Told(*path, "its receipt would be written over a file"));
+            return Err(Failure::Told(*path, Cause::ReceiptOverFile));
         }
     }
     Ok(())
@@ -131,7 +131,7 @@ fn check_head<'a>(
     for path in paths {
         let receipt = format!(in rt.alloc(); "{path}{RECEIPT_END}")?;
         if files::are_one(rt, head, *path) || are_one_place(rt, head, receipt.as_str())? {
-            return Err(Failure::Told(head, "it is one of the files, or the receipt of one"));
+            return Err(Failure::Told(head, Cause::HeadOverFile));
         }
     }
     Ok(())
@@ -219,9 +219,7 @@ fn verify_under<'a>(
         Err(UnderHeadError::Head(HeadError::Invalid)) => {
             report(rt, words, Outcome::Invalid, Detail::Nothing)
         }
-        Err(UnderHeadError::Head(HeadError::Form)) => {
-            Err(Failure::Told(path, "not a head of the key's set"))
-        }
+        Err(UnderHeadError::Head(HeadError::Form)) => Err(Failure::Told(path, Cause::NotHead)),
     }
 }
 
@@ -239,8 +237,8 @@ fn tell_accepted<'a>(
         Err(ReceiptError::Invalid) => report(rt, words, Outcome::Invalid, Detail::Nothing),
         Err(ReceiptError::Form) => {
             let (path, end) = file.name;
-            Err(Failure::NewTold(path, end, "not a receipt of the key's set"))
+            Err(Failure::NewTold(path, end, Cause::NotReceipt))
         }
-        Err(ReceiptError::Message) => Err(Failure::Told(file.file, "it has more than 2^60 bytes")),
+        Err(ReceiptError::Message) => Err(Failure::Told(file.file, Cause::MessageTooLong)),
     }
 }

@@ -9,7 +9,7 @@ use slh_chain::{ChainError, LinkError};
 use slh_command::{Detail, LinkText, WalkError, last_key, links_of, new_link};
 use slh_files::{Key, Kind, Outcome, digits_of};
 use slh_paths::shown::shown;
-use slh_paths::{Failure, files, outputs};
+use slh_paths::{Cause, Failure, files, outputs};
 use slh_run::ByteString;
 use slh_sets::Set;
 use slh_words::names;
@@ -24,7 +24,7 @@ fn chain<'a>(rt: &HostRuntime, path: &'a str) -> Result<ByteString, Failure<'a>>
         None => file,
     };
     if links.is_empty() {
-        return Err(Failure::Told(path, "an empty file, not a chain"));
+        return Err(Failure::Told(path, Cause::EmptyChain));
     }
     Ok(links)
 }
@@ -42,7 +42,7 @@ pub fn delegate<'a>(rt: &HostRuntime, words: &ArgMatches<'a>) -> Result<Outcome,
 // The chain with the new link.
 fn delegated<'a>(rt: &HostRuntime, words: &ArgMatches<'a>) -> Result<ByteString, Failure<'a>> {
     let Some(depth) = words.get_one::<u8>(names::DEPTH) else {
-        return Err(Failure::Told("--depth", "it is missing"));
+        return Err(Failure::Told("--depth", Cause::Missing));
     };
     let key = signing_key(rt, words)?;
     let subject = subject_of(rt, words, key.set)?;
@@ -62,7 +62,7 @@ fn subject_of<'a>(rt: &HostRuntime, words: &ArgMatches<'a>, set: Set) -> Result<
     let path = required(words, names::SUBJECT)?;
     let subject = key_of_kind(rt, Kind::Verifying, path)?;
     if subject.set != set {
-        return Err(Failure::Told(path, "a key of another set than the one that delegates"));
+        return Err(Failure::Told(path, Cause::OtherSet));
     }
     Ok(subject)
 }
@@ -88,9 +88,9 @@ fn link_of(
     let (bytes, other) = (key.bytes.as_slice(), subject.bytes.as_slice());
     match new_link(rt.alloc(), key.set, bytes, name, depth, other, random) {
         Ok(link) => Ok(link),
-        Err(LinkError::Name) => Err(Failure::Told("--name", "it has 1 to 64 bytes")),
-        Err(LinkError::Depth) => Err(Failure::Told("--depth", "it is 0 to 15")),
-        Err(LinkError::Randomizer) => Err(Failure::Told("--key", "a wrong randomizer")),
+        Err(LinkError::Name) => Err(Failure::Told("--name", Cause::LinkName)),
+        Err(LinkError::Depth) => Err(Failure::Told("--depth", Cause::Depth)),
+        Err(LinkError::Randomizer) => Err(Failure::Told("--key", Cause::Randomizer)),
         Err(LinkError::Memory) => Err(Failure::Memory),
     }
 }
@@ -112,11 +112,9 @@ fn walk_failure<'a>(path: &'a str, error: WalkError) -> Failure<'a> {
         WalkError::Memory => return Failure::Memory,
     };
     match error {
-        ChainError::Form(i) => Failure::BadLink(path, "cut short, or no link", i),
-        ChainError::Budget(i) => {
-            Failure::BadLink(path, "deeper than the one before lets it be", i)
-        }
-        ChainError::Invalid(i) => Failure::BadLink(path, "not signed by the key before it", i),
+        ChainError::Form(i) => Failure::BadLink(path, Cause::NoLink, i),
+        ChainError::Budget(i) => Failure::BadLink(path, Cause::TooDeep, i),
+        ChainError::Invalid(i) => Failure::BadLink(path, Cause::NotByKeyBefore, i),
     }
 }
 
@@ -181,8 +179,8 @@ pub fn acting_key<'a>(
     }
     match key_at_end(rt, words) {
         Ok(key) => Ok(Some(key)),
-        Err(Failure::BadLink(path, text, i)) => {
-            let failure = Failure::BadLink(path, text, i);
+        Err(Failure::BadLink(path, cause, i)) => {
+            let failure = Failure::BadLink(path, cause, i);
             let _ = eprintln!(rt; "slh: {failure}");
             Ok(None)
         }

@@ -7,25 +7,23 @@ use slh_files::Outcome;
 use slh_manifest::{BuildError, Builder, CheckError, MAX_ENTRIES};
 use slh_paths::folder::{Folder, Found, names_below};
 use slh_paths::shown::shown;
-use slh_paths::{Failure, files, outputs};
+use slh_paths::{Cause, Failure, files, outputs};
 use slh_words::names;
 use std::alloc::{AllocError, Global};
 use std::{fs, io, str};
 use whole_files::is_part;
 
-const UNREADABLE: &str = "it can't be read";
-
-fn build_text(error: BuildError) -> &'static str {
+fn cause_of(error: BuildError) -> Cause {
     match error {
-        BuildError::Name => "its name has more than 255 bytes",
-        BuildError::Full => "more than 4096 files",
-        BuildError::Fault => UNREADABLE,
-        BuildError::Missing => "it is gone",
-        BuildError::TooLarge => "it has more than 2^32 bytes",
-        BuildError::Empty => "no files",
-        BuildError::Signature => "a wrong signature",
-        BuildError::Randomizer => "a wrong randomizer",
-        BuildError::Memory => "out of memory",
+        BuildError::Name => Cause::NameTooLong,
+        BuildError::Full => Cause::FolderFull,
+        BuildError::Fault => Cause::Unreadable,
+        BuildError::Missing => Cause::Gone,
+        BuildError::TooLarge => Cause::TooLarge,
+        BuildError::Empty => Cause::NoFiles,
+        BuildError::Signature => Cause::SignatureLength,
+        BuildError::Randomizer => Cause::Randomizer,
+        BuildError::Memory => Cause::Memory,
     }
 }
 
@@ -34,7 +32,7 @@ fn folder_path<'a>(rt: &HostRuntime, words: &ArgMatches<'a>) -> Result<&'a str, 
     let path = required(words, names::FOLDER)?;
     match fs::metadata(rt, path) {
         Ok(found) if found.is_dir() => Ok(path),
-        Ok(_) => Err(Failure::Told(path, "not a folder")),
+        Ok(_) => Err(Failure::Told(path, Cause::NotFolder)),
         Err(error) => Err(Failure::File(path, error)),
     }
 }
@@ -63,13 +61,13 @@ fn names_for<'a>(
 ) -> Result<Vec<String>, Failure<'a>> {
     let names = found_below(rt, path, Found::Regular)?;
     if names.len() > MAX_ENTRIES {
-        return Err(Failure::Told(path, build_text(BuildError::Full)));
+        return Err(Failure::Told(path, cause_of(BuildError::Full)));
     }
     for name in &names {
         check_name(rt, path, name.as_str())?;
         let below = format!(in rt.alloc(); "{path}/{name}")?;
         if files::are_one(rt, below.as_str(), output) {
-            return Err(Failure::Told(output, "it is one of the files below the folder"));
+            return Err(Failure::Told(output, Cause::BelowFolder));
         }
     }
     Ok(names)
@@ -83,7 +81,7 @@ fn check_name<'a>(rt: &HostRuntime, path: &'a str, name: &str) -> Result<(), Fai
     };
     if is_part(last) {
         let name = shown(rt.alloc(), name.as_bytes())?;
-        return Err(Failure::Entry(path, name, "a file that slh began to write: remove it"));
+        return Err(Failure::Entry(path, name, Cause::Part));
     }
     Ok(())
 }
@@ -129,9 +127,9 @@ fn entry_failure<'a>(
     fault: Option<io::Error>,
 ) -> Failure<'a> {
     match (error, fault) {
-        (BuildError::Full, _) => Failure::Told(path, build_text(error)),
+        (BuildError::Full, _) => Failure::Told(path, cause_of(error)),
         (BuildError::Fault, Some(fault)) => Failure::EntryFile(path, name, fault),
-        _ => Failure::Entry(path, name, build_text(error)),
+        _ => Failure::Entry(path, name, cause_of(error)),
     }
 }
 
@@ -158,7 +156,7 @@ fn sealed<'a>(
     let random = randomness.of_set(key.set);
     match seal_manifest(rt.alloc(), key.set, key.bytes.as_slice(), entries, random) {
         Ok(manifest) => Ok(manifest),
-        Err(error) => Err(Failure::Told(path, build_text(error))),
+        Err(error) => Err(Failure::Told(path, cause_of(error))),
     }
 }
 
@@ -223,7 +221,7 @@ pub fn check<'a>(rt: &HostRuntime, words: &ArgMatches<'a>) -> Result<Outcome, Fa
     checked.store.clear_progress();
     match checked.answer {
         Ok(()) => tell_unnamed(rt, words, first_unnamed(manifest.as_slice(), &others)),
-        Err(CheckError::Form) => Err(Failure::Told(path, "not a manifest of the key's set")),
+        Err(CheckError::Form) => Err(Failure::Told(path, Cause::NotManifest)),
         Err(CheckError::Fault) => Err(fault_failure(rt.alloc(), below, checked.store)?),
         Err(CheckError::Invalid) => report(rt, words, Outcome::Invalid, Detail::Nothing),
         Err(CheckError::Missing(i)) => {
@@ -258,7 +256,7 @@ fn fault_failure<'a>(
     let name = shown(alloc, folder.name())?;
     Ok(match folder.fault {
         Some(fault) => Failure::EntryFile(path, name, fault),
-        None => Failure::Entry(path, name, UNREADABLE),
+        None => Failure::Entry(path, name, Cause::Unreadable),
     })
 }
 

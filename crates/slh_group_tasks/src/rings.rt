@@ -7,7 +7,7 @@ use line_serve::push_hex_line;
 use slh_arguments::{check_inputs, check_output, required, required_all, set_of, write_pair};
 use slh_command::{MAX_MASTER, RecordError, key_at, record_of, restored_paths};
 use slh_files::{Key, Outcome, digits_of};
-use slh_paths::{Failure, files, outputs, random};
+use slh_paths::{Cause, Failure, files, outputs, random};
 use slh_ring::{Path, RestoreError, RingError};
 use slh_run::ByteString;
 use slh_sets::Set;
@@ -20,7 +20,7 @@ fn master<'a>(rt: &HostRuntime, words: &ArgMatches<'a>) -> Result<ByteString, Fa
     let file = files::read_limited(rt, path)?;
     match digits_of(rt.alloc(), file.as_slice())? {
         Some(bytes) if !bytes.is_empty() && bytes.len() <= MAX_MASTER => Ok(bytes),
-        _ => Err(Failure::Told(path, "not a master secret in hexadecimal")),
+        _ => Err(Failure::Told(path, Cause::NotMaster)),
     }
 }
 
@@ -28,7 +28,7 @@ fn master<'a>(rt: &HostRuntime, words: &ArgMatches<'a>) -> Result<ByteString, Fa
 pub fn make_master<'a>(rt: &HostRuntime, words: &ArgMatches<'a>) -> Result<Outcome, Failure<'a>> {
     let path = required(words, names::FILE)?;
     if path == files::STANDARD {
-        return Err(Failure::Told(path, "a master goes to a file of mode 600"));
+        return Err(Failure::Told(path, Cause::MasterNeedsFile));
     }
     let mut line = ByteString::new(rt.alloc());
     push_hex_line(&mut line, b"", &random::<32>(rt)?)?;
@@ -66,8 +66,8 @@ fn record_failure<'a>(texts: &[&'a str], error: RecordError) -> Failure<'a>
 
 fn ring_failure<'a>(text: &'a str, error: RingError) -> Failure<'a> {
     match error {
-        RingError::Present => Failure::Told(text, "it stands twice"),
-        RingError::Full => Failure::Told(text, "a ring has 64 paths"),
+        RingError::Present => Failure::Told(text, Cause::Twice),
+        RingError::Full => Failure::Told(text, Cause::RingFull),
         RingError::Memory => Failure::Memory,
     }
 }
@@ -129,16 +129,14 @@ fn record_at<'a>(rt: &HostRuntime, path: &'a str) -> Result<(Set, ByteString), F
     let file = files::read_limited(rt, path)?;
     match record_in(rt.alloc(), file.as_slice())? {
         Some(found) => Ok(found),
-        None => Err(Failure::Told(path, "not a line SET RECORD")),
+        None => Err(Failure::Told(path, Cause::NotRecord)),
     }
 }
 
 fn restore_failure<'a>(path: &'a str, error: RestoreError) -> Failure<'a> {
     match error {
-        RestoreError::Form => Failure::Told(path, "not a record of its set"),
-        RestoreError::Mismatch(i) => {
-            Failure::ToldAt(path, "not of this master, or changed: path", i)
-        }
+        RestoreError::Form => Failure::Told(path, Cause::NotOfItsSet),
+        RestoreError::Mismatch(i) => Failure::ToldAt(path, Cause::OtherMaster, i),
         RestoreError::Memory => Failure::Memory,
     }
 }

@@ -11,17 +11,14 @@ use merkle_tree::{Sha256, TreeHash};
 use slh_arguments::{Randomness, required, required_all, signing_key};
 use slh_files::{Key, KeyFileError, Outcome};
 use slh_log::{Checkpoint, CheckpointError};
-use slh_paths::{Failure, files};
+use slh_paths::{Cause, Failure, files};
 use slh_run::ByteString;
 use slh_words::names;
 
 // Why a checkpoint isn't made. The randomizer has as many bytes as its set's have.
 fn unsigned(error: CheckpointError) -> Failure<'static> {
     match error {
-        CheckpointError::Origin => Failure::Told(
-            "--origin",
-            "not 1 to 255 bytes without spaces, plus signs and control characters",
-        ),
+        CheckpointError::Origin => Failure::Told("--origin", Cause::Origin),
         CheckpointError::Randomizer | CheckpointError::Memory => Failure::Memory,
     }
 }
@@ -66,10 +63,8 @@ pub fn init<'s, 'a>(
 fn push<'a>(log: &mut Appending<Sha256>, path: &'a str, entry: &[u8]) -> Result<(), Failure<'a>> {
     match log.push(entry) {
         Ok(()) => Ok(()),
-        Err(AppendError::TooLong) => {
-            Err(Failure::Told(path, "an entry of more than 65535 bytes"))
-        }
-        Err(AppendError::Full) => Err(Failure::Told(path, "the log is full")),
+        Err(AppendError::TooLong) => Err(Failure::Told(path, Cause::EntryTooLong)),
+        Err(AppendError::Full) => Err(Failure::Told(path, Cause::LogFull)),
         Err(AppendError::Memory) => Err(Failure::Memory),
     }
 }

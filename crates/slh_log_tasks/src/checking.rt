@@ -12,10 +12,8 @@ use slh_arguments::{report, verifying_key};
 use slh_command::Detail;
 use slh_files::Outcome;
 use slh_log::OpenError;
-use slh_paths::{Failure, Progress};
+use slh_paths::{Cause, Failure, Progress};
 use slh_words::names;
-
-const BENT: &str = "not the tile of these entries: missing, cut or bent";
 
 // Compares the last tile of a level with its file.
 fn check_tile<'a>(
@@ -30,7 +28,7 @@ fn check_tile<'a>(
     };
     let bytes = folder.tile(tile)?;
     if bytes.as_slice() != tiles.last_bytes(level) {
-        return Err(folder.bad_tile(tile, BENT));
+        return Err(folder.bad_tile(tile, Cause::OtherTile));
     }
     Ok(())
 }

@@ -4,11 +4,9 @@ ghost use Rattle.std.specs.Prelude.{◌≤◌, IfOk, length};
 use crate::log_folder::LogFolder;
 use log_tiles::{Bundle, Entries, FULL, MAX_ENTRY_LEN};
 use merkle_tree::{DIGEST_LEN, Sha256, TreeHash};
-use slh_paths::Failure;
+use slh_paths::{Cause, Failure};
 
 // What is told of a bundle that has other entries than its tile, or that isn't cut into so many.
-const BENT: &str = "not the entries of this log: cut or bent";
-
 /// The digests of the entries of a bundle.
 #[derive(Drop)]
 pub struct Leaves {
@@ -48,7 +46,7 @@ pub fn leaves_of<'a>(
             _ => break,
         }
     }
-    Err(folder.bad_bundle(bundle, BENT))
+    Err(folder.bad_bundle(bundle, Cause::OtherEntries))
 }
 
 /// The bundle with the entry at an index of a log of `size` entries.
@@ -79,7 +77,7 @@ pub fn entry_at<'b, 'a>(
     }
     match entries.next_entry() {
         Ok(Some(entry)) if entry.len() <= MAX_ENTRY_LEN => Ok(entry),
-        _ => Err(folder.bad_bundle(bundle, BENT)),
+        _ => Err(folder.bad_bundle(bundle, Cause::OtherEntries)),
     }
 }
 
@@ -92,7 +90,7 @@ pub fn checked_bundle<'a>(
     let bytes = folder.bundle(bundle)?;
     let leaves = leaves_of(folder, bundle, bytes.as_slice())?;
     if leaves.as_slice().as_flattened() != hashes {
-        return Err(folder.bad_bundle(bundle, BENT));
+        return Err(folder.bad_bundle(bundle, Cause::OtherEntries));
     }
     Ok(Vec::from_slice(folder.rt.alloc(), bytes.as_slice())?)
 }

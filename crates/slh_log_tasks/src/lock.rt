@@ -3,13 +3,11 @@ use crate::log_folder::{LOCK, LogFolder};
 use log_files::{Piece, free_lock, take_lock};
 use slh_files::Outcome;
 use slh_paths::files::read_front;
-use slh_paths::{Failure, random};
+use slh_paths::{Cause, Failure, random};
 use std::alloc::AllocError;
 use std::fs;
 use std::io::{self, ErrorKind};
 use whole_files::{HostFiles, WriteError, part_name};
-
-const HELD: &str = "writes to this log; if it doesn't run any more, remove this file";
 
 // The most bytes of a lock that are shown.
 const MAX_TEXT: u64 = 256;
@@ -44,7 +42,7 @@ fn held<'a>(folder: LogFolder<'_, 'a>, path: &str) -> Failure<'a> {
         Err(error) => return folder.failed(LOCK, error),
     };
     match format!(in alloc; "{LOCK}: {text}") {
-        Ok(name) => Failure::Entry(folder.path, name, HELD),
+        Ok(name) => Failure::Entry(folder.path, name, Cause::Held),
         Err(_) => Failure::Memory,
     }
 }

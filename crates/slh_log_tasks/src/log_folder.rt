@@ -3,8 +3,8 @@ use clap::ArgMatches;
 use log_tiles::{Bundle, MAX_ENTRY_LEN, NameError, Tile, TileSource};
 use slh_arguments::required;
 use slh_log::{Checkpoint, read_unverified};
-use slh_paths::Failure;
 use slh_paths::files::read_front;
+use slh_paths::{Cause, Failure};
 use slh_run::ByteString;
 use slh_words::names;
 use std::alloc::AllocError;
@@ -55,9 +55,9 @@ impl<'s, 'a> LogFolder<'s, 'a> {
     }
 
     /// What is wrong with a file below the folder.
-    pub fn told(&self, name: &str, text: &'static str) -> Failure<'a> {
+    pub fn told(&self, name: &str, cause: Cause) -> Failure<'a> {
         match String::from_str(self.rt.alloc(), name) {
-            Ok(name) => Failure::Entry(self.path, name, text),
+            Ok(name) => Failure::Entry(self.path, name, cause),
             Err(_) => Failure::Memory,
         }
     }
@@ -81,15 +81,15 @@ impl<'s, 'a> LogFolder<'s, 'a> {
         let bytes = match self.front(CHECKPOINT, MAX_CHECKPOINT) {
             Ok(bytes) => bytes,
             Err(error) if error.kind() == ErrorKind::NotFound => {
-                return Err(Failure::Told(self.path, "no log: it has no checkpoint"));
+                return Err(Failure::Told(self.path, Cause::NoLog));
             }
             Err(error) => return Err(self.failed(CHECKPOINT, error)),
         };
         let Some((origin, checkpoint)) = read_unverified(bytes.as_slice()) else {
-            return Err(self.told(CHECKPOINT, "not a checkpoint"));
+            return Err(self.told(CHECKPOINT, Cause::NotCheckpoint));
         };
         let Ok(origin) = str::from_utf8(origin) else {
-            return Err(self.told(CHECKPOINT, "its origin is not UTF-8"));
+            return Err(self.told(CHECKPOINT, Cause::OriginText));
         };
         let origin = String::from_str(self.rt.alloc(), origin)?;
         Ok(Head {
@@ -138,17 +138,17 @@ impl<'s, 'a> LogFolder<'s, 'a> {
     }
 
     /// What is wrong with a bundle.
-    pub fn bad_bundle(&self, bundle: Bundle, text: &'static str) -> Failure<'a> {
+    pub fn bad_bundle(&self, bundle: Bundle, cause: Cause) -> Failure<'a> {
         match bundle.path(self.rt.alloc()) {
-            Ok(name) => self.told(name.as_str(), text),
+            Ok(name) => self.told(name.as_str(), cause),
             Err(_) => Failure::Memory,
         }
     }
 
     /// What is wrong with a tile.
-    pub fn bad_tile(&self, tile: Tile, text: &'static str) -> Failure<'a> {
+    pub fn bad_tile(&self, tile: Tile, cause: Cause) -> Failure<'a> {
         match tile.path(self.rt.alloc()) {
-            Ok(name) => self.told(name.as_str(), text),
+            Ok(name) => self.told(name.as_str(), cause),
             Err(_) => Failure::Memory,
         }
     }

@@ -8,26 +8,23 @@ use log_tiles::{TileError, prove_growth, prove_presence};
 use merkle_tree::{Sha256, TreeHash};
 use slh_files::Outcome;
 use slh_log::decimal_size;
-use slh_paths::{Failure, files, outputs};
+use slh_paths::{Cause, Failure, files, outputs};
 use slh_words::names;
 
 // The number of these words.
 fn number_of<'a>(name: &'static str, word: &'a str) -> Result<u64, Failure<'a>> {
     match decimal_size(word.as_bytes()) {
         Some(number) => Ok(number),
-        None => Err(Failure::Told(name, "not a number in decimal")),
+        None => Err(Failure::Told(name, Cause::NotDecimal)),
     }
 }
 
 // Why there is no proof.
 fn unproved<'a>(folder: LogFolder<'_, 'a>, error: TileError) -> Failure<'a> {
     match error {
-        TileError::Range => Failure::Told(folder.path, "the log has no such entry or size"),
-        TileError::Tile(tile) => folder.bad_tile(tile, "no tile of this log: missing or cut"),
-        TileError::Differs => Failure::Told(
-            folder.path,
-            "its tiles and entries don't give the root of its checkpoint: one is bent",
-        ),
+        TileError::Range => Failure::Told(folder.path, Cause::NoEntryOrSize),
+        TileError::Tile(tile) => folder.bad_tile(tile, Cause::NoTile),
+        TileError::Differs => Failure::Told(folder.path, Cause::BentLog),
         TileError::Memory => Failure::Memory,
     }
 }
@@ -41,7 +38,7 @@ fn presence<'a>(
     let alloc = folder.rt.alloc();
     let (size, root) = (head.checkpoint.size, head.checkpoint.root);
     if index >= size {
-        return Err(Failure::Told("INDEX", "the log has no such entry"));
+        return Err(Failure::Told("INDEX", Cause::NoEntry));
     }
     let bundle = bundle_of(index, size);
     let bytes = folder.bundle(bundle)?;
@@ -71,7 +68,7 @@ fn growth<'a>(
     let alloc = folder.rt.alloc();
     let (size, root) = (head.checkpoint.size, head.checkpoint.root);
     if old_size == 0 || old_size > size {
-        return Err(Failure::Told("--from", "not a size from 1 to the log's"));
+        return Err(Failure::Told("--from", Cause::NoSize));
     }
     let old_root = last_tiles(folder, old_size, size)?.root();
     let proved = prove_growth::<Sha256, LogFolder<'_, '_>>(
@@ -96,7 +93,7 @@ pub fn prove<'a>(rt: &HostRuntime, words: &ArgMatches<'a>) -> Result<Outcome, Fa
     let proof = match (words.get_str(names::INDEX), words.get_str(names::FROM)) {
         (Some(index), None) => presence(folder, &head, number_of("INDEX", index)?)?,
         (None, Some(size)) => growth(folder, &head, number_of("--from", size)?)?,
-        _ => return Err(Failure::Told("INDEX", "it or --from is needed, and not both")),
+        _ => return Err(Failure::Told("INDEX", Cause::IndexOrSize)),
     };
     let output = words.get_str(names::OUTPUT).unwrap_or(files::STANDARD);
     outputs::put(rt, output, proof.as_slice())?;

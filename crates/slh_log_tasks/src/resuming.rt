@@ -7,11 +7,7 @@ use log_files::Appending;
 use log_tiles::{FULL, GrowingTiles, LEVELS, Tile, hash_count, last_bundle, last_tile};
 use merkle_tree::{DIGEST_LEN, Sha256};
 use slh_log::Checkpoint;
-use slh_paths::Failure;
-
-const CUT: &str = "not a tile of this log: cut or bent";
-
-const OTHER_ROOT: &str = "its tiles don't give the root of its checkpoint: one of them is bent";
+use slh_paths::{Cause, Failure};
 
 // The tile of a log of `size` entries with an index of a level.
 fn file_of(level: u32, index: u64, size: u64) -> Tile
@@ -47,10 +43,10 @@ fn put_tile<'a>(
     let mut hashes = [[0; DIGEST_LEN]; FULL as usize];
     let (width, whole) = (tile.width as usize, file.width as usize);
     if whole > hashes.len() || width > whole {
-        return Err(folder.bad_tile(file, CUT));
+        return Err(folder.bad_tile(file, Cause::CutTile));
     }
     if bytes.len() != DIGEST_LEN * whole {
-        return Err(folder.bad_tile(file, CUT));
+        return Err(folder.bad_tile(file, Cause::CutTile));
     }
     hashes[..whole]
         .as_flattened_mut()
@@ -58,7 +54,7 @@ fn put_tile<'a>(
     if tiles.put_tile(level, &hashes[..width]) {
         Ok(())
     } else {
-        Err(folder.bad_tile(file, CUT))
+        Err(folder.bad_tile(file, Cause::CutTile))
     }
 }
 
@@ -85,7 +81,7 @@ pub fn resume<'a>(
     let alloc = folder.rt.alloc();
     let tiles = last_tiles(folder, checkpoint.size, checkpoint.size)?;
     if tiles.root() != checkpoint.root {
-        return Err(Failure::Told(folder.path, OTHER_ROOT));
+        return Err(Failure::Told(folder.path, Cause::BentTiles));
     }
     let bundle = match last_bundle(checkpoint.size) {
         Some(bundle) if bundle.width < FULL => {

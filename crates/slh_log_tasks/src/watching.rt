@@ -9,19 +9,17 @@ use slh_arguments::{report, required, verifying_key};
 use slh_command::Detail;
 use slh_files::{Key, Outcome};
 use slh_log::{GrowthError, OpenError, PresenceError, read_unverified};
-use slh_paths::{Failure, files};
+use slh_paths::{Cause, Failure, files};
 use slh_words::names;
 use std::alloc::Global;
-
-const LENGTH: &str = "too long or too short for these sizes";
 
 /// Why a checkpoint isn't opened, where that is no verdict.
 pub fn refused_head<'a>(path: &'a str, error: OpenError) -> Failure<'a> {
     match error {
-        OpenError::Form => Failure::Told(path, "not a checkpoint"),
-        OpenError::Origin => Failure::Told(path, "a checkpoint of another origin"),
-        OpenError::Unsigned => Failure::Told(path, "not signed by this key under this origin"),
-        OpenError::Invalid => Failure::Told(path, "the signature of its checkpoint is invalid"),
+        OpenError::Form => Failure::Told(path, Cause::NotCheckpoint),
+        OpenError::Origin => Failure::Told(path, Cause::OtherOrigin),
+        OpenError::Unsigned => Failure::Told(path, Cause::Unsigned),
+        OpenError::Invalid => Failure::Told(path, Cause::InvalidHead),
     }
 }
 
@@ -69,8 +67,8 @@ fn proof_of<'b, 'a>(
         Ok(proof) => Ok(proof),
         Err(ProofError::Memory) => Err(Failure::Memory),
         Err(ProofError::Form) => match purpose {
-            Purpose::Presence => Err(Failure::Told(path, "not the proof of an entry")),
-            Purpose::Growth => Err(Failure::Told(path, "not a proof of growth")),
+            Purpose::Presence => Err(Failure::Told(path, Cause::NotPresence)),
+            Purpose::Growth => Err(Failure::Told(path, Cause::NotGrowth)),
         },
     }
 }
@@ -117,13 +115,15 @@ fn outcome_of_entry<'a>(
         Ok(()) => Ok(Outcome::Accepted),
         Err(EntryError::Head(error)) => outcome_of_head(head, error),
         Err(EntryError::Path(PresenceError::Invalid)) => Ok(Outcome::Invalid),
-        Err(EntryError::Path(PresenceError::Index)) => {
-            Err(Failure::Told(proof, "its index is none of the log's"))
-        }
-        Err(EntryError::Path(PresenceError::Length)) => Err(Failure::Told(proof, LENGTH)),
-        Err(EntryError::Path(PresenceError::Entry)) => {
-            Err(Failure::Told(file, "it has more than 2^60 bytes"))
-        }
+        Err(EntryError::Path(PresenceError::Index)) => Err(Failure::Told(proof, Cause::OtherIndex)),
+        Err(EntryError::Path(PresenceError::Length)) => Err(Failure::Told(
+            proof,
+            Cause::ProofLength,
+        )),
+        Err(EntryError::Path(PresenceError::Entry)) => Err(Failure::Told(
+            file,
+            Cause::MessageTooLong,
+        )),
     }
 }
 
@@ -144,7 +144,7 @@ pub fn growth<'a>(rt: &HostRuntime, words: &ArgMatches<'a>) -> Result<Outcome, F
         && let Some((_, head)) = read_unverified(old_bytes)
         && head.size != proof.number
     {
-        return Err(Failure::Told(path, "a proof from another size than the old checkpoint's"));
+        return Err(Failure::Told(path, Cause::OtherSize));
     }
     let outcome = outcome_of_growth(old, new, path, checked)?;
     report(rt, words, outcome, Detail::Nothing)
@@ -165,12 +165,8 @@ fn outcome_of_growth<'a>(
         Err(LogError::Old(error)) => outcome_of_head(old, error),
         Err(LogError::New(error)) => outcome_of_head(new, error),
         Err(LogError::Proof(GrowthError::Invalid)) => Ok(Outcome::Invalid),
-        Err(LogError::Proof(GrowthError::Empty)) => {
-            Err(Failure::Told(old, "it has no entries, and every log grew from it"))
-        }
-        Err(LogError::Proof(GrowthError::Smaller)) => {
-            Err(Failure::Told(new, "it has fewer entries than the old checkpoint"))
-        }
-        Err(LogError::Proof(GrowthError::Length)) => Err(Failure::Told(proof, LENGTH)),
+        Err(LogError::Proof(GrowthError::Empty)) => Err(Failure::Told(old, Cause::EmptyOld)),
+        Err(LogError::Proof(GrowthError::Smaller)) => Err(Failure::Told(new, Cause::Smaller)),
+        Err(LogError::Proof(GrowthError::Length)) => Err(Failure::Told(proof, Cause::ProofLength)),
     }
 }

@@ -4,16 +4,10 @@ ghost use Rattle.std.specs.Prelude.{◌≢◌, IfOk, string_bytes};
 use crate::lock::fault_of;
 use crate::log_folder::{CHECKPOINT, LogFolder};
 use log_files::{FolderError, LogFile, Piece, PublishError, are_separate, make_folder, publish};
-use slh_paths::{Failure, random};
+use slh_paths::{Cause, Failure, random};
 use std::alloc::AllocError;
 use std::io::{self, ErrorKind};
 use whole_files::{HostFiles, WriteError, Written, make_new, part_name};
-
-const NOT_REGULAR: &str = "a link or no regular file, which is not replaced";
-
-const SAME_NAME: &str = "the name of a file that is being written";
-
-const TAKEN: &str = "File exists, and stays";
 
 // The two names of a file.
 #[derive(Drop)]
@@ -41,7 +35,7 @@ pub fn need_folder<'a>(folder: LogFolder<'_, 'a>, name: &str) -> Result<(), Fail
     let mut files = HostFiles::new(folder.rt);
     match make_folder(&mut files, path.as_str()) {
         Ok(()) => Ok(()),
-        Err(FolderError::NoFolder) => Err(folder.told(name, "a link or no folder")),
+        Err(FolderError::NoFolder) => Err(folder.told(name, Cause::NoFolder)),
         Err(_) => Err(folder.failed(name, fault_of(&mut files))),
     }
 }
@@ -81,8 +75,8 @@ fn refused<'a>(
     fault: io::Error,
 ) -> Failure<'a> {
     match error {
-        WriteError::NotRegular => folder.told(name, NOT_REGULAR),
-        WriteError::Taken => folder.told(name, TAKEN),
+        WriteError::NotRegular => folder.told(name, Cause::NotRegular),
+        WriteError::Taken => folder.told(name, Cause::Exists),
         WriteError::Failed | WriteError::Left => folder.failed(name, fault),
     }
 }
@@ -102,7 +96,7 @@ pub fn make_checkpoint<'a>(folder: LogFolder<'_, 'a>, bytes: &[u8]) -> Result<()
             "/checkpoint",
             fault_of(&mut files),
         )),
-        Err(WriteError::Taken) => Err(Failure::Told(folder.path, "there is a log already")),
+        Err(WriteError::Taken) => Err(Failure::Told(folder.path, Cause::LogExists)),
         Err(error) => {
             let fault = fault_of(&mut files);
             Err(refused(folder, CHECKPOINT, error, fault))
@@ -156,10 +150,10 @@ fn publish_pieces<'a>(
     head: &Piece<'_>,
 ) -> Result<(), Failure<'a>> {
     if !are_separate(pieces) {
-        return Err(Failure::Told(folder.path, SAME_NAME));
+        return Err(Failure::Told(folder.path, Cause::BeingWritten));
     }
     if head.part == head.path {
-        return Err(Failure::Told(folder.path, SAME_NAME));
+        return Err(Failure::Told(folder.path, Cause::BeingWritten));
     }
     let mut files = HostFiles::new(folder.rt);
     let published = publish(&mut files, pieces, head);

@@ -1,4 +1,5 @@
 //! What is told on standard error.
+use crate::cause::Cause;
 use slh_files::KeyFileError;
 use slh_run::Error;
 use slh_sets::Set;
@@ -32,7 +33,7 @@ pub enum Failure<'a> {
     /// A file of this name and this ending can't be made or read.
     NewFile(&'a str, &'static str, io::Error),
     /// What is wrong with a file of this name and this ending.
-    NewTold(&'a str, &'static str, &'static str),
+    NewTold(&'a str, &'static str, Cause),
     /// A file couldn't be made, and what was begun couldn't be removed.
     Left(&'a str, &'static str, io::Error),
     /// A file was written whole, but its folder wasn't brought to the disk.
@@ -54,17 +55,17 @@ pub enum Failure<'a> {
     /// A job with a file was refused.
     Refused(&'a str, Error),
     /// A link of a chain isn't good: its number from 0.
-    BadLink(&'a str, &'static str, u32),
+    BadLink(&'a str, Cause, u32),
     /// The words are no path of a ring.
     Path(&'a str),
     /// What is wrong with a file.
-    Told(&'a str, &'static str),
+    Told(&'a str, Cause),
     /// What is wrong with a file below a folder.
-    Entry(&'a str, String, &'static str),
+    Entry(&'a str, String, Cause),
     /// A file below a folder can't be read.
     EntryFile(&'a str, String, io::Error),
     /// What is wrong with a part of a file, counted from 0.
-    ToldAt(&'a str, &'static str, u32),
+    ToldAt(&'a str, Cause, u32),
     /// The signature that was made isn't the key's own.
     Fault(&'a str),
     /// There are no random bytes.
@@ -89,7 +90,10 @@ impl fmt::Display for Failure<'_> {
             Failure::TwoInputs => f.write_str("only one file can be standard input"),
             Failure::File(path, error) => write!(f, "{path}: {error}"),
             Failure::NewFile(name, end, error) => write!(f, "{name}{end}: {error}"),
-            Failure::NewTold(name, end, text) => write!(f, "{name}{end}: {text}"),
+            Failure::NewTold(name, end, cause) => {
+                let text = cause.text();
+                write!(f, "{name}{end}: {text}")
+            }
             Failure::Left(name, end, error) => write!(f, "{name}{end}: {error}; {LEFT}"),
             Failure::Unsettled(name, end, error) => write!(f, "{name}{end}: {UNSETTLED}: {error}"),
             Failure::Key(path, error) => {
@@ -113,12 +117,24 @@ impl fmt::Display for Failure<'_> {
                 let text = job_text(*error);
                 write!(f, "{path}: {text}")
             }
-            Failure::BadLink(path, text, i) => write!(f, "{path}: link {i}: {text}"),
+            Failure::BadLink(path, cause, i) => {
+                let text = cause.text();
+                write!(f, "{path}: link {i}: {text}")
+            }
             Failure::Path(text) => write!(f, "{text}: not up to 8 numbers with slashes, or ."),
-            Failure::Told(path, text) => write!(f, "{path}: {text}"),
-            Failure::Entry(folder, name, text) => write!(f, "{folder}/{name}: {text}"),
+            Failure::Told(path, cause) => {
+                let text = cause.text();
+                write!(f, "{path}: {text}")
+            }
+            Failure::Entry(folder, name, cause) => {
+                let text = cause.text();
+                write!(f, "{folder}/{name}: {text}")
+            }
             Failure::EntryFile(folder, name, error) => write!(f, "{folder}/{name}: {error}"),
-            Failure::ToldAt(path, text, number) => write!(f, "{path}: {text} {number}"),
+            Failure::ToldAt(path, cause, number) => {
+                let text = cause.text();
+                write!(f, "{path}: {text} {number}")
+            }
             Failure::Fault(path) => write!(f, "{path}: {FAULT}"),
             Failure::Random(error) => write!(f, "no random bytes: {error}"),
             Failure::Output(error) => write!(f, "standard output: {error}"),

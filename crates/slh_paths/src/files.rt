@@ -1,5 +1,6 @@
 //! Inputs: the file that is signed is read in pieces or whole, and each other one whole, up to a
 //! limit.
+use crate::cause::Cause;
 use crate::failure::Failure;
 use crate::progress::Progress;
 use slh_files::gather;
@@ -144,9 +145,7 @@ pub fn read_beside<'a>(
         read_front(rt, name.as_str(), MOST + 1)
     };
     match read {
-        Ok(bytes) if bytes.len() as u64 > MOST => {
-            Err(Failure::NewTold(path, end, "more than 2^24 bytes, which no such file has"))
-        }
+        Ok(bytes) if bytes.len() as u64 > MOST => Err(Failure::NewTold(path, end, Cause::TooLong)),
         Ok(bytes) => Ok(bytes),
         Err(error) => Err(Failure::NewFile(path, end, error)),
     }

@@ -6,6 +6,7 @@
 //! and the files below a folder are a store that follows no link ([`folder`]).
 #![tactic(auto)]
 
+mod cause;
 mod failure;
 pub mod files;
 pub mod folder;
@@ -16,6 +17,7 @@ mod secrets;
 pub mod shown;
 mod whole_outputs;
 
+pub use cause::Cause;
 pub use failure::Failure;
 pub use progress::Progress;
 pub use randomness::random;

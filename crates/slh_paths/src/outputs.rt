@@ -1,6 +1,7 @@
 //! Outputs on the system: each file is written whole or not at all, and no secret is replaced.
 ghost use Rattle.std.specs.Prelude.{◌≢◌, IfOk, string_bytes};
 
+use crate::cause::Cause;
 use crate::failure::Failure;
 use crate::files::{STANDARD, read_front};
 use crate::randomness::random;
@@ -135,9 +136,7 @@ fn put_at<'a>(
     match put_whole(alloc, &mut files, &mut fronts, path, part, bytes) {
         Ok(written) => told(name, Ok(written), files.fault.take()),
         Err(PutError::Write(error)) => told(name, Err(error), files.fault.take()),
-        Err(PutError::Secret) => {
-            Err(Failure::NewTold(name.0, name.1, "a secret, which is not replaced"))
-        }
+        Err(PutError::Secret) => Err(Failure::NewTold(name.0, name.1, Cause::Secret)),
         Err(PutError::Unread) => {
             let fault = known(fronts.fault.take());
             Err(Failure::NewFile(name.0, name.1, fault))
@@ -184,7 +183,7 @@ pub fn put_pair<'a>(
     let (kp, ks) = (key_path.as_str(), key_part.as_str());
     let (pp, ps) = (public_path.as_str(), public_part.as_str());
     if !are_apart(kp, ks, pp, ps) {
-        return Err(Failure::Told(name, "the name of a file that is being written"));
+        return Err(Failure::Told(name, Cause::BeingWritten));
     }
     let mut files = HostFiles::new(rt);
     let made = make_pair(&mut files, kp, ks, secret, pp, ps, public);
@@ -212,14 +211,8 @@ fn told<'a>(
     match written {
         Ok(Written::Settled) => Ok(()),
         Ok(Written::Unsettled) => Err(Failure::Unsettled(path, end, fault)),
-        Err(WriteError::NotRegular) => {
-            Err(Failure::NewTold(
-                path,
-                end,
-                "a link or no regular file, which is not replaced",
-            ))
-        }
-        Err(WriteError::Taken) => Err(Failure::NewTold(path, end, "File exists, and stays")),
+        Err(WriteError::NotRegular) => Err(Failure::NewTold(path, end, Cause::NotRegular)),
+        Err(WriteError::Taken) => Err(Failure::NewTold(path, end, Cause::Exists)),
         Err(WriteError::Failed) => Err(Failure::NewFile(path, end, fault)),
         Err(WriteError::Left) => Err(Failure::Left(path, end, fault)),
     }
