@@ -1,8 +1,7 @@
 //! Why something that a command was given doesn't do: each message, once.
+use std::fmt;
 
-/// What is wrong with an input, an output or a word. [`text`] tells it.
-///
-/// [`text`]: Cause::text
+/// What is wrong with an input, an output or a word.
 #[derive(Clone, Copy)]
 pub enum Cause {
     // inputs, outputs and words
@@ -95,8 +94,8 @@ pub enum Cause {
 }
 
 impl Cause {
-    /// What is told of it. (It is a table, and so longer than other functions.)
-    pub fn text(self) -> &'static str {
+    // What is told of it. (It is a table, and so longer than other functions.)
+    fn text(self) -> &'static str {
         match self {
             Cause::Missing => "it is missing",
             Cause::KeyMissing => "it is missing, and so is --key-text",
@@ -182,5 +181,11 @@ impl Cause {
             Cause::EmptyOld => "it has no entries, and every log grew from it",
             Cause::Smaller => "it has fewer entries than the old checkpoint",
         }
+    }
+}
+
+impl fmt::Display for Cause {
+    fn fmt<W: fmt::Write>(&self, f: &mut fmt::Formatter<W>) -> fmt::Result {
+        f.write_str(self.text())
     }
 }

@@ -90,19 +90,12 @@ impl fmt::Display for Failure<'_> {
             Failure::TwoInputs => f.write_str("only one file can be standard input"),
             Failure::File(path, error) => write!(f, "{path}: {error}"),
             Failure::NewFile(name, end, error) => write!(f, "{name}{end}: {error}"),
-            Failure::NewTold(name, end, cause) => {
-                let text = cause.text();
-                write!(f, "{name}{end}: {text}")
-            }
+            Failure::NewTold(name, end, cause) => write!(f, "{name}{end}: {cause}"),
             Failure::Left(name, end, error) => write!(f, "{name}{end}: {error}; {LEFT}"),
             Failure::Unsettled(name, end, error) => write!(f, "{name}{end}: {UNSETTLED}: {error}"),
-            Failure::Key(path, error) => {
-                let text = key_text(*error);
-                write!(f, "{path}: {text}")
-            }
+            Failure::Key(path, error) => write!(f, "{path}: {}", key_text(*error)),
             Failure::Signature(path, end, set) => {
-                let name = set.name();
-                let len = set.signature_len();
+                let (name, len) = (set.name(), set.signature_len());
                 write!(
                     f,
                     "{path}{end}: not a signature of {name}, which has {len} bytes"
@@ -113,28 +106,13 @@ impl fmt::Display for Failure<'_> {
             Failure::ReservedContext => f.write_str(RESERVED),
             Failure::ContextHex => f.write_str("--context-hex: not hexadecimal"),
             Failure::Evidence => f.write_str("--evidence: not what an audit prints"),
-            Failure::Refused(path, error) => {
-                let text = job_text(*error);
-                write!(f, "{path}: {text}")
-            }
-            Failure::BadLink(path, cause, i) => {
-                let text = cause.text();
-                write!(f, "{path}: link {i}: {text}")
-            }
+            Failure::Refused(path, error) => write!(f, "{path}: {}", job_text(*error)),
+            Failure::BadLink(path, cause, i) => write!(f, "{path}: link {i}: {cause}"),
             Failure::Path(text) => write!(f, "{text}: not up to 8 numbers with slashes, or ."),
-            Failure::Told(path, cause) => {
-                let text = cause.text();
-                write!(f, "{path}: {text}")
-            }
-            Failure::Entry(folder, name, cause) => {
-                let text = cause.text();
-                write!(f, "{folder}/{name}: {text}")
-            }
+            Failure::Told(path, cause) => write!(f, "{path}: {cause}"),
+            Failure::Entry(folder, name, cause) => write!(f, "{folder}/{name}: {cause}"),
             Failure::EntryFile(folder, name, error) => write!(f, "{folder}/{name}: {error}"),
-            Failure::ToldAt(path, cause, number) => {
-                let text = cause.text();
-                write!(f, "{path}: {text} {number}")
-            }
+            Failure::ToldAt(path, cause, number) => write!(f, "{path}: {cause} {number}"),
             Failure::Fault(path) => write!(f, "{path}: {FAULT}"),
             Failure::Random(error) => write!(f, "no random bytes: {error}"),
             Failure::Output(error) => write!(f, "standard output: {error}"),
