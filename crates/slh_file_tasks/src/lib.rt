@@ -4,6 +4,7 @@
 
 mod audits;
 mod inspecting;
+pub mod inspection;
 mod keys;
 mod signatures;
 
