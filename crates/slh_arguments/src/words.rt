@@ -19,7 +19,7 @@ const MAX_CONTEXT: usize = 255;
 const RESERVED_CONTEXTS: [&[u8]; 4] = [b"slh-batch", b"slh-chain", b"slh-log", b"slh-manifest"];
 
 /// What names an input, in any command.
-const INPUTS: [&str; 9] = [
+const INPUTS: [&str; 13] = [
     names::KEY,
     names::SIGNATURE,
     names::HEAD,
@@ -28,6 +28,10 @@ const INPUTS: [&str; 9] = [
     names::SUBJECT,
     names::MANIFEST,
     names::MASTER,
+    names::CHECKPOINT,
+    names::OLD,
+    names::NEW,
+    names::PROOF,
     names::FILE,
 ];
 

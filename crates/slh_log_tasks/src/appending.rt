@@ -1,7 +1,7 @@
 //! `slh log init` and `slh log append`.
 use crate::heads::{SignHeadError, open_head, sign_head};
 use crate::lock;
-use crate::log_folder::LogFolder;
+use crate::log_folder::{Head, LogFolder};
 use crate::resuming::resume;
 use crate::watching::refused_head;
 use crate::writing::{make_checkpoint, need_folder, write_files};
@@ -39,20 +39,28 @@ fn signed<'a>(
     }
 }
 
+// The checkpoint of no entries.
+fn first_checkpoint<'a>(
+    folder: LogFolder<'_, 'a>,
+    words: &ArgMatches<'a>,
+) -> Result<Vec<u8>, Failure<'a>> {
+    let origin = required(words, names::ORIGIN)?;
+    let key = signing_key(folder.rt, words)?;
+    let randomness = Randomness::new(folder.rt, words)?;
+    let head = Checkpoint {
+        size: 0,
+        root: Sha256::empty(),
+    };
+    signed(folder, &key, origin, head, &randomness)
+}
+
 /// Begins a log in a folder.
 pub fn init<'s, 'a>(
     rt: &'s HostRuntime,
     words: &'s ArgMatches<'a>,
 ) -> Result<Outcome, Failure<'a>> {
     let folder = LogFolder::of(rt, words)?;
-    let origin = required(words, names::ORIGIN)?;
-    let key = signing_key(rt, words)?;
-    let randomness = Randomness::new(rt, words)?;
-    let head = Checkpoint {
-        size: 0,
-        root: Sha256::empty(),
-    };
-    let checkpoint = signed(folder, &key, origin, head, &randomness)?;
+    let checkpoint = first_checkpoint(folder, words)?;
     need_folder(folder, "")?;
     lock::take(folder)?;
     let made = make_checkpoint(folder, checkpoint.as_slice());
@@ -106,29 +114,42 @@ fn own_public(key: &Key) -> &[u8] {
     &bytes[bytes.len() / 2..]
 }
 
-// Adds the files to the log of a folder, whose lock is held.
-fn append_to<'a>(
+// What a log's head says, where the key signed it.
+fn own_checkpoint<'a>(
+    folder: LogFolder<'_, 'a>,
+    key: &Key,
+    head: &Head,
+) -> Result<Checkpoint, Failure<'a>> {
+    let (origin, bytes) = (head.origin.as_str(), head.bytes.as_slice());
+    match open_head(key.set, own_public(key), origin, bytes) {
+        Ok(checkpoint) => Ok(checkpoint),
+        Err(error) => Err(refused_head(folder.path, error)),
+    }
+}
+
+// The log of a checkpoint with the files added.
+fn grown<'a>(
     folder: LogFolder<'_, 'a>,
     words: &ArgMatches<'a>,
-    key: &Key,
-    randomness: &Randomness,
+    checkpoint: &Checkpoint,
     paths: &[&'a str],
-) -> Result<(), Failure<'a>> {
-    let head = folder.head()?;
-    let origin = head.origin.as_str();
-    let opened = open_head(key.set, own_public(key), origin, head.bytes.as_slice());
-    let checkpoint = match opened {
-        Ok(checkpoint) => checkpoint,
-        Err(error) => return Err(refused_head(folder.path, error)),
-    };
-    let mut log = resume(folder, &checkpoint)?;
+) -> Result<Appending<Sha256>, Failure<'a>> {
+    let mut log = resume(folder, checkpoint)?;
     let is_lines = words.get_flag(names::LINES);
     for path in paths {
         push_file(folder, &mut log, *path, is_lines)?;
     }
-    if log.len() == checkpoint.size {
-        return Ok(());
-    }
+    Ok(log)
+}
+
+// Signs the head of a log that grew, and writes its files.
+fn publish<'a>(
+    folder: LogFolder<'_, 'a>,
+    key: &Key,
+    origin: &str,
+    randomness: &Randomness,
+    log: Appending<Sha256>,
+) -> Result<(), Failure<'a>> {
     let head = Checkpoint {
         size: log.len(),
         root: log.root(),
@@ -138,6 +159,23 @@ fn append_to<'a>(
         Ok(log_files) => write_files(folder, log_files.as_slice(), checkpoint.as_slice()),
         Err(_) => Err(Failure::Memory),
     }
+}
+
+// Adds the files to the log of a folder, whose lock is held.
+fn append_to<'a>(
+    folder: LogFolder<'_, 'a>,
+    words: &ArgMatches<'a>,
+    key: &Key,
+    randomness: &Randomness,
+    paths: &[&'a str],
+) -> Result<(), Failure<'a>> {
+    let head = folder.head()?;
+    let checkpoint = own_checkpoint(folder, key, &head)?;
+    let log = grown(folder, words, &checkpoint, paths)?;
+    if log.len() == checkpoint.size {
+        return Ok(());
+    }
+    publish(folder, key, head.origin.as_str(), randomness, log)
 }
 
 // Refuses words by which more than one file is standard input.

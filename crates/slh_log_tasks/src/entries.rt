@@ -6,7 +6,6 @@ use log_tiles::{Bundle, Entries, FULL, MAX_ENTRY_LEN};
 use merkle_tree::{DIGEST_LEN, Sha256, TreeHash};
 use slh_paths::{Cause, Failure};
 
-// What is told of a bundle that has other entries than its tile, or that isn't cut into so many.
 /// The digests of the entries of a bundle.
 #[derive(Drop)]
 pub struct Leaves {

@@ -11,6 +11,7 @@ mod appending;
 mod checking;
 mod commands;
 mod entries;
+mod file_names;
 pub mod heads;
 mod lock;
 mod log_folder;

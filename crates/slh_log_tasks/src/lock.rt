@@ -1,13 +1,14 @@
 //! One writer at a time.
+use crate::file_names::names_of;
 use crate::log_folder::{LOCK, LogFolder};
 use log_files::{Piece, free_lock, take_lock};
 use slh_files::Outcome;
 use slh_paths::files::read_front;
-use slh_paths::{Cause, Failure, random};
+use slh_paths::{Cause, Failure};
 use std::alloc::AllocError;
 use std::fs;
 use std::io::{self, ErrorKind};
-use whole_files::{HostFiles, WriteError, part_name};
+use whole_files::{HostFiles, WriteError};
 
 // The most bytes of a lock that are shown.
 const MAX_TEXT: u64 = 256;
@@ -49,23 +50,17 @@ fn held<'a>(folder: LogFolder<'_, 'a>, path: &str) -> Failure<'a> {
 
 /// Takes the lock of a folder.
 pub fn take<'a>(folder: LogFolder<'_, 'a>) -> Result<(), Failure<'a>> {
-    let rt = folder.rt;
-    let path = folder.path_of(LOCK)?;
-    let part = part_name(
-        rt.alloc(),
-        path.as_str(),
-        u64::from_be_bytes(random::<8>(rt)?),
-    )?;
-    let text = own_text(rt)?;
+    let names = names_of(folder, LOCK)?;
+    let text = own_text(folder.rt)?;
     let lock = Piece {
-        path: path.as_str(),
-        part: part.as_str(),
+        path: names.path.as_str(),
+        part: names.part.as_str(),
         bytes: text.as_bytes(),
     };
-    let mut files = HostFiles::new(rt);
+    let mut files = HostFiles::new(folder.rt);
     match take_lock(&mut files, &lock) {
         Ok(()) => Ok(()),
-        Err(WriteError::Taken) => Err(held(folder, path.as_str())),
+        Err(WriteError::Taken) => Err(held(folder, names.path.as_str())),
         Err(_) => Err(folder.failed(LOCK, fault_of(&mut files))),
     }
 }

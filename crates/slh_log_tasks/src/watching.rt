@@ -5,7 +5,7 @@ ghost use Rattle.slh_files.specs.declared.outcome.Outcome.TheVariants.{Accepted,
 use crate::proof_files::{Proof, ProofError, Purpose, read_proof};
 use crate::verdicts::{EntryError, LogError, Signer, check_entry, check_log};
 use clap::ArgMatches;
-use slh_arguments::{report, required, verifying_key};
+use slh_arguments::{check_inputs, report, required, verifying_key};
 use slh_command::Detail;
 use slh_files::{Key, Outcome};
 use slh_log::{GrowthError, OpenError, PresenceError, read_unverified};
@@ -31,20 +31,6 @@ fn outcome_of_head<'a>(path: &'a str, error: OpenError) -> Result<Outcome, Failu
         OpenError::Invalid => Ok(Outcome::Invalid),
         error => Err(refused_head(path, error)),
     }
-}
-
-// Refuses words by which more than one of these files is standard input.
-fn check_standard(words: &ArgMatches<'_>, names: &[&str]) -> Result<(), Failure<'static>> {
-    let mut count = 0u8;
-    for name in names {
-        if words.get_str(name) == Some(files::STANDARD) {
-            count = count.saturating_add(1);
-        }
-    }
-    if count > 1 {
-        return Err(Failure::TwoInputs);
-    }
-    Ok(())
 }
 
 // The signer with a key and an origin.
@@ -76,29 +62,36 @@ fn proof_of<'b, 'a>(
 /// Tells whether a file is an entry of a log, by a proof and a checkpoint: that of `--checkpoint`,
 /// or the one that stands in the proof.
 pub fn verify<'a>(rt: &HostRuntime, words: &ArgMatches<'a>) -> Result<Outcome, Failure<'a>> {
-    check_standard(
-        words,
-        &[names::KEY, names::CHECKPOINT, names::PROOF, names::FILE],
-    )?;
+    check_inputs(words)?;
     let key = verifying_key(rt, words)?;
+    let signer = signer_of(&key, required(words, names::ORIGIN)?);
+    let path = required(words, names::PROOF)?;
+    let bytes = files::read_limited(rt, path)?;
+    let proof = proof_of(rt.alloc(), path, Purpose::Presence, bytes.as_slice())?;
+    let outcome = presence(rt, words, signer, &proof)?;
+    report(rt, words, outcome, Detail::Nothing)
+}
+
+// What a proof shows of the file that is an entry.
+fn presence<'a>(
+    rt: &HostRuntime,
+    words: &ArgMatches<'a>,
+    signer: Signer<'_>,
+    proof: &Proof<'_>,
+) -> Result<Outcome, Failure<'a>> {
     let (path, file) = (
         required(words, names::PROOF)?,
         required(words, names::FILE)?,
     );
-    let signer = signer_of(&key, required(words, names::ORIGIN)?);
-    let bytes = files::read_limited(rt, path)?;
-    let proof = proof_of(rt.alloc(), path, Purpose::Presence, bytes.as_slice())?;
     let entry = files::read_limited(rt, file)?;
     let (number, digests) = (proof.number, proof.digests.as_slice());
-    let outcome = if let Some(head) = words.get_str(names::CHECKPOINT) {
-        let bytes = files::read_limited(rt, head)?;
-        let checked = check_entry(signer, bytes.as_slice(), number, entry.as_slice(), digests);
-        outcome_of_entry(head, path, file, checked)?
-    } else {
+    let Some(head) = words.get_str(names::CHECKPOINT) else {
         let checked = check_entry(signer, proof.checkpoint, number, entry.as_slice(), digests);
-        outcome_of_entry(path, path, file, checked)?
+        return outcome_of_entry(path, path, file, checked);
     };
-    report(rt, words, outcome, Detail::Nothing)
+    let bytes = files::read_limited(rt, head)?;
+    let checked = check_entry(signer, bytes.as_slice(), number, entry.as_slice(), digests);
+    outcome_of_entry(head, path, file, checked)
 }
 
 // What is told of an entry, by the paths of the checkpoint, the proof and the entry.
@@ -129,25 +122,42 @@ fn outcome_of_entry<'a>(
 
 /// Tells whether a log grew from an old checkpoint to a new one, and kept all entries.
 pub fn growth<'a>(rt: &HostRuntime, words: &ArgMatches<'a>) -> Result<Outcome, Failure<'a>> {
-    check_standard(words, &[names::KEY, names::OLD, names::NEW, names::PROOF])?;
+    check_inputs(words)?;
     let key = verifying_key(rt, words)?;
-    let (old, new) = (required(words, names::OLD)?, required(words, names::NEW)?);
-    let path = required(words, names::PROOF)?;
     let signer = signer_of(&key, required(words, names::ORIGIN)?);
-    let old_bytes = files::read_limited(rt, old)?;
-    let new_bytes = files::read_limited(rt, new)?;
+    let old = files::read_limited(rt, required(words, names::OLD)?)?;
+    let new = files::read_limited(rt, required(words, names::NEW)?)?;
+    let outcome = growth_between(rt, words, signer, old.as_slice(), new.as_slice())?;
+    report(rt, words, outcome, Detail::Nothing)
+}
+
+// Whether a checkpoint says another size.
+fn has_other_size(checkpoint: &[u8], size: u64) -> bool {
+    match read_unverified(checkpoint) {
+        Some((_, head)) => head.size != size,
+        None => false,
+    }
+}
+
+// What the proof shows of the growth between two checkpoints.
+fn growth_between<'a>(
+    rt: &HostRuntime,
+    words: &ArgMatches<'a>,
+    signer: Signer<'_>,
+    old: &[u8],
+    new: &[u8],
+) -> Result<Outcome, Failure<'a>> {
+    let path = required(words, names::PROOF)?;
     let bytes = files::read_limited(rt, path)?;
     let proof = proof_of(rt.alloc(), path, Purpose::Growth, bytes.as_slice())?;
-    let (old_bytes, new_bytes) = (old_bytes.as_slice(), new_bytes.as_slice());
-    let checked = check_log(signer, old_bytes, new_bytes, proof.digests.as_slice());
+    let checked = check_log(signer, old, new, proof.digests.as_slice());
     if let Ok(()) | Err(LogError::Proof(_)) = checked
-        && let Some((_, head)) = read_unverified(old_bytes)
-        && head.size != proof.number
+        && has_other_size(old, proof.number)
     {
         return Err(Failure::Told(path, Cause::OtherSize));
     }
-    let outcome = outcome_of_growth(old, new, path, checked)?;
-    report(rt, words, outcome, Detail::Nothing)
+    let (old, new) = (required(words, names::OLD)?, required(words, names::NEW)?);
+    outcome_of_growth(old, new, path, checked)
 }
 
 // What is told of a growth, by the paths of the checkpoints and the proof.

@@ -1,29 +1,12 @@
 //! Files of a log that are written, and the checkpoint last.
-ghost use Rattle.std.specs.Prelude.{◌≢◌, IfOk, string_bytes};
-
+use crate::file_names::{Names, names_of};
 use crate::lock::fault_of;
 use crate::log_folder::{CHECKPOINT, LogFolder};
 use log_files::{FolderError, LogFile, Piece, PublishError, are_separate, make_folder, publish};
-use slh_paths::{Cause, Failure, random};
-use std::alloc::AllocError;
+use slh_paths::{Cause, Failure};
+use std::alloc::{AllocError, Global};
 use std::io::{self, ErrorKind};
-use whole_files::{HostFiles, WriteError, Written, make_new, part_name};
-
-// The two names of a file.
-#[derive(Drop)]
-struct Names {
-    path: String,
-    part: String,
-}
-
-fn names_of<'a>(folder: LogFolder<'_, 'a>, name: &str) -> Result<Names, Failure<'a>>
-    ensures { IfOk result (λ names. string_bytes names.part ≢ string_bytes names.path) }
-{
-    let path = folder.path_of(name)?;
-    let number = u64::from_be_bytes(random::<8>(folder.rt)?);
-    let part = part_name(folder.rt.alloc(), path.as_str(), number)?;
-    Ok(Names { path, part })
-}
+use whole_files::{HostFiles, WriteError, Written, make_new};
 
 /// Makes a folder below the folder of a log, or this one where the name is empty.
 pub fn need_folder<'a>(folder: LogFolder<'_, 'a>, name: &str) -> Result<(), Failure<'a>> {
@@ -83,13 +66,10 @@ fn refused<'a>(
 
 /// Makes the checkpoint of a new log, where nothing stands.
 pub fn make_checkpoint<'a>(folder: LogFolder<'_, 'a>, bytes: &[u8]) -> Result<(), Failure<'a>> {
-    let rt = folder.rt;
-    let path = folder.path_of(CHECKPOINT)?;
-    let number = u64::from_be_bytes(random::<8>(rt)?);
-    let part = part_name(rt.alloc(), path.as_str(), number)?;
-    let mut files = HostFiles::new(rt);
+    let names = names_of(folder, CHECKPOINT)?;
+    let mut files = HostFiles::new(folder.rt);
     let mode = whole_files::Mode::Masked;
-    match make_new(&mut files, path.as_str(), part.as_str(), mode, bytes) {
+    match make_new(&mut files, names.path.as_str(), names.part.as_str(), mode, bytes) {
         Ok(Written::Settled) => Ok(()),
         Ok(Written::Unsettled) => Err(Failure::Unsettled(
             folder.path,
@@ -111,21 +91,27 @@ fn name_at(log_files: &[LogFile], i: usize) -> &str {
     }
 }
 
-/// Writes files whole, in their order, and then the checkpoint.
-pub fn write_files<'a>(
+// The names of files.
+fn all_names<'a>(
     folder: LogFolder<'_, 'a>,
     log_files: &[LogFile],
-    checkpoint: &[u8],
-) -> Result<(), Failure<'a>> {
-    need_folders(folder, log_files)?;
+) -> Result<Vec<Names>, Failure<'a>> {
     let mut names = Vec::new(folder.rt.alloc());
     for file in log_files {
         names
             .push(names_of(folder, file.name.as_str())?)
             .map_err(AllocError::from)?;
     }
-    let head = names_of(folder, CHECKPOINT)?;
-    let mut pieces = Vec::new(folder.rt.alloc());
+    Ok(names)
+}
+
+// The pieces that files with these names are.
+fn pieces_of<'f>(
+    alloc: Global,
+    log_files: &'f [LogFile],
+    names: &'f [Names],
+) -> Result<Vec<Piece<'f>>, AllocError> {
+    let mut pieces = Vec::new(alloc);
     for (file, names) in log_files.iter().zip(names.iter()) {
         let piece = Piece {
             path: names.path.as_str(),
@@ -134,6 +120,19 @@ pub fn write_files<'a>(
         };
         pieces.push(piece).map_err(AllocError::from)?;
     }
+    Ok(pieces)
+}
+
+/// Writes files whole, in their order, and then the checkpoint.
+pub fn write_files<'a>(
+    folder: LogFolder<'_, 'a>,
+    log_files: &[LogFile],
+    checkpoint: &[u8],
+) -> Result<(), Failure<'a>> {
+    need_folders(folder, log_files)?;
+    let names = all_names(folder, log_files)?;
+    let pieces = pieces_of(folder.rt.alloc(), log_files, names.as_slice())?;
+    let head = names_of(folder, CHECKPOINT)?;
     let head = Piece {
         path: head.path.as_str(),
         part: head.part.as_str(),
