@@ -79,6 +79,39 @@ is_built() {
     [ -z "$line" ] || [ "$line" = "$built_by" ]
 }
 
+# keep_built MADE FILE SUM: keeps as FILE what was made of sources of this sum
+keep_built() {
+    mkdir -p "${2%/*}" || return 1
+    # without FILE.of it isn't built: so an interrupt leaves no program beside another one's
+    rm -f "$2.of"
+    cp "$1" "$2.new" && mv "$2.new" "$2" && echo "$3 $(toolchain)" >"$2.of"
+}
+
+# copy_for ROW: sets `copy` to a new folder with the crates that a row of crates.txt stands on, and what
+# is proved of them, for a crate that the gate has no place for. Its own folder there is empty.
+copy_for() {
+    copy=$(mktemp -d)
+    trap 'rm -rf "$copy"' EXIT
+    trap 'exit 1' HUP INT TERM
+    mkdir -p "$copy/crates/${1%%[: ]*}"
+    cp "$top/HANDLES" "$copy"
+    for need in ${1#*:}; do rows_below "$need"; done | LC_ALL=C sort -u >"$copy/crates.txt"
+    sed 's/[: ].*//' "$copy/crates.txt" | while read -r it; do
+        cp -Rp "$top/crates/$it" "$copy/crates" || exit 1
+    done
+    echo "$1" >>"$copy/crates.txt"
+}
+
+# The checksum of all sources in `copy`.
+copy_sum() (
+    cd "$copy" || exit 1
+    {
+        cat crates.txt
+        find crates -name out -prune -o -type f \( -name '*.rt' -o -name '*.antt' \) -print |
+            LC_ALL=C sort | xargs sha256sum
+    } | sha256sum | cut -d ' ' -f 1
+)
+
 # can_write FOLDER: whether something can be made in its out/
 can_write() {
     mkdir -p "$1/out" 2>/dev/null && [ -w "$1/out" ]
@@ -115,11 +148,12 @@ build() {
             say 'a source was edited meanwhile: call it once more'
             exit 1
         }
-        # without NAME.of it isn't built: so an interrupt leaves no program beside another one's
-        rm -f "$4.of"
         # the object of a program, for who links it in another way
-        if [ -f "out/$3.o" ]; then cp "out/$3.o" "$4.o"; fi
-        cp "out/$3" "$4.new" && mv "$4.new" "$4" && echo "$of $(toolchain)" >"$4.of"
+        if [ -f "out/$3.o" ]; then
+            rm -f "$4.of"
+            cp "out/$3.o" "$4.o" || exit 1
+        fi
+        keep_built "out/$3" "$4" "$of"
     ) 9>"$top/out/lock"
 }
 
