@@ -1,6 +1,5 @@
 //! Reading the blocks of a generator, on values worked by hand.
 
-use crate::buffer_bytes::array_of;
 use block_buffer::{BlockGen, ReadBuffer};
 use hybrid_array::ArrayMut;
 use hybrid_array::sizes::U4;
@@ -49,22 +48,6 @@ fn a_read_buffer_is_its_position_zeros_and_unread_bytes(rt: HostRuntime) {
     assert!(rt; is_serialized_as(rt.alloc(), &[2, 0, 6, 7]));
 }
 
-fn reads_cached(buffer: &mut ReadBuffer<U4>, n: usize, expected: &[u8]) -> bool {
-    buffer.read_cached(n) == expected
-}
-
-fn reads_cached_bytes_once() -> bool {
-    let mut buffer = with_two_unread();
-    reads_cached(&mut buffer, 1, &[6])
-        && reads_cached(&mut buffer, 9, &[7])
-        && reads_cached(&mut buffer, 1, &[])
-}
-
-#[test]
-fn cached_bytes_are_read_once(rt: HostRuntime) {
-    assert!(rt; reads_cached_bytes_once());
-}
-
 // Whether the bytes count up from the first.
 fn is_counting(bytes: &[u8], first: u8) -> bool {
     let mut next = first;
@@ -105,44 +88,4 @@ fn makes_blocks_as_needed() -> bool {
 #[test]
 fn pieces_follow_one_another_and_no_block_is_made_that_is_not_needed(rt: HostRuntime) {
     assert!(rt; makes_blocks_as_needed());
-}
-
-fn replaces_unread() -> bool {
-    let mut generator = from_zero();
-    let mut buffer = ReadBuffer::<U4>::default();
-    let mut out = [9; 4];
-    buffer.write_block(&mut generator, &mut out[..1]);
-    buffer.write_block(&mut generator, &mut out[..3]);
-    out == [4, 5, 6, 9] && reads_cached(&mut buffer, 4, &[7])
-}
-
-#[test]
-fn a_written_block_replaces_what_was_unread(rt: HostRuntime) {
-    assert!(rt; replaces_unread());
-}
-
-// Whether these bytes give a read buffer with so many unread, or none.
-fn gives(alloc: Global, bytes: &[u8; 4], unread: Option<usize>) -> bool {
-    match bytes.to_vec(alloc) {
-        Ok(items) => match ReadBuffer::<U4>::deserialize(&array_of::<U4>(items)) {
-            Ok(buffer) => unread == Some(buffer.remaining()),
-            Err(_) => unread == None,
-        },
-        Err(_) => false,
-    }
-}
-
-fn gives_buffers_alone(alloc: Global) -> bool {
-    gives(alloc, &[2, 0, 6, 7], Some(2))
-        && gives(alloc, &[1, 5, 6, 7], Some(3))
-        && gives(alloc, &[4, 0, 0, 0], Some(0))
-        && gives(alloc, &[2, 1, 6, 7], None)
-        && gives(alloc, &[0, 0, 0, 0], None)
-        && gives(alloc, &[4, 0, 0, 1], None)
-        && gives(alloc, &[5, 0, 0, 0], None)
-}
-
-#[test]
-fn a_read_buffer_accepts_its_own_bytes_alone(rt: HostRuntime) {
-    assert!(rt; gives_buffers_alone(rt.alloc()));
 }

@@ -10,6 +10,4 @@ mod array_views;
 #[cfg(test)]
 mod buffer_blocks;
 #[cfg(test)]
-mod buffer_bytes;
-#[cfg(test)]
 mod buffer_reads;
