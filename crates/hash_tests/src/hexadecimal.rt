@@ -1,16 +1,26 @@
 //! Digests as text.
 
-// A digest in hexadecimal.
-fn hex(digest: &[u8; 32]) -> [u8; 64] {
-    let mut text = [0u8; 64];
-    for i in 0..32 {
-        text[2 * i] = b"0123456789abcdef"[(digest[i] / 16) as usize];
-        text[2 * i + 1] = b"0123456789abcdef"[(digest[i] % 16) as usize];
+/// Whether the text is the bytes in hexadecimal.
+pub(crate) fn is_hex(text: &str, bytes: &[u8]) -> bool {
+    let (text, digits) = (text.as_bytes(), b"0123456789abcdef");
+    let mut same = text.len() % 2 == 0 && text.len() / 2 == bytes.len();
+    for i in 0..bytes.len().min(text.len() / 2) {
+        same &= text[2 * i] == digits[(bytes[i] / 16) as usize];
+        same &= text[2 * i + 1] == digits[(bytes[i] % 16) as usize];
     }
-    text
+    same
 }
 
-// Whether the text is the digest in hexadecimal.
-pub(crate) fn is_hex(text: &[u8; 64], digest: &[u8; 32]) -> bool {
-    hex(digest) == *text
+/// Whether the lines are the digests in hexadecimal.
+pub(crate) fn are_hex<const N: usize>(lines: &str, digests: &[[u8; N]]) -> bool {
+    let mut lines = lines.lines();
+    let mut same = true;
+    for digest in digests {
+        same = same
+            && match lines.next() {
+                Some(line) => is_hex(line, digest),
+                None => false,
+            };
+    }
+    same && lines.next().is_none()
 }

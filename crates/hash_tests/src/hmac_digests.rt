@@ -5,22 +5,17 @@ ghost use Rattle.std.specs.Prelude.{◌≤◌, ◌^◌, length};
 
 use crate::hexadecimal::is_hex;
 use hmac_sha256::{HMAC, Hash};
-use std::alloc::AllocError;
 
-fn first_bytes(digest: &[u8; 32]) -> &[u8] {
-    &digest[..31]
-}
-
-fn has_digest(message: &[u8], text: &[u8; 64]) -> bool
+fn has_digest(message: &[u8], text: &str) -> bool
     requires { length message.now ≤ 2 ^ 60 }
 {
     is_hex(text, &Hash::hash(message))
 }
 
 fn are_digests_of_the_standard() -> bool {
-    let of_abc = b"ba7816bf8f01cfea414140de5dae2223b00361a396177a9cb410ff61f20015ad";
-    let of_nothing = b"e3b0c44298fc1c149afbf4c8996fb92427ae41e4649b934ca495991b7852b855";
-    let of_two_blocks = b"248d6a61d20638b8e5c026930c3e6039a33ce45964ff2167f6ecedd419db06c1";
+    let of_abc = "ba7816bf8f01cfea414140de5dae2223b00361a396177a9cb410ff61f20015ad";
+    let of_nothing = "e3b0c44298fc1c149afbf4c8996fb92427ae41e4649b934ca495991b7852b855";
+    let of_two_blocks = "248d6a61d20638b8e5c026930c3e6039a33ce45964ff2167f6ecedd419db06c1";
     let two_blocks = b"abcdbcdecdefdefgefghfghighijhijkijkljklmklmnlmnomnopnopq";
     has_digest(b"abc", of_abc)
         && has_digest(b"", of_nothing)
@@ -33,14 +28,17 @@ fn digests_of_the_standard(rt: HostRuntime) {
     assert!(rt; are_digests_of_the_standard());
 }
 
-// Byte `i` of the message is `7 * i + 3`, and each digest is that of the one before it and a
-// longer piece of the message. The last is from Python's `hashlib`.
-#[test]
-fn digests_of_all_lengths(rt: HostRuntime) {
-    let mut message = [0u8; 300];
-    for i in 0..300usize {
+// The bytes of which byte `i` is `7 * i + 3`.
+fn message() -> [u8; 4096] {
+    let mut message = [0u8; 4096];
+    for i in 0..4096usize {
         message[i] = ((7 * i + 3) % 256) as u8;
     }
+    message
+}
+
+// Of the digest before and a longer piece of the message each.
+fn digest_of_all_lengths(message: &[u8; 4096]) -> [u8; 32] {
     let mut digest = [0u8; 32];
     for n in 0..301usize {
         let mut hash = Hash::new();
@@ -48,21 +46,7 @@ fn digests_of_all_lengths(rt: HostRuntime) {
         hash.update(&message[..n / 3]);
         digest = hash.finalize_with(&message[n / 3..n]);
     }
-    assert!(rt;
-        is_hex(
-            b"ba6f82458402eac3a7efe79237fa695b92dc91244efde7f934c5b707acac8974",
-            &digest
-        )
-    );
-}
-
-// The first 4096 bytes of which byte `i` is `7 * i + 3`.
-fn long_message() -> [u8; 4096] {
-    let mut message = [0u8; 4096];
-    for i in 0..4096usize {
-        message[i] = ((7 * i + 3) % 256) as u8;
-    }
-    message
+    digest
 }
 
 // The digests of a digest and then more of a message, or the other way round, each 37 or 64 bytes
@@ -89,45 +73,24 @@ fn digest_of_blocks(message: &[u8; 4096]) -> [u8; 32] {
     digest
 }
 
-fn are_digests_of_long_messages() -> bool {
-    let of_pieces = b"c098a17709a00fe41b39d7c8ea15bd3fd02fc78a6a5c7bda8e5c70defaad8829";
-    let of_blocks = b"fca89b97d94f70774d9d82776121c16a89599b28157cc01948d003148083fa06";
-    let message = long_message();
-    is_hex(of_pieces, &digest_of_pieces(&message)) && is_hex(of_blocks, &digest_of_blocks(&message))
+fn are_digests_in_turn() -> bool {
+    let of_lengths = "ba6f82458402eac3a7efe79237fa695b92dc91244efde7f934c5b707acac8974";
+    let of_pieces = "c098a17709a00fe41b39d7c8ea15bd3fd02fc78a6a5c7bda8e5c70defaad8829";
+    let of_blocks = "fca89b97d94f70774d9d82776121c16a89599b28157cc01948d003148083fa06";
+    let message = message();
+    is_hex(of_lengths, &digest_of_all_lengths(&message))
+        && is_hex(of_pieces, &digest_of_pieces(&message))
+        && is_hex(of_blocks, &digest_of_blocks(&message))
 }
 
-// Messages of more than sixteen blocks, of which eight are taken at a time. From Python's
-// `hashlib`.
+// Messages of up to 332 bytes, and of more than sixteen blocks, of which eight are taken at a time.
+// Each digest is of the one before it, too, and the last is from Python's `hashlib`.
 #[test]
-fn digests_of_long_messages(rt: HostRuntime) {
-    assert!(rt; are_digests_of_long_messages());
+fn digests_of_all_lengths_and_of_long_messages(rt: HostRuntime) {
+    assert!(rt; are_digests_in_turn());
 }
 
-// Whether a copy of a hash takes a tail in alone.
-fn is_copy_apart() -> Result<bool, AllocError> {
-    let mut hash: Hash = Default::default();
-    hash.update(&[0x61; 64]);
-    let mut other = hash.clone()?;
-    other.update(b"tail");
-    let are_counted = other.absorbed() == 68 && hash.absorbed() == 64;
-    Ok(are_counted && hash.finalize_with(b"tail") == other.finalize())
-}
-
-// The same of a code.
-fn is_copied_code_apart() -> Result<bool, AllocError> {
-    let mac = HMAC::new(b"key");
-    let mut other = mac.clone()?;
-    other.update(b"tail");
-    let is_of_tail = other.finalize() == HMAC::mac(b"tail", b"key");
-    Ok(is_of_tail && mac.finalize() == HMAC::mac(b"", b"key"))
-}
-
-#[test]
-fn copies_go_on_apart(rt: HostRuntime) {
-    assert!(rt; is_copy_apart().unwrap_or(false) && is_copied_code_apart().unwrap_or(false));
-}
-
-fn has_code(message: &[u8], key: &[u8], text: &[u8; 64]) -> bool
+fn has_code(message: &[u8], key: &[u8], text: &str) -> bool
     requires message { length message.now ≤ 2 ^ 60 }
     requires key { length key.now ≤ 2 ^ 60 }
 {
@@ -135,9 +98,9 @@ fn has_code(message: &[u8], key: &[u8], text: &[u8; 64]) -> bool
 }
 
 fn are_codes_of_the_rfc() -> bool {
-    let case_1 = b"b0344c61d8db38535ca8afceaf0bf12b881dc200c9833da726e9376c2e32cff7";
-    let case_2 = b"5bdcc146bf60754e6a042426089575c75a003f089d2739839dec58b964ec3843";
-    let case_6 = b"60e431591ee0b67f0d8a26aacbf5b77f8e0bc6213728c5140546040f0ee37f54";
+    let case_1 = "b0344c61d8db38535ca8afceaf0bf12b881dc200c9833da726e9376c2e32cff7";
+    let case_2 = "5bdcc146bf60754e6a042426089575c75a003f089d2739839dec58b964ec3843";
+    let case_6 = "60e431591ee0b67f0d8a26aacbf5b77f8e0bc6213728c5140546040f0ee37f54";
     let long = b"Test Using Larger Than Block-Size Key - Hash Key First";
     has_code(b"Hi There", &[0x0b; 20], case_1)
         && has_code(b"what do ya want for nothing?", b"Jefe", case_2)
@@ -150,31 +113,16 @@ fn codes_of_the_rfc(rt: HostRuntime) {
     assert!(rt; are_codes_of_the_rfc());
 }
 
-fn is_code_of_two_pieces(code: &[u8; 64]) -> bool {
+fn is_code_of_two_pieces(code: &str) -> bool {
     let mut mac = HMAC::new(&[0x2a; 50]);
     mac.update(&[0x45; 150]);
     mac.update(&[0x45; 100]);
-    mac.absorbed() == 64 + 250 && is_hex(code, &mac.finalize())
-}
-
-// The codes of the Rust crate's own test.
-#[test]
-fn codes_of_the_crate(rt: HostRuntime) {
-    let code = b"709c78d856194fd29bc120787486ed0ec60140297cc4675b6dd8248504eadae4";
-    assert!(rt; has_code(&[0x45; 250], &[0x2a; 50], code) && is_code_of_two_pieces(code));
-}
-
-#[test]
-fn codes_of_no_message_and_under_no_key(rt: HostRuntime) {
-    let of_nothing = b"b613679a0814d9ec772f95d778c35fc5ff1697c493715653c6c712144292c5ad";
-    let under_nothing = b"e15823084eb9a506eb7c1cfa707c9f779f58b83d0725a6e5479a539997b5b648";
-    assert!(rt; has_code(b"", &[0; 32], of_nothing) && has_code(&[0x2a; 69], b"", under_nothing));
+    is_hex(code, &mac.finalize())
 }
 
 // Byte `i` of the key is `5 * i + 1`, and each code is that of the one before it under a longer
-// piece of the key. The last is from Python's `hmac`.
-#[test]
-fn codes_of_all_key_lengths(rt: HostRuntime) {
+// piece of the key.
+fn code_of_all_key_lengths() -> [u8; 32] {
     let mut key = [0u8; 131];
     for i in 0..131usize {
         key[i] = ((5 * i + 1) % 256) as u8;
@@ -183,58 +131,23 @@ fn codes_of_all_key_lengths(rt: HostRuntime) {
     for n in 0..132usize {
         code = HMAC::mac(&code, &key[..n]);
     }
-    assert!(rt;
-        is_hex(
-            b"fa0801af4e06a6b58fb0711aef5fdfc8f7cb108a450bdb2324f8e69cc994cfbe",
-            &code
-        )
-    );
+    code
 }
 
-fn is_whole_message_expected(digest: &[u8; 32]) -> bool {
-    Hash::verify(&[0x2a; 123], digest) && !Hash::verify(&[0x2a; 124], digest)
+fn are_codes_of_others() -> bool {
+    let of_the_crate = "709c78d856194fd29bc120787486ed0ec60140297cc4675b6dd8248504eadae4";
+    let of_nothing = "b613679a0814d9ec772f95d778c35fc5ff1697c493715653c6c712144292c5ad";
+    let under_nothing = "e15823084eb9a506eb7c1cfa707c9f779f58b83d0725a6e5479a539997b5b648";
+    let of_all = "fa0801af4e06a6b58fb0711aef5fdfc8f7cb108a450bdb2324f8e69cc994cfbe";
+    is_code_of_two_pieces(of_the_crate)
+        && has_code(b"", &[0; 32], of_nothing)
+        && has_code(&[0x2a; 69], b"", under_nothing)
+        && is_hex(of_all, &code_of_all_key_lengths())
 }
 
-fn is_hash_expected(hash: &Hash, digest: &[u8; 32]) -> bool {
-    hash.copy().finalize_verify(digest)
-        && hash.copy().verify_with_ref(digest)
-        && !hash.copy().verify_with_ref(first_bytes(digest))
-}
-
-fn is_hash_unexpected(hash: &Hash, digest: &[u8; 32]) -> bool {
-    !hash.copy().finalize_verify(digest) && !hash.copy().verify_with_ref(digest)
-}
-
-fn is_absorbed_message_expected(digest: &[u8; 32]) -> bool {
-    let mut hash = Hash::new();
-    hash.update(&[0x2a; 123]);
-    let is_expected = is_hash_expected(&hash, digest);
-    hash.update(&[0x2a]);
-    is_expected && is_hash_unexpected(&hash, digest)
-}
-
+// The code of the Rust crate's own test, and from Python's `hmac` those of no message, under no key
+// and under keys of all lengths.
 #[test]
-fn expected_digests(rt: HostRuntime) {
-    let digest = Hash::hash(&[0x2a; 123]);
-    assert!(rt; is_whole_message_expected(&digest) && is_absorbed_message_expected(&digest));
-}
-
-fn is_whole_code_expected(code: &[u8; 32]) -> bool {
-    HMAC::verify(&[0x45; 250], &[0x2a; 50], code)
-        && !HMAC::verify(&[0x45; 251], &[0x2a; 50], code)
-        && !HMAC::verify(&[0x45; 250], &[0x2b; 50], code)
-}
-
-fn is_absorbed_code_expected(code: &[u8; 32]) -> bool {
-    let mut mac = HMAC::new(&[0x2a; 50]);
-    mac.update(&[0x45; 250]);
-    let is_expected = mac.copy().finalize_verify(code);
-    mac.update(&[0x45]);
-    is_expected && !mac.finalize_verify(code)
-}
-
-#[test]
-fn expected_codes(rt: HostRuntime) {
-    let code = HMAC::mac(&[0x45; 250], &[0x2a; 50]);
-    assert!(rt; is_whole_code_expected(&code) && is_absorbed_code_expected(&code));
+fn codes_of_the_crate_and_of_python(rt: HostRuntime) {
+    assert!(rt; are_codes_of_others());
 }

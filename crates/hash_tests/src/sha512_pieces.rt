@@ -1,123 +1,36 @@
-//! SHA-512 in pieces: NIST's examples, and beside the toolchain's `sha2`.
+//! SHA-512 in pieces: NIST's examples.
 
-use sha2::{Digest, Sha512};
+use crate::hexadecimal::is_hex;
 use sha512_lanes::Hash512;
 
-// How many bytes 36 blocks have: nine batches of four.
-const MAX_LEN: usize = 4608;
-
-const DIGEST_OF_NOTHING: [u8; 64] = [
-    0xcf, 0x83, 0xe1, 0x35, 0x7e, 0xef, 0xb8, 0xbd, 0xf1, 0x54, 0x28, 0x50, 0xd6, 0x6d, 0x80, 0x07,
-    0xd6, 0x20, 0xe4, 0x05, 0x0b, 0x57, 0x15, 0xdc, 0x83, 0xf4, 0xa9, 0x21, 0xd3, 0x6c, 0xe9, 0xce,
-    0x47, 0xd0, 0xd1, 0x3c, 0x5d, 0x85, 0xf2, 0xb0, 0xff, 0x83, 0x18, 0xd2, 0x87, 0x7e, 0xec, 0x2f,
-    0x63, 0xb9, 0x31, 0xbd, 0x47, 0x41, 0x7a, 0x81, 0xa5, 0x38, 0x32, 0x7a, 0xf9, 0x27, 0xda, 0x3e,
-];
-
-const DIGEST_OF_ABC: [u8; 64] = [
-    0xdd, 0xaf, 0x35, 0xa1, 0x93, 0x61, 0x7a, 0xba, 0xcc, 0x41, 0x73, 0x49, 0xae, 0x20, 0x41, 0x31,
-    0x12, 0xe6, 0xfa, 0x4e, 0x89, 0xa9, 0x7e, 0xa2, 0x0a, 0x9e, 0xee, 0xe6, 0x4b, 0x55, 0xd3, 0x9a,
-    0x21, 0x92, 0x99, 0x2a, 0x27, 0x4f, 0xc1, 0xa8, 0x36, 0xba, 0x3c, 0x23, 0xa3, 0xfe, 0xeb, 0xbd,
-    0x45, 0x4d, 0x44, 0x23, 0x64, 0x3c, 0xe8, 0x0e, 0x2a, 0x9a, 0xc9, 0x4f, 0xa5, 0x4c, 0xa4, 0x9f,
-];
-
-const DIGEST_OF_896_BITS: [u8; 64] = [
-    0x8e, 0x95, 0x9b, 0x75, 0xda, 0xe3, 0x13, 0xda, 0x8c, 0xf4, 0xf7, 0x28, 0x14, 0xfc, 0x14, 0x3f,
-    0x8f, 0x77, 0x79, 0xc6, 0xeb, 0x9f, 0x7f, 0xa1, 0x72, 0x99, 0xae, 0xad, 0xb6, 0x88, 0x90, 0x18,
-    0x50, 0x1d, 0x28, 0x9e, 0x49, 0x00, 0xf7, 0xe4, 0x33, 0x1b, 0x99, 0xde, 0xc4, 0xb5, 0x43, 0x3a,
-    0xc7, 0xd3, 0x29, 0xee, 0xb6, 0xdd, 0x26, 0x54, 0x5e, 0x96, 0xe5, 0x5b, 0x87, 0x4b, 0xe9, 0x09,
-];
-
-const DIGEST_OF_A_MILLION: [u8; 64] = [
-    0xe7, 0x18, 0x48, 0x3d, 0x0c, 0xe7, 0x69, 0x64, 0x4e, 0x2e, 0x42, 0xc7, 0xbc, 0x15, 0xb4, 0x63,
-    0x8e, 0x1f, 0x98, 0xb1, 0x3b, 0x20, 0x44, 0x28, 0x56, 0x32, 0xa8, 0x03, 0xaf, 0xa9, 0x73, 0xeb,
-    0xde, 0x0f, 0xf2, 0x44, 0x87, 0x7e, 0xa6, 0x0a, 0x4c, 0xb0, 0x43, 0x2c, 0xe5, 0x77, 0xc3, 0x1b,
-    0xeb, 0x00, 0x9c, 0x5c, 0x2c, 0x49, 0xaa, 0x2e, 0x4e, 0xad, 0xb2, 0x17, 0xad, 0x8c, 0xc0, 0x9b,
-];
-
-#[test]
-fn examples_of_one_block(rt: HostRuntime) {
-    let nothing = Hash512::digest(b"");
-    assert!(rt; nothing == DIGEST_OF_NOTHING && Hash512::digest(b"abc") == DIGEST_OF_ABC);
+fn are_examples_of_one_block() -> bool {
+    let of_nothing =
+        "cf83e1357eefb8bdf1542850d66d8007d620e4050b5715dc83f4a921d36ce9ce47d0d13c5d85f2b0ff8318d2877eec2f63b931bd47417a81a538327af927da3e";
+    let of_abc =
+        "ddaf35a193617abacc417349ae20413112e6fa4e89a97ea20a9eeee64b55d39a2192992a274fc1a836ba3c23a3feebbd454d4423643ce80e2a9ac94fa54ca49f";
+    is_hex(of_nothing, &Hash512::digest(b"")) && is_hex(of_abc, &Hash512::digest(b"abc"))
 }
 
-#[test]
-fn example_of_896_bits(rt: HostRuntime) {
+fn is_example_of_896_bits() -> bool {
+    let digest =
+        "8e959b75dae313da8cf4f72814fc143f8f7779c6eb9f7fa17299aeadb6889018501d289e4900f7e4331b99dec4b5433ac7d329eeb6dd26545e96e55b874be909";
     let message = b"abcdefghbcdefghicdefghijdefghijkefghijklfghijklmghijklmn\
 hijklmnoijklmnopjklmnopqklmnopqrlmnopqrsmnopqrstnopqrstu";
-    assert!(rt; Hash512::digest(message) == DIGEST_OF_896_BITS);
+    is_hex(digest, &Hash512::digest(message))
 }
 
-// The digest of so many bytes `a`, in pieces of 10,000.
-fn digest_of_letters(pieces: usize) -> [u8; 64] {
+// Of a million letters, in pieces of 10,000.
+fn is_example_of_letters() -> bool {
+    let digest =
+        "e718483d0ce769644e2e42c7bc15b4638e1f98b13b2044285632a803afa973ebde0ff244877ea60a4cb0432ce577c31beb009c5c2c49aa2e4eadb217ad8cc09b";
     let mut hash = Hash512::new();
-    for _ in 0..pieces {
+    for _ in 0..100 {
         hash.update(&[b'a'; 10_000]);
     }
-    hash.finalize()
+    is_hex(digest, &hash.finalize())
 }
 
 #[test]
-fn example_of_a_million_letters(rt: HostRuntime) {
-    assert!(rt; digest_of_letters(100) == DIGEST_OF_A_MILLION);
-}
-
-fn message() -> [u8; MAX_LEN] {
-    let mut bytes = [0u8; MAX_LEN];
-    for i in 0..MAX_LEN {
-        bytes[i] = (i % 251) as u8;
-    }
-    bytes
-}
-
-fn are_digests_of_each_front(bytes: &[u8]) -> bool {
-    let mut same = true;
-    for len in 0..bytes.len() {
-        same = same && Hash512::digest(&bytes[..len]) == Sha512::digest(&bytes[..len]);
-    }
-    same
-}
-
-#[test]
-fn each_length(rt: HostRuntime) {
-    assert!(rt; are_digests_of_each_front(&message()));
-}
-
-// Whether the message has its digest wherever it is cut in two.
-fn are_digests_of_each_cut(bytes: &[u8]) -> bool {
-    let expected = Sha512::digest(bytes);
-    let mut same = true;
-    for cut in 0..bytes.len() {
-        let mut hash = Hash512::new_with_prefix(&bytes[..cut]);
-        hash.update(&bytes[cut..]);
-        same = same && hash.finalize() == expected;
-    }
-    same
-}
-
-#[test]
-fn each_cut(rt: HostRuntime) {
-    assert!(rt; are_digests_of_each_cut(&message()));
-}
-
-// The digest of the bytes in pieces of so many.
-fn digest_in_pieces(bytes: &[u8], piece: usize) -> [u8; 64] {
-    let mut hash = Hash512::new();
-    for part in bytes.chunks(piece.max(1)) {
-        hash.update(part);
-    }
-    hash.finalize()
-}
-
-fn are_digests_in_pieces(bytes: &[u8]) -> bool {
-    let expected = Sha512::digest(bytes);
-    let mut same = true;
-    for piece in 1..300 {
-        same = same && digest_in_pieces(bytes, piece) == expected;
-    }
-    same
-}
-
-#[test]
-fn pieces_of_each_size(rt: HostRuntime) {
-    assert!(rt; are_digests_in_pieces(&message()));
+fn examples_of_the_standard(rt: HostRuntime) {
+    assert!(rt; are_examples_of_one_block() && is_example_of_896_bits() && is_example_of_letters());
 }
