@@ -1,7 +1,11 @@
 // Changes of a signature, a message and a context of SLH-DSA-SHA2-128f, none of which is accepted:
 // the cases of the Rust crate's own tests, with given bytes in place of random ones.
-use crate::layers::ROOT;
 use slh_dsa::{Error, Mode, Sha2_128f, SigningKey, VerifyingKey};
+
+// The root of the key whose secret seed is sixteen bytes 01 and whose public seed is sixteen 03.
+const ROOT: [u8; 16] = [
+    0x40, 0x52, 0xe0, 0x73, 0x3e, 0x69, 0xe7, 0x87, 0x39, 0xd6, 0xe6, 0x7c, 0x77, 0xf9, 0xa3, 0x7d,
+];
 
 const MESSAGE: &[u8] = b"Hello, world!";
 
@@ -39,26 +43,18 @@ fn is_invalid(pk_seed: u8, message: &[u8], context: &[u8], sig: &[u8; 17088]) ->
     verify(&public(pk_seed), message, context, sig) == Err(Error::Invalid)
 }
 
-fn is_for_its_message_alone() -> bool {
+fn is_for_its_message_and_key_alone() -> bool {
     let sig = signed(1, None);
     verify(&public(3), MESSAGE, CONTEXT, &sig) == Ok(())
         && is_invalid(3, b"Goodbye, world!", CONTEXT, &sig)
         && is_invalid(3, MESSAGE, b"Wrong context", &sig)
+        && is_invalid(4, MESSAGE, CONTEXT, &sig)
+        && is_invalid(3, MESSAGE, CONTEXT, &signed(4, None))
 }
 
 #[test]
-fn message_and_context_are_those_that_were_signed(rt: HostRuntime) {
-    assert!(rt; is_for_its_message_alone());
-}
-
-#[test]
-fn another_secret_seed_is_another_key(rt: HostRuntime) {
-    assert!(rt; is_invalid(3, MESSAGE, CONTEXT, &signed(4, None)));
-}
-
-#[test]
-fn another_public_seed_is_another_key(rt: HostRuntime) {
-    assert!(rt; is_invalid(4, MESSAGE, CONTEXT, &signed(1, None)));
+fn message_context_and_key_are_those_of_the_signature(rt: HostRuntime) {
+    assert!(rt; is_for_its_message_and_key_alone());
 }
 
 fn is_invalid_with_inverted(sig: &[u8; 17088], place: usize) -> bool {

@@ -42,32 +42,23 @@ fn has_digits(byte: u8, wanted: &[u16]) -> bool {
     &message_digits(&NBytes::<U1>::exact(&[byte]))[..5] == wanted
 }
 
+// The two hexadecimal digits, and the checksum's three.
 fn are_digits_of_bytes() -> bool {
     has_digits(0x12, &[1, 2, 0, 1, 11])
         && has_digits(0xff, &[15, 15, 0, 0, 0])
         && has_digits(0x00, &[0, 0, 0, 1, 14])
 }
 
-// Worked by hand: the two hexadecimal digits, and the checksum's three.
+// Digits that end within a byte, and digits over a byte's end.
+fn are_digits_of_bits() -> bool {
+    let mut by_four = [0; 3];
+    base_2b(&[0x12, 0x30], 4, &mut by_four);
+    let mut by_six = [0; 2];
+    base_2b(&[0xff, 0x00], 6, &mut by_six);
+    by_four == [1, 2, 3] && by_six == [63, 48]
+}
+
 #[test]
-fn digits_of_one_byte(rt: HostRuntime) {
-    assert!(rt; are_digits_of_bytes());
-}
-
-fn are_digits_of_four_bits() -> bool {
-    let mut digits = [0; 3];
-    base_2b(&[0x12, 0x30], 4, &mut digits);
-    digits == [1, 2, 3]
-}
-
-fn are_digits_of_six_bits() -> bool {
-    let mut digits = [0; 2];
-    base_2b(&[0xff, 0x00], 6, &mut digits);
-    digits == [63, 48]
-}
-
-// Worked by hand: digits that end within a byte, and digits over a byte's end.
-#[test]
-fn digits_of_four_and_six_bits(rt: HostRuntime) {
-    assert!(rt; are_digits_of_four_bits() && are_digits_of_six_bits());
+fn digits_are_those_worked_by_hand(rt: HostRuntime) {
+    assert!(rt; are_digits_of_bytes() && are_digits_of_bits());
 }

@@ -1,5 +1,5 @@
-// A key and a signature of the toy suite, whose values were worked by hand from its definitions, with
-// their numbers of steps.
+// A key and a signature of the toy suite, whose values were worked by hand from its definitions,
+// with their numbers of steps.
 ghost use Rattle.std.specs.Prelude.{◌≡◌, ◌+◌, ◌≤◌, OnOk};
 ghost use Rattle.slh_core.specs.Steps.{IsFresh};
 
@@ -17,15 +17,10 @@ fn new_key<L: Ledger>(steps: &mut Steps<L>) -> Result<SigningKey<Toy>, Error>
     SigningKey::slh_keygen_counted(&[5], &[7], &[3], steps)
 }
 
-fn sign<L: Ledger>(
-    key: &SigningKey<Toy>,
-    opt_rand: Option<&[u8]>,
-    out: &mut [u8],
-    steps: &mut Steps<L>,
-) -> Result<(), Error>
+fn sign<L: Ledger>(key: &SigningKey<Toy>, out: &mut [u8], steps: &mut Steps<L>) -> Result<(), Error>
     ensures { OnOk result (steps.new ≡ steps.old + 677) }
 {
-    key.slh_sign_counted(&MESSAGE, &[], opt_rand, out, steps)
+    key.slh_sign_counted(&MESSAGE, &[], None, out, steps)
 }
 
 fn verify<L: Ledger>(key: &VerifyingKey<Toy>, sig: &[u8], steps: &mut Steps<L>) -> Result<(), Error>
@@ -40,12 +35,10 @@ fn is_key(key: &SigningKey<Toy>) -> bool {
     bytes == KEY
 }
 
-// Whether the key makes the worked signature and accepts it, and is refused by the first cause.
+// Whether the key makes the worked signature and accepts it.
 fn makes_signature<L: Ledger>(key: &SigningKey<Toy>, steps: &mut Steps<L>) -> bool {
     let mut sig = [0; 21];
-    sign(key, Some(&[1, 2]), &mut sig[..20], steps) == Err(Error::Length)
-        && sign(key, Some(&[1, 2]), &mut sig, steps) == Err(Error::RandomizerLength)
-        && sign(key, None, &mut sig, steps) == Ok(())
+    sign(key, &mut sig, steps) == Ok(())
         && sig == SIGNATURE
         && verify(&key.verifying_key(), &sig, steps) == Ok(())
 }

@@ -21,8 +21,6 @@ mod hash_rows;
 #[cfg(test)]
 mod keys;
 #[cfg(test)]
-mod layers;
-#[cfg(test)]
 mod page_of_audits;
 #[cfg(test)]
 mod page_of_keys;
@@ -36,7 +34,5 @@ mod signature_traits;
 mod signatures;
 #[cfg(test)]
 mod traits;
-#[cfg(test)]
-mod trees;
 #[cfg(test)]
 mod worked;

@@ -16,9 +16,17 @@ fn accepts(signature: &[u8]) -> bool {
     found == root
 }
 
+// The root that a signature leads to.
+fn root_of(signature: &[u8]) -> Option<u8> {
+    let view = SigView::<Toy>::new(signature)?;
+    let (seed, root) = (NBytes::exact(&[3]), NBytes::exact(&[0xe1]));
+    let found = check_root::<Toy>(&seed, &root, &HEAD, &[], &[0x48], &view);
+    Some(found.as_slice()[0])
+}
+
 #[test]
 fn example_of_the_page_of_trees(rt: HostRuntime) {
-    // The root is 228 then.
     let other = changed(&[(18, 0x21)]);
     assert!(rt; accepts(&SIGNATURE) && !accepts(&SIGNATURE[..20]) && !accepts(&other));
+    assert!(rt; root_of(&other) == Some(228));
 }

@@ -32,16 +32,6 @@ fn names_numbers_and_sizes_are_those_of_the_table(rt: HostRuntime) {
     assert!(rt; are_rows());
 }
 
-fn stands_for_no_set(number: u32, name: &[u8]) -> bool {
-    Set::from_number(number) == None && Set::from_name(name) == None
-}
-
-#[test]
-fn other_names_and_numbers_stand_for_no_set(rt: HostRuntime) {
-    assert!(rt; stands_for_no_set(0, b"SLH-DSA-SHA2-128S"));
-    assert!(rt; stands_for_no_set(7, b"SLH-DSA-SHAKE-128s") && stands_for_no_set(u32::MAX, b""));
-}
-
 fn signature_len_of(name: &[u8]) -> Option<usize> {
     Some(Set::from_name(name)?.signature_len())
 }

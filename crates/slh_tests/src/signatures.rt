@@ -72,12 +72,8 @@ fn is_worked(alloc: Global, made: Result<Signature<Toy>, Error>) -> bool {
 }
 
 #[test]
-fn a_framed_message_is_signed_as_it_stands(rt: HostRuntime) {
+fn a_framed_message_is_signed_as_in_pure_mode(rt: HostRuntime) {
     assert!(rt; is_worked(rt.alloc(), made_as_it_stands(rt.alloc())));
-}
-
-#[test]
-fn pure_mode_signs_as_the_call_without_a_mode(rt: HostRuntime) {
     assert!(rt; is_worked(rt.alloc(), made_in_pure_mode(rt.alloc())));
 }
 
