@@ -59,79 +59,32 @@ fn roots_of_a_growing_tree(rt: HostRuntime) {
     assert!(rt; tree.len() == 8);
 }
 
-// Whether a path of three digests shows that an entry is the one at an index of eight.
-fn is_in_eight(index: u64, entry: &str, path: [&str; 3]) -> bool {
-    let path = [digest(path[0]), digest(path[1]), digest(path[2])];
-    check_inclusion::<Sha256>(index, 8, &leaf(entry), &digest(ROOTS[8]), &path)
+// Whether a path shows that an entry is the one at an index.
+fn is_in(index: u64, size: u64, root: &str, entry: &str, path: &[[u8; 32]]) -> bool {
+    check_inclusion::<Sha256>(index, size, &leaf(entry), &digest(root), path)
 }
 
-#[test]
-fn path_of_entry_5_of_8(rt: HostRuntime) {
+// The path of entry 5 of 8, and that of entry 4 of 5; another index or entry, an index past the
+// end, another sibling or size.
+fn are_paths_for_one_entry() -> bool {
     let path = [
-        "bc1a0643b12e4d2d7c77918f44e0f4f79a838b6cf9ec5b5c283e1f4d88599e6b",
-        "ca854ea128ed050b41b35ffc1b87b8eb2bde461e9e3b5596ece6b9d5975a0ae0",
-        "d37ee418976dd95753c1c73862b9398fa2a2cf9b4ff0fdfe8b30cd95209614b7",
+        digest("bc1a0643b12e4d2d7c77918f44e0f4f79a838b6cf9ec5b5c283e1f4d88599e6b"),
+        digest("ca854ea128ed050b41b35ffc1b87b8eb2bde461e9e3b5596ece6b9d5975a0ae0"),
+        digest(ROOTS[4]),
     ];
-    assert!(rt; is_in_eight(5, ENTRIES[5], path));
-    assert!(rt; !is_in_eight(4, ENTRIES[5], path), "another index");
-    assert!(rt; !is_in_eight(5, ENTRIES[4], path), "another entry");
-    assert!(rt; !is_in_eight(8, ENTRIES[5], path), "an index past the end");
-}
-
-// Whether a path of one digest shows that entry 4 is the last of five.
-fn is_last_of_five(sibling: &str, size: u64) -> bool {
-    check_inclusion::<Sha256>(
-        4,
-        size,
-        &leaf(ENTRIES[4]),
-        &digest(ROOTS[5]),
-        &[digest(sibling)],
-    )
+    is_in(5, 8, ROOTS[8], ENTRIES[5], &path)
+        && !is_in(4, 8, ROOTS[8], ENTRIES[5], &path)
+        && !is_in(5, 8, ROOTS[8], ENTRIES[4], &path)
+        && !is_in(8, 8, ROOTS[8], ENTRIES[5], &path)
+        && is_in(4, 5, ROOTS[5], ENTRIES[4], &path[2..])
+        && !is_in(4, 5, ROOTS[5], ENTRIES[4], &path[1..2])
+        && !is_in(4, 6, ROOTS[5], ENTRIES[4], &path[2..])
 }
 
 #[test]
-fn path_of_entry_4_of_5(rt: HostRuntime) {
-    assert!(rt; is_last_of_five(ROOTS[4], 5));
-    assert!(rt; !is_last_of_five(ROOTS[3], 5), "another sibling");
-    assert!(rt; !is_last_of_five(ROOTS[4], 6), "another size");
+fn a_path_is_for_one_entry(rt: HostRuntime) {
+    assert!(rt; are_paths_for_one_entry());
 }
-
-// A tree that grew, and the proof of it.
-struct Growth {
-    old: usize,
-    new: usize,
-    proof: &'static [&'static str],
-}
-
-const GROWTHS: [Growth; 3] = [
-    Growth {
-        old: 6,
-        new: 8,
-        proof: &[
-            "0ebc5d3437fbe2db158b9f126a1d118e308181031d0a949f8dededebc558ef6a",
-            "ca854ea128ed050b41b35ffc1b87b8eb2bde461e9e3b5596ece6b9d5975a0ae0",
-            "d37ee418976dd95753c1c73862b9398fa2a2cf9b4ff0fdfe8b30cd95209614b7",
-        ],
-    },
-    Growth {
-        old: 2,
-        new: 5,
-        proof: &[
-            "5f083f0a1a33ca076a95279832580db3e0ef4584bdff1f54c8a360f50de3031e",
-            "bc1a0643b12e4d2d7c77918f44e0f4f79a838b6cf9ec5b5c283e1f4d88599e6b",
-        ],
-    },
-    Growth {
-        old: 3,
-        new: 7,
-        proof: &[
-            "0298d122906dcfc10892cb53a73992fc5b9f493ea4c9badb27b791b4127a7fe7",
-            "07506a85fd9dd2f120eb694f86011e5bb4662e5c415a62917033d4a9624487e7",
-            "fac54203e7cc696cf0dfcb42c92a1d9dbaf70ad9e621f4bd8d98662f00e3c125",
-            "837dbb152e9b079010717e84e865da4ebc0fa198a806d59d31bf15accef22d0e",
-        ],
-    },
-];
 
 // Whether the proof shows that the tree of m entries grew into that of n; no where there is no such
 // tree here.
@@ -148,49 +101,45 @@ fn grew(m: usize, n: usize, proof: &[[u8; 32]]) -> bool {
     )
 }
 
-#[test]
-fn a_proof_is_for_one_growth(rt: HostRuntime) {
-    for Growth { old, new, proof } in &GROWTHS {
-        let (m, n, len) = (*old, *new, proof.len());
+// Whether a proof is for this growth alone: not from fewer or more entries, into fewer, the other
+// way round, without its last digest or its first.
+fn is_for_one_growth(m: usize, n: usize, proof: &[[u8; 32]]) -> bool {
+    grew(m, n, proof)
+        && !grew(m.wrapping_sub(1), n, proof)
+        && !grew(m.wrapping_add(1), n, proof)
+        && !grew(m, n.wrapping_sub(1), proof)
+        && !grew(n, m, proof)
+        && !grew(m, n, &proof[..proof.len().saturating_sub(1)])
+        && !grew(m, n, &proof[proof.len().min(1)..])
+}
+
+fn are_for_one_growth() -> bool {
+    let mut all = true;
+    for making in &MAKINGS[..3] {
         let mut digests = [[0; 32]; 4];
-        for (place, text) in digests.iter_mut().zip(*proof) {
+        for (place, text) in digests.iter_mut().zip(making.proof) {
             *place = digest(text);
         }
-        let proof = &digests[..len.min(4)];
-        assert!(rt; grew(m, n, proof), "{m} into {n}");
-        assert!(rt;
-            !grew(m.wrapping_sub(1), n, proof),
-            "{m} into {n}: fewer entries before"
-        );
-        assert!(rt;
-            !grew(m.wrapping_add(1), n, proof),
-            "{m} into {n}: more entries before"
-        );
-        assert!(rt;
-            !grew(m, n.wrapping_sub(1), proof),
-            "{m} into {n}: fewer entries after"
-        );
-        assert!(rt; !grew(n, m, proof), "{m} into {n}: the other way round");
-        assert!(rt;
-            !grew(m, n, &proof[..proof.len().saturating_sub(1)]),
-            "{m}: a digest short"
-        );
-        assert!(rt;
-            !grew(m, n, &proof[proof.len().min(1)..]),
-            "{m}: no first digest"
-        );
+        let len = making.proof.len().min(4);
+        all = all && is_for_one_growth(making.old, making.size, &digests[..len]);
     }
+    all
+}
+
+// A full tree, an equal one, and no old tree.
+fn are_trees_at_the_bounds() -> bool {
+    let sibling = digest("837dbb152e9b079010717e84e865da4ebc0fa198a806d59d31bf15accef22d0e");
+    grew(4, 7, &[sibling])
+        && !grew(4, 7, &[])
+        && grew(5, 5, &[])
+        && !grew(5, 5, &[sibling])
+        && !grew(0, 5, &[])
+        && !check_consistency::<Sha256>(5, 5, &digest(ROOTS[5]), &digest(ROOTS[6]), &[])
 }
 
 #[test]
-fn a_full_tree_and_an_equal_tree(rt: HostRuntime) {
-    let sibling = digest("837dbb152e9b079010717e84e865da4ebc0fa198a806d59d31bf15accef22d0e");
-    assert!(rt; grew(4, 7, &[sibling]));
-    assert!(rt; !grew(4, 7, &[]));
-    assert!(rt; grew(5, 5, &[]));
-    assert!(rt; !grew(5, 5, &[sibling]));
-    assert!(rt; !grew(0, 5, &[]), "no old tree");
-    assert!(rt; !check_consistency::<Sha256>(5, 5, &digest(ROOTS[5]), &digest(ROOTS[6]), &[]));
+fn a_proof_is_for_one_growth(rt: HostRuntime) {
+    assert!(rt; are_for_one_growth() && are_trees_at_the_bounds());
 }
 
 // The path of entry i, and the proof that the tree grew from m entries, for the tree of n; nothing
@@ -231,22 +180,19 @@ fn stored(alloc: Global, n: u64, i: u64, m: u64) -> Result<Vec<[u8; 32]>, StoreE
 }
 
 // Whether what is made is these digests.
-fn is_made<E>(made: Result<Vec<[u8; 32]>, E>, digests: &[&str]) -> bool
-where
-    E: Drop,
-{
-    let Ok(made) = made else {
-        return false;
-    };
-    if made.len() != digests.len() {
-        return false;
+fn is_made<E: Drop>(made: Result<Vec<[u8; 32]>, E>, making: &Making) -> bool {
+    match made {
+        Ok(made) => are_digests(&made, making),
+        Err(_) => false,
     }
-    for (text, made) in digests.iter().zip(&made) {
-        if digest(text) != *made {
-            return false;
-        }
+}
+
+fn are_digests(made: &[[u8; 32]], making: &Making) -> bool {
+    let mut all = made.len() == making.path.len() + making.proof.len();
+    for (text, made) in making.path.iter().chain(making.proof).zip(made) {
+        all = all && digest(text) == *made;
     }
-    true
+    all
 }
 
 // What is made for a tree of `size` entries: the path of the entry at an index, and the proof that
@@ -255,18 +201,22 @@ struct Making {
     size: usize,
     index: usize,
     old: usize,
-    digests: &'static [&'static str],
+    path: &'static [&'static str],
+    proof: &'static [&'static str],
 }
 
+// The first three grew.
 const MAKINGS: [Making; 6] = [
     Making {
         size: 8,
         index: 5,
         old: 6,
-        digests: &[
+        path: &[
             "bc1a0643b12e4d2d7c77918f44e0f4f79a838b6cf9ec5b5c283e1f4d88599e6b",
             "ca854ea128ed050b41b35ffc1b87b8eb2bde461e9e3b5596ece6b9d5975a0ae0",
             "d37ee418976dd95753c1c73862b9398fa2a2cf9b4ff0fdfe8b30cd95209614b7",
+        ],
+        proof: &[
             "0ebc5d3437fbe2db158b9f126a1d118e308181031d0a949f8dededebc558ef6a",
             "ca854ea128ed050b41b35ffc1b87b8eb2bde461e9e3b5596ece6b9d5975a0ae0",
             "d37ee418976dd95753c1c73862b9398fa2a2cf9b4ff0fdfe8b30cd95209614b7",
@@ -276,10 +226,12 @@ const MAKINGS: [Making; 6] = [
         size: 7,
         index: 2,
         old: 3,
-        digests: &[
+        path: &[
             "07506a85fd9dd2f120eb694f86011e5bb4662e5c415a62917033d4a9624487e7",
             "fac54203e7cc696cf0dfcb42c92a1d9dbaf70ad9e621f4bd8d98662f00e3c125",
             "837dbb152e9b079010717e84e865da4ebc0fa198a806d59d31bf15accef22d0e",
+        ],
+        proof: &[
             "0298d122906dcfc10892cb53a73992fc5b9f493ea4c9badb27b791b4127a7fe7",
             "07506a85fd9dd2f120eb694f86011e5bb4662e5c415a62917033d4a9624487e7",
             "fac54203e7cc696cf0dfcb42c92a1d9dbaf70ad9e621f4bd8d98662f00e3c125",
@@ -287,12 +239,24 @@ const MAKINGS: [Making; 6] = [
         ],
     },
     Making {
+        size: 5,
+        index: 4,
+        old: 2,
+        path: &["d37ee418976dd95753c1c73862b9398fa2a2cf9b4ff0fdfe8b30cd95209614b7"],
+        proof: &[
+            "5f083f0a1a33ca076a95279832580db3e0ef4584bdff1f54c8a360f50de3031e",
+            "bc1a0643b12e4d2d7c77918f44e0f4f79a838b6cf9ec5b5c283e1f4d88599e6b",
+        ],
+    },
+    Making {
         size: 6,
         index: 5,
         old: 5,
-        digests: &[
+        path: &[
             "bc1a0643b12e4d2d7c77918f44e0f4f79a838b6cf9ec5b5c283e1f4d88599e6b",
             "d37ee418976dd95753c1c73862b9398fa2a2cf9b4ff0fdfe8b30cd95209614b7",
+        ],
+        proof: &[
             "bc1a0643b12e4d2d7c77918f44e0f4f79a838b6cf9ec5b5c283e1f4d88599e6b",
             "4271a26be0d8a84f0bd54c8c302e7cb3a3b5d1fa6780a40bcce2873477dab658",
             "d37ee418976dd95753c1c73862b9398fa2a2cf9b4ff0fdfe8b30cd95209614b7",
@@ -301,63 +265,32 @@ const MAKINGS: [Making; 6] = [
     Making {
         size: 5,
         index: 4,
-        old: 2,
-        digests: &[
-            "d37ee418976dd95753c1c73862b9398fa2a2cf9b4ff0fdfe8b30cd95209614b7",
-            "5f083f0a1a33ca076a95279832580db3e0ef4584bdff1f54c8a360f50de3031e",
-            "bc1a0643b12e4d2d7c77918f44e0f4f79a838b6cf9ec5b5c283e1f4d88599e6b",
-        ],
-    },
-    Making {
-        size: 5,
-        index: 4,
         old: 4,
-        digests: &[
-            "d37ee418976dd95753c1c73862b9398fa2a2cf9b4ff0fdfe8b30cd95209614b7",
-            "bc1a0643b12e4d2d7c77918f44e0f4f79a838b6cf9ec5b5c283e1f4d88599e6b",
-        ],
+        path: &["d37ee418976dd95753c1c73862b9398fa2a2cf9b4ff0fdfe8b30cd95209614b7"],
+        proof: &["bc1a0643b12e4d2d7c77918f44e0f4f79a838b6cf9ec5b5c283e1f4d88599e6b"],
     },
     Making {
         size: 1,
         index: 0,
         old: 1,
-        digests: &[],
+        path: &[],
+        proof: &[],
     },
 ];
 
-#[test]
-fn paths_and_proofs_are_made(rt: HostRuntime) {
+// Of the levels, and of a store.
+fn are_made(alloc: Global) -> bool {
+    let mut all = true;
     for making in &MAKINGS {
         let (n, i, m) = (making.size, making.index, making.old);
-        let of_levels = made(rt.alloc(), n, i, m);
-        assert!(rt;
-            is_made(of_levels, making.digests),
-            "of {n} entries, from {m}"
-        );
-        let of_store = stored(rt.alloc(), n as u64, i as u64, m as u64);
-        assert!(rt;
-            is_made(of_store, making.digests),
-            "of a store of {n} entries, from {m}"
-        );
+        all = all
+            && is_made(made(alloc, n, i, m), making)
+            && is_made(stored(alloc, n as u64, i as u64, m as u64), making);
     }
+    all
 }
 
 #[test]
-fn a_tree_is_resumed(rt: HostRuntime) {
-    let mut tree = Frontier::<Sha256>::new();
-    for n in 0..7usize {
-        if tree.len() < 7 {
-            tree.push(&leaf(ENTRIES[n]));
-        }
-    }
-    assert!(rt; tree.peaks().len() == 3);
-    assert!(rt; Frontier::<Sha256>::resume(6, tree.peaks()).is_none());
-    let Some(mut resumed) = Frontier::<Sha256>::resume(7, tree.peaks()) else {
-        assert!(rt; false, "resumed");
-        return;
-    };
-    if resumed.len() < 8 {
-        resumed.push(&leaf(ENTRIES[7]));
-    }
-    assert!(rt; resumed.root() == digest(ROOTS[8]));
+fn paths_and_proofs_are_made(rt: HostRuntime) {
+    assert!(rt; are_made(rt.alloc()));
 }

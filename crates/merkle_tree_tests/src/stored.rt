@@ -1,6 +1,6 @@
 ghost use Rattle.std.specs.Prelude.{◌<◌, ◌≤◌};
 
-use hex::FromHex;
+use crate::vectors::digest;
 use log_tiles::{Tile, TileError, TileSource, prove_growth, prove_presence};
 use merkle_tree::{Sha256, TreeHash, root_of};
 use std::alloc::Global;
@@ -125,9 +125,8 @@ fn all_logs(alloc: Global) -> Option<[u8; 32]> {
 
 #[test]
 fn paths_and_proofs_from_tiles(rt: HostRuntime) {
-    let hex = "01e25513bb085a87111b98818c256f3d9e40da44b61b089f2bdcd1fb59dd79c3";
-    let expected = <[u8; 32] as FromHex>::from_hex(hex).ok();
-    assert!(rt; expected.is_some() && all_logs(rt.alloc()) == expected);
+    let expected = digest("01e25513bb085a87111b98818c256f3d9e40da44b61b089f2bdcd1fb59dd79c3");
+    assert!(rt; all_logs(rt.alloc()) == Some(expected));
 }
 
 // Why the path of entry 3 of 600 isn't handed out.
@@ -152,34 +151,21 @@ fn tile(level: u32, index: u64, width: u32) -> Tile {
 
 // Entry 3 of 600 has its sibling in the first tile, the root beside the first 256 entries in the
 // first tile of level 1, which has the roots over two runs, and the last 88 in the last tile.
+fn is_refused_at(alloc: Global, place: Tile) -> bool {
+    refusal(alloc, Some(place), None) == Some(TileError::Tile(place))
+        && refusal(alloc, None, Some(place)) == Some(TileError::Differs)
+}
+
+fn are_refused(alloc: Global) -> bool {
+    is_refused_at(alloc, tile(0, 0, 256))
+        && is_refused_at(alloc, tile(1, 0, 2))
+        && is_refused_at(alloc, tile(0, 2, 88))
+        && refusal(alloc, Some(tile(0, 1, 256)), None).is_none()
+}
+
 #[test]
 fn a_tile_that_is_missing_is_named(rt: HostRuntime) {
-    let alloc = rt.alloc();
-    for place in [tile(0, 0, 256), tile(1, 0, 2), tile(0, 2, 88)] {
-        assert!(rt; refusal(alloc, Some(place), None) == Some(TileError::Tile(place)));
-        assert!(rt; refusal(alloc, None, Some(place)) == Some(TileError::Differs));
-    }
-    assert!(rt; refusal(alloc, Some(tile(0, 1, 256)), None).is_none());
-}
-
-fn is_out_of_range(alloc: Global, old_size: u64, size: u64, index: u64) -> bool {
-    let tiles = tiles_over(&[]);
-    let none = [0; 32];
-    let growth = prove_growth::<Sha256, Made<'_>>(
-        &tiles, old_size, size, &none, &none, alloc,
-    ).err();
-    let presence = prove_presence::<Sha256, Made<'_>>(
-        &tiles, index, size, &none, &none, alloc,
-    ).err();
-    growth == Some(TileError::Range) && presence == Some(TileError::Range)
-}
-
-#[test]
-fn what_a_log_does_not_have_is_out_of_range(rt: HostRuntime) {
-    let alloc = rt.alloc();
-    assert!(rt; is_out_of_range(alloc, 0, 0, 0));
-    assert!(rt; is_out_of_range(alloc, 0, 5, 5));
-    assert!(rt; is_out_of_range(alloc, 6, 5, u64::MAX));
+    assert!(rt; are_refused(rt.alloc()));
 }
 
 // The tiles of a log whose entries are all the same, and how many were read of them.
@@ -252,18 +238,18 @@ fn are_read(alloc: Global, index: u64, size: u64, most: u32) -> bool {
 }
 
 // 10^9 is below 2^30, which has four levels of tiles.
-#[test]
-fn a_proof_in_10_9_entries_reads_at_most_8_tiles(rt: HostRuntime) {
-    let alloc = rt.alloc();
-    for index in [0, 255, 536_870_911, 999_999_999] {
-        assert!(rt; are_read(alloc, index, 1_000_000_000, 8));
-    }
+fn are_few_read_of_10_9(alloc: Global) -> bool {
+    are_read(alloc, 0, 1_000_000_000, 8)
+        && are_read(alloc, 255, 1_000_000_000, 8)
+        && are_read(alloc, 536_870_911, 1_000_000_000, 8)
+        && are_read(alloc, 999_999_999, 1_000_000_000, 8)
+}
+
+fn are_few_read_of_the_longest(alloc: Global) -> bool {
+    are_read(alloc, 0, u64::MAX, 16) && are_read(alloc, u64::MAX - 1, u64::MAX, 16)
 }
 
 #[test]
-fn a_proof_in_the_longest_log_reads_at_most_16_tiles(rt: HostRuntime) {
-    let alloc = rt.alloc();
-    for index in [0, u64::MAX - 1] {
-        assert!(rt; are_read(alloc, index, u64::MAX, 16));
-    }
+fn a_proof_reads_at_most_8_tiles_of_10_9_entries_and_16_of_the_most(rt: HostRuntime) {
+    assert!(rt; are_few_read_of_10_9(rt.alloc()) && are_few_read_of_the_longest(rt.alloc()));
 }
