@@ -1,9 +1,10 @@
-//! The example of the page of `slh_manifest`.
+//! The example of the page of `slh_manifest`. A call that found no memory is made again, so that it
+//! holds with each allocation failing in turn, too (`rt try --test --fail-alloc`).
 use slh_dsa::{Sha2_128f, SigningKey, VerifyingKey};
 use slh_manifest::{BuildError, Builder, CheckError, MemStore, Store, check};
 use std::alloc::Global;
 
-fn manifest_of<T: Store>(
+pub(crate) fn manifest_of<T: Store>(
     alloc: Global,
     key: &SigningKey<Sha2_128f>,
     names: &[&[u8]],
@@ -16,7 +17,7 @@ fn manifest_of<T: Store>(
     builder.seal(alloc, key, None)
 }
 
-fn checked<T: Store>(
+pub(crate) fn checked<T: Store>(
     key: &VerifyingKey<Sha2_128f>,
     manifest: &[u8],
     store: &mut T,
@@ -24,25 +25,35 @@ fn checked<T: Store>(
     check(key, manifest, store)
 }
 
-fn two_files(alloc: Global) -> Option<MemStore> {
-    let mut files = MemStore::new(alloc, Vec::new(alloc));
-    files.put(b"boot", b"first").ok()?;
-    files.put(b"image", b"second").ok()?;
-    Some(files)
+pub(crate) fn key() -> Option<SigningKey<Sha2_128f>> {
+    SigningKey::slh_keygen_internal(&[1; 16], &[2; 16], &[3; 16]).ok()
 }
 
-// Whether a manifest is accepted until its second file changes.
-fn is_answered(key: &VerifyingKey<Sha2_128f>, manifest: &[u8], mut files: MemStore) -> bool {
-    checked(key, manifest, &mut files) == Ok(())
-        && files.put(b"image", b"third").is_ok()
-        && checked(key, manifest, &mut files) == Err(CheckError::Differs(1))
+fn put(files: &mut MemStore, name: &[u8], bytes: &[u8]) -> Option<()> {
+    if files.put(name, bytes).is_err() {
+        files.put(name, bytes).ok()?;
+    }
+    Some(())
 }
 
+fn manifest_of_two(alloc: Global, files: &mut MemStore) -> Option<Vec<u8>> {
+    let (key, names): (_, [&[u8]; 2]) = (key()?, [b"boot", b"image"]);
+    match manifest_of(alloc, &key, &names, files) {
+        Ok(manifest) => Some(manifest),
+        Err(_) => manifest_of(alloc, &key, &names, files).ok(),
+    }
+}
+
+// Whether the manifest of two files is accepted until the second changes.
 fn holds_for_two_files(alloc: Global) -> Option<bool> {
-    let key = SigningKey::slh_keygen_internal(&[1; 16], &[2; 16], &[3; 16]).ok()?;
-    let mut files = two_files(alloc)?;
-    let manifest = manifest_of(alloc, &key, &[b"boot", b"image"], &mut files).ok()?;
-    Some(is_answered(&key.verifying_key(), &manifest, files))
+    let mut files = MemStore::new(alloc, Vec::new(alloc));
+    put(&mut files, b"boot", b"first")?;
+    put(&mut files, b"image", b"second")?;
+    let manifest = manifest_of_two(alloc, &mut files)?;
+    let key = key()?.verifying_key();
+    let is_accepted = checked(&key, &manifest, &mut files) == Ok(());
+    put(&mut files, b"image", b"third")?;
+    Some(is_accepted && checked(&key, &manifest, &mut files) == Err(CheckError::Differs(1)))
 }
 
 #[test]

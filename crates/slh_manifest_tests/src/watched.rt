@@ -1,138 +1,225 @@
-//! Stores that fail: no call reads on after a fault, nor further than one byte past an entry.
-use crate::manifests::{NEVER, store, toy_answer, toy_manifest};
+//! How a store is read: in pieces, at most one byte further than an entry says, and not again after
+//! a read that failed.
+use crate::page_of_manifests::{checked, key, manifest_of};
 use slh_manifest::{
     BuildError, Builder, CheckError, EntryError, Failed, Manifest, MemStore, Store,
 };
 use std::alloc::Global;
 
-// A store that is watched: how many reads there were, how many of them after one that failed, and
-// the highest place that was asked for.
+// How many bytes a piece has that is made up at once.
+const PIECE: u64 = 4096;
+
+// A number that no read has.
+const NEVER: u64 = u64::MAX;
+
+// Makes up bytes, so many: those of a piece are all the number of the piece, modulo 251. It gives no
+// more than `most` of them at a time, and keeps how many reads there were, the highest place that it
+// was asked for, how many bytes it was asked for, at once at most and in all, and how many it gave.
+// A store without names has the numbers of the reads that fail.
 #[derive(Drop)]
 struct Watched {
-    files: MemStore,
+    fails: MemStore,
+    len: u64,
+    most: u64,
     reads: u64,
-    failed: bool,
-    after: u64,
     highest: u64,
-}
-
-impl Watched {
-    fn new(files: MemStore) -> Self {
-        Watched {
-            files,
-            reads: 0,
-            failed: false,
-            after: 0,
-            highest: 0,
-        }
-    }
+    room: u64,
+    asked: u64,
+    given: u64,
 }
 
 impl Store for Watched {
-    ghost use Rattle.std.specs.Prelude.{Some};
-    ghost use Rattle.slh_manifest.specs.Memory.{store_faults, store_files};
+    ghost use Rattle.std.specs.Prelude.{None};
+    ghost use Rattle.slh_manifest.specs.Memory.{store_faults};
 
-    ghost files = { λ w. Some (store_files w.files) };
+    ghost files = { λ _. None };
 
-    ghost faults = { λ w. store_faults w.files };
+    ghost faults = { λ w. store_faults w.fails };
 
     fn read(&mut self, name: &[u8], at: u64, buf: &mut [u8]) -> Result<Option<usize>, Failed> {
+        let room = buf.len() as u64;
         self.reads = self.reads.saturating_add(1);
-        if self.failed {
-            self.after = self.after.saturating_add(1);
+        self.highest = self.highest.max(at.saturating_add(room));
+        self.room = self.room.max(room);
+        self.asked = self.asked.saturating_add(room);
+        self.fails.read(name, at, &mut [])?;
+        if at >= self.len {
+            return Ok(Some(0));
         }
-        self.highest = self.highest.max(at.saturating_add(buf.len() as u64));
-        let answer = self.files.read(name, at, buf);
-        self.failed = self.failed || answer.is_err();
-        answer
+        let left = (self.len - at).min(PIECE - at % PIECE).min(self.most);
+        let count = left.min(room) as usize;
+        buf[..count].fill((at / PIECE % 251) as u8);
+        self.given = self.given.saturating_add(count as u64);
+        Ok(Some(count))
     }
 }
 
-// The second takes two reads of at most 4096 bytes, and each a last one, that finds the end.
-const ROWS: &str = "a=abc b=#";
-
-// A store of these rows of which this read fails.
-fn failing_at(alloc: Global, rows: &str, fail: u64) -> Option<Watched> {
-    Some(Watched::new(store(alloc, rows, fail)?))
+// A store of so many bytes, of which it gives at most so many, and of which this read fails.
+fn store_of(alloc: Global, len: u64, most: u64, fail: u64) -> Option<Watched> {
+    Some(Watched {
+        fails: MemStore::new(alloc, vec![in alloc; fail].ok()?),
+        len,
+        most,
+        reads: 0,
+        highest: 0,
+        room: 0,
+        asked: 0,
+        given: 0,
+    })
 }
 
-// Whether a fault ended the call, with no other read.
-fn is_ended(files: &Watched, fail: u64) -> bool {
-    files.failed && files.reads == fail.saturating_add(1) && files.after == 0
+// Numbers of bytes, and SHA-256 of them by Python's hashlib: sha256(bytes(p // 4096 % 251 for p in
+// range(len))).
+const DIGESTS: &str = "\
+0 e3b0c44298fc1c149afbf4c8996fb92427ae41e4649b934ca495991b7852b855
+1 6e340b9cffb37a989ca544e6bb780a2c78901d3fb33738768511a30617afa01d
+4095 2cae68411db14d6b340e650cd7e512a0d604379425f48e5a8ba846336777ff5c
+4096 ad7facb2586fc6e966c004d7d1d16b024f5805ff7cb47c7a85dabd8b48892ca7
+4097 d68e9b6ca6ef568622005e43007475e22f47e488041fb1afb2c0cfaa7fec673b
+2000000 10a0b3fad17972b3b1b9171c811c2a461674993cb410def99c5ae2522d811da4";
+
+// The body of a manifest of one name with so many bytes, of which a read gives at most so many.
+fn body_of(alloc: Global, len: u64, most: u64) -> Option<Vec<u8>> {
+    let mut builder = Builder::new(alloc);
+    builder
+        .add(b"a", &mut store_of(alloc, len, most, NEVER)?)
+        .ok()?;
+    builder.body(alloc).ok()
 }
 
-// Whether an `add` of the second name, which takes three reads, is ended by each that fails.
-fn add_is_ended(alloc: Global, read: u64) -> Option<bool> {
-    let mut files = failing_at(alloc, ROWS, read)?;
-    let answer = Builder::new(alloc).add(b"b", &mut files);
-    Some(answer == Err(BuildError::Fault) && is_ended(&files, read))
+// Whether its entry has that length and this digest.
+fn is_entry(alloc: Global, len: u64, most: u64, digits: &str) -> Option<bool> {
+    let mut digest = [0u8; 32];
+    hex::decode_to_slice(digits, &mut digest).ok()?;
+    let body = body_of(alloc, len, most)?;
+    Some(body.get(6..14)? == len.to_be_bytes().as_slice() && body.get(14..)? == digest.as_slice())
 }
 
-// The same of a check of the whole manifest of both names, which takes five.
-fn check_is_ended(alloc: Global, manifest: &[u8], read: u64) -> Option<bool> {
-    let mut files = failing_at(alloc, ROWS, read)?;
-    Some(toy_answer(manifest, &mut files) == "fault" && is_ended(&files, read))
-}
-
-// Of the check of an opened one,
-fn opened_check_is_ended(alloc: Global, manifest: &[u8], read: u64) -> Option<bool> {
-    let mut files = failing_at(alloc, ROWS, read)?;
-    let answer = Manifest::reopen(manifest)?.check(&mut files);
-    Some(answer == Err(CheckError::Fault) && is_ended(&files, read))
-}
-
-// and of the check of its second entry.
-fn entry_check_is_ended(alloc: Global, manifest: &[u8], read: u64) -> Option<bool> {
-    let mut files = failing_at(alloc, ROWS, read)?;
-    let answer = Manifest::reopen(manifest)?.entry(1)?.check(&mut files);
-    Some(answer == Err(EntryError::Fault) && is_ended(&files, read))
-}
-
-fn are_ended(alloc: Global, read: u64) -> Option<bool> {
-    let manifest = toy_manifest(alloc, ROWS)?;
-    let checks = check_is_ended(alloc, &manifest, read)?
-        && opened_check_is_ended(alloc, &manifest, read)?;
-    let is_single = read >= 3
-        || add_is_ended(alloc, read)? && entry_check_is_ended(alloc, &manifest, read)?;
-    Some(checks && is_single)
+fn is_hashed(alloc: Global, row: &str) -> Option<bool> {
+    let (len, digits) = row.split_once(' ')?;
+    let len = len.parse::<u64>().ok()?;
+    Some(is_entry(alloc, len, PIECE, digits)? && is_entry(alloc, len, 1000, digits)?)
 }
 
 #[test]
-fn a_read_that_fails_is_the_last(rt: HostRuntime) {
-    for read in 0..5u64 {
-        assert!(rt; are_ended(rt.alloc(), read) == Some(true), "read {read}");
+fn bytes_are_hashed_in_their_order_whatever_a_read_gives(rt: HostRuntime) {
+    for row in DIGESTS.lines() {
+        assert!(rt; is_hashed(rt.alloc(), row) == Some(true), "{row}");
     }
 }
 
-// The highest place that each check of the manifest asks for over a store that has more bytes under
-// both names: of the whole, of the opened one, of each entry.
-fn highest_of_whole(manifest: &[u8], mut files: Watched) -> Option<u64> {
-    let _refused = toy_answer(manifest, &mut files);
-    Some(files.highest)
+// How many bytes an entry is of, how many the store has, and which read fails; how many reads a check
+// makes then, the highest place, how many bytes it asks for at once at most and in all, and how many
+// came.
+const ASKED: [[u64; 8]; 12] = [
+    [3, 3, NEVER, 2, 4, 4, 5, 3],
+    [3, 2, NEVER, 2, 4, 4, 6, 2],
+    [3, NEVER, NEVER, 1, 4, 4, 4, 4],
+    [0, NEVER, NEVER, 1, 1, 1, 1, 1],
+    [4095, 4095, NEVER, 2, 4096, 4096, 4097, 4095],
+    [4096, 4097, NEVER, 2, 4097, 4096, 4097, 4097],
+    [100_000, NEVER, NEVER, 25, 100_001, 4096, 100_001, 100_001],
+    [3, 3, 0, 1, 4, 4, 4, 0],
+    [3, 3, 1, 2, 4, 4, 5, 3],
+    [5000, 5000, 0, 1, 4096, 4096, 4096, 0],
+    [5000, 5000, 1, 2, 5001, 4096, 5001, 4096],
+    [5000, 5000, 2, 3, 5001, 4096, 5002, 5000],
+];
+
+fn has_seen(store: &Watched, row: &[u64; 8]) -> bool {
+    let [_, _, _, reads, highest, room, asked, given] = *row;
+    store.reads == reads
+        && store.highest == highest
+        && store.room == room
+        && store.asked == asked
+        && store.given == given
 }
 
-fn highest_of_opened(manifest: &[u8], mut files: Watched) -> Option<u64> {
-    let _refused = Manifest::reopen(manifest)?.check(&mut files);
-    Some(files.highest)
+// What is answered: the entry's own bytes alone are accepted, and a read that fails is told.
+fn wanted(row: &[u64; 8]) -> Result<(), EntryError> {
+    if row[2] != NEVER {
+        Err(EntryError::Fault)
+    } else if row[0] == row[1] {
+        Ok(())
+    } else {
+        Err(EntryError::Differs)
+    }
 }
 
-fn highest_of_entry(manifest: &[u8], mut files: Watched, number: usize) -> Option<u64> {
-    let _refused = Manifest::reopen(manifest)?.entry(number)?.check(&mut files);
-    Some(files.highest)
+fn is_wanted(answer: Result<(), CheckError>, row: &[u64; 8]) -> bool {
+    match answer {
+        Ok(()) => wanted(row) == Ok(()),
+        Err(CheckError::Differs(0)) => wanted(row) == Err(EntryError::Differs),
+        Err(CheckError::Fault) => wanted(row) == Err(EntryError::Fault),
+        Err(_) => false,
+    }
 }
 
-fn asks_no_further(alloc: Global) -> Option<bool> {
-    let manifest = toy_manifest(alloc, ROWS)?;
-    let longer = "a=## b=##";
+// A check of an opened manifest, and of its entry.
+fn opened_asks(manifest: &[u8], mut store: Watched, row: &[u64; 8]) -> Option<bool> {
+    let answer = Manifest::reopen(manifest)?.check(&mut store);
+    Some(is_wanted(answer, row) && has_seen(&store, row))
+}
+
+fn entry_asks(manifest: &[u8], mut store: Watched, row: &[u64; 8]) -> Option<bool> {
+    let answer = Manifest::reopen(manifest)?.entry(0)?.check(&mut store);
+    Some(answer == wanted(row) && has_seen(&store, row))
+}
+
+fn both_ask(alloc: Global, row: &[u64; 8]) -> Option<bool> {
+    let [len, has, fail, ..] = *row;
+    let body = body_of(alloc, len, PIECE)?;
     Some(
-        highest_of_whole(&manifest, failing_at(alloc, longer, NEVER)?)? == 4
-            && highest_of_opened(&manifest, failing_at(alloc, longer, NEVER)?)? == 4
-            && highest_of_entry(&manifest, failing_at(alloc, longer, NEVER)?, 0)? == 4
-            && highest_of_entry(&manifest, failing_at(alloc, longer, NEVER)?, 1)? == 5001,
+        opened_asks(&body, store_of(alloc, has, PIECE, fail)?, row)?
+            && entry_asks(&body, store_of(alloc, has, PIECE, fail)?, row)?,
     )
 }
 
 #[test]
-fn no_check_asks_further_than_one_byte_past_an_entry(rt: HostRuntime) {
-    assert!(rt; asks_no_further(rt.alloc()) == Some(true));
+fn checks_ask_for_one_byte_past_an_entry_at_most_and_end_with_a_fault(rt: HostRuntime) {
+    for row in &ASKED {
+        assert!(rt; both_ask(rt.alloc(), row) == Some(true), "{row:?}");
+    }
+}
+
+// A check of a signed manifest.
+fn signed_asks(manifest: &[u8], mut store: Watched, row: &[u64; 8]) -> Option<bool> {
+    let answer = checked(&key()?.verifying_key(), manifest, &mut store);
+    Some(is_wanted(answer, row) && has_seen(&store, row))
+}
+
+// Whether that of one of 3 bytes does what the rows of so many say.
+fn asks_alike(alloc: Global) -> Option<bool> {
+    let mut own = store_of(alloc, 3, PIECE, NEVER)?;
+    let manifest = manifest_of(alloc, &key()?, &[b"a"], &mut own).ok()?;
+    let mut alike = true;
+    for row in &ASKED {
+        if row[0] == 3 {
+            alike &= signed_asks(&manifest, store_of(alloc, row[1], PIECE, row[2])?, row)?;
+        }
+    }
+    Some(alike)
+}
+
+#[test]
+fn a_check_of_a_signed_manifest_asks_alike(rt: HostRuntime) {
+    assert!(rt; asks_alike(rt.alloc()) == Some(true));
+}
+
+// Whether an `add` that takes three reads ends with this one, if it fails.
+fn add_ends(alloc: Global, read: u64) -> Option<bool> {
+    let mut store = store_of(alloc, 5000, PIECE, read)?;
+    let answer = Builder::new(alloc).add(b"a", &mut store);
+    Some(if read < 3 {
+        answer == Err(BuildError::Fault) && store.reads == read + 1
+    } else {
+        answer == Ok(()) && store.reads == 3
+    })
+}
+
+#[test]
+fn an_add_ends_with_a_fault(rt: HostRuntime) {
+    for read in 0..4u64 {
+        assert!(rt; add_ends(rt.alloc(), read) == Some(true), "read {read}");
+    }
 }
