@@ -1,6 +1,6 @@
 //! The example of the page of `slh_log`: a client that has a head of six entries takes one of
 //! eight.
-use crate::notes::{ROOT, digest};
+use crate::heads::digest;
 use slh_dsa::{Sha2_128f, SigningKey, VerifyingKey};
 use slh_log::{CheckpointError, OpenError, check_growth, checkpoint, open};
 use std::alloc::Global;
@@ -29,8 +29,9 @@ fn has_grown(
 fn is_taken(alloc: Global) -> Option<bool> {
     let key = SigningKey::slh_keygen_internal(&[1; 16], &[2; 16], &[3; 16]).ok()?;
     let root_of_6 = digest("76e67dadbcdf1e10e1b74ddc608abd2f98dfb16fbce75277b5232a127f2087ef");
+    let root_of_8 = digest("5dc9da79a70659a9ad559cb701ded9a2ab9d823aad2f4960cfe370eff4604328");
     let old = head(alloc, &key, 6, &root_of_6).ok()?;
-    let new = head(alloc, &key, 8, &digest(ROOT)).ok()?;
+    let new = head(alloc, &key, 8, &root_of_8).ok()?;
     let proof = [
         digest("0ebc5d3437fbe2db158b9f126a1d118e308181031d0a949f8dededebc558ef6a"),
         digest("ca854ea128ed050b41b35ffc1b87b8eb2bde461e9e3b5596ece6b9d5975a0ae0"),
