@@ -1,17 +1,9 @@
-//! Tests of `slh_batch` from outside: the toy suite, and SLH-DSA-SHA2-128f.
+//! Tests of `slh_batch` from outside: what other programs computed, and the examples of its page.
 #![tactic(auto)]
 
 #[cfg(test)]
 mod batches;
 #[cfg(test)]
-mod heads;
-#[cfg(test)]
 mod page_of_batches;
 #[cfg(test)]
 mod pieces;
-#[cfg(test)]
-mod receipts;
-#[cfg(test)]
-mod refusals;
-#[cfg(test)]
-mod toys;

@@ -1,8 +1,17 @@
 //! The examples of the page of `slh_batch`.
-use crate::receipts::{key, public};
 use slh_batch::{Batch, BatchError, Head, HeadError, ReceiptError, Sealed, accept, accept_under};
 use slh_dsa::{Sha2_128f, SigningKey, VerifyingKey};
 use std::alloc::Global;
+
+fn key() -> SigningKey<Sha2_128f> {
+    SigningKey::slh_keygen_internal(&[1; 16], &[2; 16], &[3; 16]).unwrap()
+}
+
+fn public() -> VerifyingKey<Sha2_128f> {
+    key().verifying_key()
+}
+
+const MESSAGES: [&[u8]; 2] = [b"an entry", b"another"];
 
 fn receipt_of_second(
     alloc: Global,
@@ -17,7 +26,7 @@ fn receipt_of_second(
     sealed.receipt(alloc, 1)
 }
 
-pub(crate) fn accepted(
+fn accepted(
     key: &VerifyingKey<Sha2_128f>,
     message: &[u8],
     receipt: &[u8],
@@ -32,7 +41,7 @@ fn is_of_second(key: &VerifyingKey<Sha2_128f>, receipt: &[u8]) -> bool {
 }
 
 fn runs(alloc: Global) -> bool {
-    match receipt_of_second(alloc, &key(), &[b"an entry", b"another"]) {
+    match receipt_of_second(alloc, &key(), &MESSAGES) {
         Ok(receipt) => is_of_second(&public(), &receipt),
         Err(_) => false,
     }
@@ -64,10 +73,12 @@ fn are_accepted(
     Ok(true)
 }
 
-fn sealed(alloc: Global) -> Result<Sealed<Sha2_128f>, BatchError> {
+/// A batch of some messages.
+pub(crate) fn sealed(alloc: Global, messages: &[&[u8]]) -> Result<Sealed<Sha2_128f>, BatchError> {
     let mut batch = Batch::new(alloc);
-    batch.push(b"an entry")?;
-    batch.push(b"another")?;
+    for message in messages {
+        batch.push(message)?;
+    }
     batch.seal(alloc, &key(), None)
 }
 
@@ -100,7 +111,7 @@ fn accepts_both(head: &[u8], first: &[[u8; 32]], second: &[[u8; 32]]) -> bool {
 }
 
 fn runs_under_a_head(alloc: Global) -> Result<bool, BatchError> {
-    let sealed = sealed(alloc)?;
+    let sealed = sealed(alloc, &MESSAGES)?;
     let head = sealed.head(alloc)?;
     let first = sealed.path(alloc, 0)?;
     let second = sealed.path(alloc, 1)?;
