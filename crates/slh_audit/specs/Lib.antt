@@ -1,3 +1,1 @@
-pub mod Evidence
-pub mod Places
 pub mod Verdicts

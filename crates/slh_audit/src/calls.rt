@@ -1,7 +1,7 @@
 //! Audits: whether a key made the bytes that lead to its root.
 ghost use Rattle.std.specs.Prelude.{◌≡◌, ◌≤◌, ◌*◌, ◌+◌, ◌++◌, length, take};
 ghost use Rattle.std.specs.Prelude.{◌↔◌, IfOk, IsTrue};
-ghost use Rattle.slh_audit.specs.Evidence.{dispute, dispute_of, shows};
+ghost use Rattle.slh_evidence.specs.Evidence.{dispute, dispute_of, shows};
 ghost use Rattle.slh_audit.specs.Verdicts.{IsGenuineExactly, audit_answer, check_answer};
 ghost use Rattle.slh_audit.specs.Verdicts.{digest_audit, digest_audit_answer};
 ghost use Rattle.slh_audit.specs.Verdicts.{digest_check_answer, digest_of, key_dispute};
@@ -12,57 +12,22 @@ ghost use Rattle.slh_audit.specs.Verdicts.{digest_verdict as spec_digest_verdict
 ghost use Rattle.slh_audit.specs.Verdicts.{foreign_by as spec_foreign_by};
 ghost use Rattle.slh_core.specs.Bytes.{part};
 ghost use Rattle.slh_core.specs.Steps.{IsFresh};
-ghost use Rattle.slh_trees.specs.Checking.{forest_of, layers_of, signature_size};
+ghost use Rattle.slh_internal.specs.Checking.{signature_size};
 ghost use Rattle.slh_frames.specs.Frames.{frame, mode_frame};
-ghost use Rattle.slh_trees.specs.MessageDigest.{split_digest as spec_split_digest};
 
-use crate::dispute::Dispute;
-use crate::evidence::{AuditError, Evidence, Verdict};
-use crate::layer::same_value;
+use crate::evidence::{AuditError, Verdict};
 use crate::size_checks::{check_lengths, check_sizes};
 use hybrid_array::ArraySize;
 use slh_core::equal_parts::part_of;
 use slh_core::nbytes::NBytes;
 use slh_core::params::{ForsParams, MAX_DIGEST_LEN, MAX_MESSAGE_LEN, forest_sizes};
 use slh_core::steps::Steps;
+use slh_evidence::{Evidence, same_value, set_against};
 use slh_frames::{Frame, Mode};
-use slh_trees::check::{root_for_digest, write_digest};
-use slh_trees::{SigView, split_digest, top_root};
+use slh_internal::check::{root_for_digest, write_digest};
+use slh_internal::{SigView, top_root};
 use std::marker::Brand;
 use std::sync::ledger::{Blank, Ledger};
-
-/// Sets the seeds of a key and the bytes of a signature against each other, for a digest.
-fn set_against<'a, P: ForsParams>(
-    sk_seed: &NBytes<P::N>,
-    pk_seed: &NBytes<P::N>,
-    digest: &'a [u8],
-    sig: &SigView<'a, P>,
-) -> Dispute<'a, P>
-    requires { length digest.now ≡ P.M.USIZE }
-    ensures whole { length sig.now ≡ signature_size P.scheme }
-    ensures value { let parts = spec_split_digest P.scheme digest.now in
-        result ≡ record {
-          seed = pk_seed.now;
-          sk = sk_seed.now;
-          t = parts.tree;
-          l = parts.leaf;
-          md = parts.md;
-          forest = forest_of P.scheme sig.now;
-          layers = layers_of P.scheme sig.now;
-        } }
-{
-    let (md, tree, leaf) = split_digest::<P>(digest);
-    Dispute {
-        sk_seed: sk_seed.copy(),
-        pk_seed: pk_seed.copy(),
-        keyed: P::keyed(pk_seed),
-        tree,
-        leaf,
-        md,
-        forest: sig.fors(),
-        layers: sig.layers(),
-    }
-}
 
 /// The verdict by the first evidence.
 fn foreign_by(found: Option<Evidence>) -> Verdict

@@ -2,18 +2,19 @@
 //! speaks of.
 ghost use Rattle.std.specs.Prelude.{◌≡◌, ◌⊎◌, ℕ, List, length, take, Some, Ok, true, false};
 ghost use Rattle.std.specs.List.{Contains};
-ghost use Rattle.slh_audit.specs.Evidence.{Dispute, dispute_of, shows};
-ghost use Rattle.slh_audit.specs.Places.{IsFirst, first_evidence, places};
+ghost use Rattle.slh_evidence.specs.Evidence.{Dispute, dispute_of, shows};
+ghost use Rattle.slh_evidence.specs.Places.{IsFirst, first_evidence, places};
 ghost use Rattle.slh_audit.specs.Verdicts.{IsGenuineExactly, message_audit};
-ghost use Rattle.slh_audit.specs.declared.evidence.Evidence.{Evidence};
+ghost use Rattle.slh_evidence.specs.declared.evidence.Evidence.{Evidence};
 ghost use Rattle.slh_audit.specs.declared.evidence.Verdict.{Verdict};
 ghost use Rattle.slh_core.specs.Bytes.{part};
-ghost use Rattle.slh_trees.specs.Checking.{checked_root, signature_size};
-ghost use Rattle.slh_trees.specs.Keys.{top_root};
-ghost use Rattle.slh_trees.specs.Signing.{signature_with};
+ghost use Rattle.slh_internal.specs.Checking.{checked_root, signature_size};
+ghost use Rattle.slh_internal.specs.Keys.{top_root};
+ghost use Rattle.slh_internal.specs.Signing.{signature_with};
 
-use crate::evidence::{Evidence, Verdict};
+use crate::evidence::Verdict;
 use slh_core::params::ForsParams;
+use slh_evidence::Evidence;
 
 /// Bytes that lead to the root of a key's seeds are those that the key makes with their own
 /// randomizer, or the search finds evidence against them.

@@ -36,18 +36,13 @@
 
 mod calls;
 pub mod clones;
-mod dispute;
 pub mod evidence;
-mod forest;
 pub mod laws;
-mod layer;
-mod made;
-mod search;
-mod showing;
 mod size_checks;
 
 pub use calls::{
     audit, audit_for_digest, audit_framed, check_evidence, check_evidence_for_digest,
     check_evidence_framed, hash_audit, hash_check_evidence,
 };
-pub use evidence::{AuditError, Evidence, Verdict};
+pub use evidence::{AuditError, Verdict};
+pub use slh_evidence::Evidence;

@@ -1,14 +1,14 @@
 //! The checks of sizes that come before anything is hashed.
 ghost use Rattle.std.specs.Prelude.{◌≡◌, ◌≤◌, ◌+◌, ◌*◌, ◌^◌, length, IfOk, OnOk};
 ghost use Rattle.slh_audit.specs.Verdicts.{length_refusals, size_refusal};
-ghost use Rattle.slh_trees.specs.Checking.{signature_size};
+ghost use Rattle.slh_internal.specs.Checking.{signature_size};
 ghost use Rattle.slh_trees.specs.Refusals.{RefusedExactly};
 
 use crate::evidence::AuditError;
 use hybrid_array::ArraySize;
 use slh_core::params::{ForsParams, forest_sizes};
 use slh_frames::{MAX_CONTEXT, MAX_MESSAGE};
-use slh_trees::SigView;
+use slh_internal::SigView;
 
 /// A view of the signature, where the key and the signature have their lengths.
 pub(crate) fn check_lengths<'a, P: ForsParams>(

@@ -2,7 +2,7 @@
 ghost use Rattle.std.specs.Prelude.{◌≡◌, length, if◌then◌else◌, None, Some, IfOk};
 ghost use Rattle.slh_dsa.specs.Calls.{is_valid};
 ghost use Rattle.slh_frames.specs.declared.frame.Mode.TheVariants.{Pure};
-ghost use Rattle.slh_trees.specs.Checking.{signature_size};
+ghost use Rattle.slh_internal.specs.Checking.{signature_size};
 ghost use Rattle.slh_trees.specs.Refusals.{RefusedExactly};
 ghost use Rattle.slh_batch.specs.Calls.{accept_digest_error, accept_error};
 ghost use Rattle.slh_batch.specs.Parts.{FitsItsPlace, place_of};

@@ -1,7 +1,7 @@
 //! Heads of batches, which are verified once, and messages that are checked under them.
 ghost use Rattle.std.specs.Prelude.{◌≡◌, ◌≤◌, ◌&&◌, ◌==◌, ◌^◌, length, nat_le, nat_lt, true};
 ghost use Rattle.std.specs.Prelude.{IfOk, IfSome, is_some};
-ghost use Rattle.slh_trees.specs.Checking.{signature_size};
+ghost use Rattle.slh_internal.specs.Checking.{signature_size};
 ghost use Rattle.slh_trees.specs.Refusals.{RefusedExactly};
 ghost use Rattle.slh_batch.specs.Calls.{digest_under_error, led_refusal, open_error};
 ghost use Rattle.slh_batch.specs.Calls.{receipt_under_error, under_error};

@@ -6,8 +6,8 @@ use Rattle.std.specs.Option.{ForSome}
 use Rattle.std.specs.Str.{bytes_eq}
 use Rattle.slh_core.specs.Bytes.{part}
 use Rattle.slh_core.specs.Parameters.{Scheme}
-use Rattle.slh_trees.specs.Checking.{checked_root, signature_size}
-use Rattle.slh_trees.specs.Keys.{IsTrueKey, signing_key_bytes}
+use Rattle.slh_internal.specs.Checking.{checked_root, signature_size}
+use Rattle.slh_internal.specs.Keys.{IsTrueKey, signing_key_bytes}
 use Rattle.slh_trees.specs.Refusals.{RefusedExactly, context_refusal, first_refusal, length_refusal}
 use Rattle.slh_trees.specs.Refusals.{message_refusal, randomizer_refusal}
 use Rattle.slh_frames.specs.Frames.{mode_frame}

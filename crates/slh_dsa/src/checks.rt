@@ -1,7 +1,7 @@
 //! The checks of sizes that come before anything is hashed.
 ghost use Rattle.std.specs.Prelude.{◌≡◌, ◌≤◌, ◌^◌, length, OnOk};
 ghost use Rattle.std.specs.Option.{option_copied, ForSome};
-ghost use Rattle.slh_trees.specs.Checking.{signature_size};
+ghost use Rattle.slh_internal.specs.Checking.{signature_size};
 ghost use Rattle.slh_trees.specs.Refusals.{RefusedExactly, context_refusal, message_refusal};
 ghost use Rattle.slh_trees.specs.Refusals.{randomizer_refusal};
 ghost use Rattle.slh_dsa.specs.Calls.{signature_refusal};

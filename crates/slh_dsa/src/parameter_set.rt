@@ -1,6 +1,6 @@
 //! The parameter sets (FIPS 205, section 11).
 ghost use Rattle.std.specs.Prelude.{◌≡◌, ◌*◌, ◌≤◌, ℕ, List, length};
-ghost use Rattle.slh_trees.specs.Checking.{signature_size};
+ghost use Rattle.slh_internal.specs.Checking.{signature_size};
 
 use hybrid_array::ArraySize;
 use slh_core::params::ForsParams;

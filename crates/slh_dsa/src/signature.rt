@@ -1,14 +1,14 @@
 //! Signatures (FIPS 205, section 9.2).
 ghost use Rattle.std.specs.Prelude.{◌≡◌, length, IfOk};
 ghost use Rattle.slh_dsa.specs.Calls.{signature_refusal};
-ghost use Rattle.slh_trees.specs.Checking.{signature_size};
+ghost use Rattle.slh_internal.specs.Checking.{signature_size};
 ghost use Rattle.slh_trees.specs.Refusals.{RefusedOrNoMemory};
 ghost use Rattle.slh_dsa.specs.declared.error.Error.TheVariants.{Memory};
 
 use crate::error::Error;
 use crate::parameter_set::ParameterSet;
 use hybrid_array::{Array, ArraySize, SliceError};
-use slh_trees::SigView;
+use slh_internal::SigView;
 use std::alloc::{AllocError, Global};
 use std::marker::Model;
 
@@ -21,7 +21,7 @@ pub struct Signature<P: ParameterSet> {
 
 impl<P: ParameterSet> Model for Signature<P> {
     ghost use Rattle.std.specs.Prelude.{◌≡◌, ℕ, List, length};
-    ghost use Rattle.slh_trees.specs.Checking.{signature_size};
+    ghost use Rattle.slh_internal.specs.Checking.{signature_size};
 
     ghost Value = { List ℕ };
 

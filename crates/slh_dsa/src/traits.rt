@@ -4,8 +4,8 @@ ghost use Rattle.std.specs.Prelude.{◌≡◌, ◌*◌, ◌^◌, ◌≤◌, [], 
 ghost use Rattle.rand_core.specs.Stream.{fill_bytes};
 ghost use Rattle.slh_core.specs.Steps.{IsFresh};
 ghost use Rattle.slh_frames.specs.Frames.{frame};
-ghost use Rattle.slh_trees.specs.Keys.{IsTrueKey, signing_key_bytes};
-ghost use Rattle.slh_trees.specs.Signing.{signature_of};
+ghost use Rattle.slh_internal.specs.Keys.{IsTrueKey, signing_key_bytes};
+ghost use Rattle.slh_internal.specs.Signing.{signature_of};
 ghost use Rattle.slh_trees.specs.Refusals.{message_refusal};
 ghost use Rattle.slh_dsa.specs.Calls.{verify_error};
 ghost use Rattle.slh_dsa.specs.declared.error.Error.TheVariants.{Memory, MessageTooLong};

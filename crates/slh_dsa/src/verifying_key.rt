@@ -7,7 +7,7 @@ ghost use Rattle.slh_dsa.specs.Calls.{hash_verify_error, is_valid as spec_is_val
 ghost use Rattle.slh_dsa.specs.Calls.{root_refusal, verify_error};
 ghost use Rattle.slh_dsa.specs.Calls.{verify_internal_error, verify_refusal};
 ghost use Rattle.slh_dsa.specs.Calls.{verifying_key_refusal};
-ghost use Rattle.slh_trees.specs.Checking.{signature_size};
+ghost use Rattle.slh_internal.specs.Checking.{signature_size};
 ghost use Rattle.slh_trees.specs.Refusals.{RefusedExactly};
 ghost use Rattle.slh_dsa.specs.declared.error.Error.TheVariants.{Invalid};
 
@@ -20,7 +20,7 @@ use slh_core::nbytes::NBytes;
 use slh_core::params::{MAX_MESSAGE_LEN, chain_sizes};
 use slh_core::steps::Steps;
 use slh_frames::{Frame, Mode};
-use slh_trees::{SigView, check_root};
+use slh_internal::{SigView, check_root};
 use std::alloc::{AllocError, Global};
 use std::marker::{Brand, Model};
 use std::sync::ledger::{Blank, Ledger};

@@ -15,7 +15,7 @@ use Rattle.slh_log.specs.declared.error.OpenError.TheVariants as opening
 use Rattle.slh_log.specs.declared.error.PresenceError.{PresenceError}
 use Rattle.slh_log.specs.declared.error.PresenceError.TheVariants as presence
 use Rattle.slh_sets.specs.Sets.{set_numbered}
-use Rattle.slh_trees.specs.Checking.{signature_size}
+use Rattle.slh_internal.specs.Checking.{signature_size}
 
 -- the numbers of the causes
 abbrev pub open_number : OpenError → ℕ

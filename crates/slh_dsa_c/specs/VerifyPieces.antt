@@ -10,7 +10,7 @@ use Rattle.slh_dsa_c.specs.Status.{in_mode, in_set, number_of_refusal}
 use Rattle.slh_sets.specs.Sets.{scheme_numbered}
 use Rattle.slh_stream.specs.Suspended.{IsSuspended}
 use Rattle.slh_stream.specs.declared.suspended.SuspendedVerifier.{SuspendedVerifier}
-use Rattle.slh_trees.specs.Checking.{signature_size}
+use Rattle.slh_internal.specs.Checking.{signature_size}
 use Rattle.slh_trees.specs.Refusals.{first_refusal}
 
 -- why no verification begins: what verifying the empty message is refused for before it looks at the

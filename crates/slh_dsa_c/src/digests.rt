@@ -8,7 +8,7 @@ ghost use Rattle.slh_dsa_c.specs.Status.{verify_digest_status};
 ghost use Rattle.slh_sets.specs.Sets.{scheme_numbered};
 ghost use Rattle.slh_stream.specs.Digests.{digest_frame};
 ghost use Rattle.slh_trees.specs.Refusals.{RefusedExactly};
-ghost use Rattle.slh_trees.specs.Signing.{signature_of};
+ghost use Rattle.slh_internal.specs.Signing.{signature_of};
 
 use crate::mode::mode_of;
 use crate::set::{read_in_set, write_in_set};

@@ -15,7 +15,7 @@ ghost use Rattle.slh_sets.specs.Sets.{scheme_numbered};
 ghost use Rattle.slh_stream.specs.Passes.{randomizer_for};
 ghost use Rattle.slh_stream.specs.SuspendedPass.{IsBlank, IsFirstAside, IsSecondAside};
 ghost use Rattle.slh_trees.specs.Refusals.{RefusedExactly, context_refusal, message_refusal};
-ghost use Rattle.slh_trees.specs.Signing.{signature_of};
+ghost use Rattle.slh_internal.specs.Signing.{signature_of};
 
 use crate::set::{read_in_set, write_in_set};
 use crate::status::{CHANGED, LENGTH, MESSAGE_TOO_LONG, OK, STATE, UNKNOWN_SET, number_of};

@@ -6,7 +6,7 @@ ghost use Rattle.slh_dsa_c.specs.VerifyPieces.{HasOtherLength, HasOtherRandomize
 ghost use Rattle.slh_dsa_c.specs.VerifyPieces.{begin_number, begin_refusal, begin_status, update_number};
 ghost use Rattle.slh_dsa_c.specs.Status.{verify_number, verify_status};
 ghost use Rattle.slh_stream.specs.Suspended.{IsBlank, IsSuspended};
-ghost use Rattle.slh_trees.specs.Checking.{signature_size};
+ghost use Rattle.slh_internal.specs.Checking.{signature_size};
 ghost use Rattle.slh_trees.specs.Refusals.{RefusedExactly};
 
 use crate::mode::mode_of;

@@ -6,7 +6,7 @@ ghost use Rattle.base64.specs.GeneralPurpose.{IsBytes, encode_of};
 ghost use Rattle.slh_files.specs.Blocks.{block_in};
 ghost use Rattle.slh_files.specs.Heads.{der_of, key_len};
 ghost use Rattle.slh_files.specs.Jobs.{MadeIsGenuine};
-ghost use Rattle.slh_audit.specs.declared.evidence.Evidence.{Evidence};
+ghost use Rattle.slh_evidence.specs.declared.evidence.Evidence.{Evidence};
 ghost use Rattle.slh_files.specs.Lines.{squeezed, words_of};
 ghost use Rattle.slh_files.specs.Made.{MadeIsOwn, MadeIsRead};
 ghost use Rattle.slh_files.specs.Reading.{key_in, key_with, pem_key};

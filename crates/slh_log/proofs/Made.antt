@@ -11,7 +11,7 @@ use Rattle.line_serve.specs.Lines.{parts}
 use Rattle.sha256_lanes.proofs.Digest.{length-sha256}
 use Rattle.sha256_lanes.specs.Sha256.{sha256}
 use Rattle.slh_core.specs.Parameters.{Scheme}
-use Rattle.slh_trees.specs.Checking.{signature_size}
+use Rattle.slh_internal.specs.Checking.{signature_size}
 use Rattle.slh_frames.specs.Frames.{mode_frame}
 use Rattle.slh_frames.specs.declared.frame.Mode.TheVariants.{Pure}
 use Rattle.slh_trees.specs.Refusals.{first_refusal}

@@ -9,7 +9,7 @@ use Rattle.sha256_lanes.specs.Sha256.{sha256}
 use Rattle.slh_core.specs.Parameters.{Scheme}
 use Rattle.slh_dsa.specs.Calls.{is_valid}
 use Rattle.slh_frames.specs.declared.frame.Mode.TheVariants.{Pure}
-use Rattle.slh_trees.specs.Checking.{signature_size}
+use Rattle.slh_internal.specs.Checking.{signature_size}
 use Rattle.slh_trees.specs.Refusals.{first_refusal, length_refusal, message_refusal}
 use Rattle.slh_trees.specs.Refusals.{randomizer_refusal}
 use Rattle.line_serve.specs.Lines.{parts}

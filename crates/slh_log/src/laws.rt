@@ -5,7 +5,7 @@ ghost use Rattle.std.specs.Prelude.{slice_index_or, All, Option, None, Some, tru
 ghost use Rattle.base64.specs.GeneralPurpose.{IsBytes};
 ghost use Rattle.merkle_tree.specs.Binding.{entry_clash};
 ghost use Rattle.sha256_lanes.specs.Sha256.{sha256};
-ghost use Rattle.slh_trees.specs.Keys.{IsTrueKey};
+ghost use Rattle.slh_internal.specs.Keys.{IsTrueKey};
 ghost use Rattle.slh_log.specs.Calls.{presence_refusal};
 ghost use Rattle.slh_log.specs.Heads.{AreTaken, IsFound, IsHead, IsOpened, IsSigned, Step};
 ghost use Rattle.slh_log.specs.Heads.{last_entries, steps_clash};

@@ -5,8 +5,8 @@ use Rattle.std.specs.Prelude.{◌⊎◌, ◌==◌, IfSome, OnOk, OnErr, unwrap_o
 use Rattle.sha256_lanes.specs.Sha256.{sha256}
 use Rattle.slh_core.specs.Parameters.{Scheme}
 use Rattle.slh_frames.specs.Frames.{frame}
-use Rattle.slh_trees.specs.Checking.{signature_size}
-use Rattle.slh_trees.specs.Signing.{signature_of}
+use Rattle.slh_internal.specs.Checking.{signature_size}
+use Rattle.slh_internal.specs.Signing.{signature_of}
 use Rattle.slh_trees.specs.Refusals.{first_refusal, length_refusal, randomizer_refusal}
 use Rattle.slh_manifest.specs.Files.{Files, bytes_of}
 use Rattle.slh_manifest.specs.Manifest.{Rise, body_bytes, manifest_context, may_follow}

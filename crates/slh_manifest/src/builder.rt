@@ -5,7 +5,7 @@ ghost use Rattle.std.specs.Prelude.{IsErrOf, OnOk, OnErr, IfOk, IfErr, IfSome, I
 ghost use Rattle.std.specs.Option.{option_copied, ForSome};
 ghost use Rattle.line_serve.specs.Causes.{Rose};
 ghost use Rattle.slh_frames.specs.Frames.{frame};
-ghost use Rattle.slh_trees.specs.Signing.{signature_of};
+ghost use Rattle.slh_internal.specs.Signing.{signature_of};
 ghost use Rattle.slh_trees.specs.Refusals.{RefusedExactly, RefusedOrNoMemory};
 ghost use Rattle.slh_manifest.specs.Building.{IsAdded, IsBuilt, RefusedOrFault};
 ghost use Rattle.slh_manifest.specs.Building.{add_refusal, digest_refusal, empty_refusal, entry_of};

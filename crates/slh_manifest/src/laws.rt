@@ -4,8 +4,8 @@ ghost use Rattle.std.specs.Prelude.{◌≡◌, ℕ, ◌*◌, ◌<◌, ◌++◌, 
 ghost use Rattle.std.specs.Prelude.{[], false, map, slice_index};
 ghost use Rattle.std.specs.List.{AllByRecursion};
 ghost use Rattle.slh_core.specs.Parameters.{Scheme};
-ghost use Rattle.slh_trees.specs.Checking.{signature_size};
-ghost use Rattle.slh_trees.specs.Keys.{IsTrueKey};
+ghost use Rattle.slh_internal.specs.Checking.{signature_size};
+ghost use Rattle.slh_internal.specs.Keys.{IsTrueKey};
 ghost use Rattle.slh_dsa.specs.Calls.{is_valid};
 ghost use Rattle.slh_frames.specs.declared.frame.Mode.TheVariants.{Pure};
 ghost use Rattle.slh_manifest.specs.Building.{AreCalls, Call, manifest_of, ok_names};

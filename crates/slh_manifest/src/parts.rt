@@ -1,7 +1,7 @@
 //! Manifests taken apart.
 ghost use Rattle.std.specs.Prelude.{◌≡◌, ◌≤◌, ◌^◌, None, Some, IfSome, is_some};
 ghost use Rattle.std.specs.Prelude.{drop, length, if◌then◌else◌};
-ghost use Rattle.slh_trees.specs.Checking.{signature_size};
+ghost use Rattle.slh_internal.specs.Checking.{signature_size};
 ghost use Rattle.slh_manifest.specs.Checking.{body_part, count_of as spec_count_of, has_count};
 ghost use Rattle.slh_manifest.specs.Checking.{has_entries, is_manifest, signature_part};
 

@@ -3,7 +3,7 @@ ghost use Rattle.std.specs.Prelude.{◌≡◌, ◌+◌, ◌*◌, ◌^◌, ◌≤
 ghost use Rattle.sha256_lanes.specs.Sha256.{sha256};
 ghost use Rattle.slh_core.specs.Costs.{slh_keygen_cost};
 ghost use Rattle.slh_core.specs.Steps.{IsFresh};
-ghost use Rattle.slh_trees.specs.Keys.{IsTrueKey};
+ghost use Rattle.slh_internal.specs.Keys.{IsTrueKey};
 ghost use Rattle.slh_ring.specs.Keys.{key_info, key_tag as spec_key_tag, path_seeds, ring_key};
 ghost use Rattle.slh_ring.specs.Records.{numbers_bytes, path_bytes};
 

@@ -3,7 +3,7 @@ ghost use Rattle.std.specs.Prelude.{◌≡◌, ◌<◌, ◌≤◌, ◌^◌, ◌*
 ghost use Rattle.std.specs.Prelude.{is_some, length, slice_get};
 ghost use Rattle.std.specs.Option.{option_copied};
 ghost use Rattle.std.specs.Str.{bytes_eq};
-ghost use Rattle.slh_trees.specs.Keys.{IsTrueKey};
+ghost use Rattle.slh_internal.specs.Keys.{IsTrueKey};
 ghost use Rattle.slh_ring.specs.Keys.{key_tag, ring_key};
 ghost use Rattle.slh_ring.specs.Records.{are_entries, entries_in, entry_in, has_entry, has_form};
 ghost use Rattle.slh_ring.specs.Records.{recorded, set_in};

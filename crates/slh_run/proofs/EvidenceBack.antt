@@ -14,8 +14,8 @@ use Rattle.line_serve.specs.Decimals.{is_digit, number_value, read_digits}
 use Rattle.line_serve.specs.Fields.{fields, space}
 use Rattle.slh_run.specs.EvidenceNumbers.{HasNumbers}
 use Rattle.slh_run.specs.EvidenceWords.{evidence_in, evidence_text, spaced}
-use Rattle.slh_audit.specs.declared.evidence.Evidence.{Evidence}
-use Rattle.slh_audit.specs.declared.evidence.Evidence.TheVariants.{ForsNode, ForsRoots, ChainStep, Leaf, TreeNode, Early}
+use Rattle.slh_evidence.specs.declared.evidence.Evidence.{Evidence}
+use Rattle.slh_evidence.specs.declared.evidence.Evidence.TheVariants.{ForsNode, ForsRoots, ChainStep, Leaf, TreeNode, Early}
 
 -- words: bytes that are no blanks, the least of which is the dash
 abbrev all_visible : List ℕ → Bool

@@ -12,7 +12,7 @@ ghost use Rattle.slh_run.specs.Bench.{bench_signatures, counts_line, digest_line
 ghost use Rattle.slh_run.specs.Bench.{bench_report, message_size, outcome_lines};
 ghost use Rattle.slh_sets.specs.Sets.{scheme_for};
 ghost use Rattle.slh_run.specs.declared.bench.Stop.TheVariants.{NoMemory, SinkFault};
-ghost use Rattle.slh_trees.specs.Checking.{signature_size};
+ghost use Rattle.slh_internal.specs.Checking.{signature_size};
 
 use hmac_sha256::{HKDF, Hash};
 use hybrid_array::ArraySize;

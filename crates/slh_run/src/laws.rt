@@ -1,7 +1,7 @@
 //! What benches report, and how evidence is read back, as contracts.
 ghost use Rattle.std.specs.Prelude.{◌≡◌, ℕ, List, Some};
 ghost use Rattle.line_serve.specs.Fields.{fields};
-ghost use Rattle.slh_audit.specs.declared.evidence.Evidence.{Evidence};
+ghost use Rattle.slh_evidence.specs.declared.evidence.Evidence.{Evidence};
 ghost use Rattle.slh_run.specs.Bench.{accepted_count};
 ghost use Rattle.slh_run.specs.EvidenceNumbers.{HasNumbers};
 ghost use Rattle.slh_run.specs.EvidenceWords.{evidence_in, evidence_text};

@@ -9,7 +9,7 @@ use Rattle.slh_dsa.specs.declared.error.Error.{Error}
 use Rattle.slh_dsa.specs.declared.error.Error.TheVariants.{MessageTooLong}
 use Rattle.slh_stream.specs.declared.pass_error.PassError.{PassError}
 use Rattle.slh_stream.specs.declared.pass_error.PassError.TheVariants.{Length, Changed}
-use Rattle.slh_trees.specs.Checking.{signature_size}
+use Rattle.slh_internal.specs.Checking.{signature_size}
 use Rattle.slh_frames.specs.Frames.{frame}
 use Rattle.slh_trees.specs.Refusals.{first_refusal, length_refusal, message_refusal}
 

@@ -4,7 +4,7 @@ ghost use Rattle.std.specs.Option.{option_copied};
 ghost use Rattle.slh_dsa.specs.Calls.{hash_verify_error};
 ghost use Rattle.slh_frames.specs.Frames.{frame};
 ghost use Rattle.slh_stream.specs.Passes.{pass_refusal, passes_refusal, randomizer_for};
-ghost use Rattle.slh_trees.specs.Signing.{signature_of};
+ghost use Rattle.slh_internal.specs.Signing.{signature_of};
 ghost use Rattle.slh_trees.specs.Refusals.{RefusedExactly};
 
 use crate::passes::FirstPass;

@@ -11,7 +11,7 @@ ghost use Rattle.slh_frames.specs.declared.frame.Mode.{Mode as SigningMode};
 ghost use Rattle.slh_stream.specs.Digesting.{IsDigesting};
 ghost use Rattle.slh_stream.specs.Digests.{begin_digest_refusal};
 ghost use Rattle.slh_stream.specs.Tails.{hashed_count};
-ghost use Rattle.slh_trees.specs.Signing.{signature_of};
+ghost use Rattle.slh_internal.specs.Signing.{signature_of};
 ghost use Rattle.slh_trees.specs.Refusals.{RefusedExactly, message_refusal};
 
 use crate::absorbing::{begin_tail, head};
@@ -26,7 +26,7 @@ use slh_core::params::{chain_sizes, forest_sizes};
 use slh_core::steps::Steps;
 use slh_dsa::{Error, Mode, ParameterSet, SigningKey};
 use slh_frames::MAX_MESSAGE;
-use slh_trees::sign::sign_message;
+use slh_internal::sign::sign_message;
 use std::marker::Brand;
 use std::sync::ledger::{Blank, Ledger};
 

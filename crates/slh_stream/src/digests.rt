@@ -6,7 +6,7 @@ ghost use Rattle.slh_core.specs.Steps.{IsFresh};
 ghost use Rattle.slh_frames.specs.Frames.{head_of};
 ghost use Rattle.slh_stream.specs.Digests.{digest_frame, digest_refusal, digest_tail};
 ghost use Rattle.slh_stream.specs.Digests.{sign_digest_refusal, verify_digest_error};
-ghost use Rattle.slh_trees.specs.Signing.{signature_of};
+ghost use Rattle.slh_internal.specs.Signing.{signature_of};
 ghost use Rattle.slh_trees.specs.Refusals.{RefusedExactly};
 
 use crate::absorbing::head;
@@ -17,8 +17,8 @@ use slh_core::params::{chain_sizes, forest_sizes};
 use slh_core::steps::Steps;
 use slh_dsa::{Error, Mode, ParameterSet, SigningKey, VerifyingKey};
 use slh_frames::{SHA256_IDENTIFIER, SHA512_IDENTIFIER};
-use slh_trees::sign::sign_message;
-use slh_trees::{SigView, check_root};
+use slh_internal::sign::sign_message;
+use slh_internal::{SigView, check_root};
 use std::marker::Brand;
 use std::sync::ledger::{Blank, Ledger};
 

@@ -8,7 +8,7 @@ ghost use Rattle.slh_frames.specs.Frames.{mode_frame};
 ghost use Rattle.slh_frames.specs.declared.frame.Mode.TheVariants.{Sha256, Sha512};
 ghost use Rattle.slh_stream.specs.Digests.{digest_frame, verify_digest_error};
 ghost use Rattle.slh_stream.specs.Passes.{pass_refusal, randomizer_for};
-ghost use Rattle.slh_trees.specs.Checking.{signature_size};
+ghost use Rattle.slh_internal.specs.Checking.{signature_size};
 
 use crate::pass_error::PassError;
 use slh_dsa::ParameterSet;

@@ -9,9 +9,9 @@ ghost use Rattle.slh_dsa.specs.Calls.{sign_input_refusal};
 ghost use Rattle.slh_dsa.specs.declared.error.Error.TheVariants.{MessageTooLong};
 ghost use Rattle.slh_stream.specs.declared.pass_error.PassError.TheVariants.{Length};
 ghost use Rattle.slh_stream.specs.Passes.{IsFirst, IsSecond, pass_refusal, randomizer_for};
-ghost use Rattle.slh_trees.specs.Checking.{signature_size};
+ghost use Rattle.slh_internal.specs.Checking.{signature_size};
 ghost use Rattle.slh_frames.specs.Frames.{frame, frame_head};
-ghost use Rattle.slh_trees.specs.Signing.{signature_of};
+ghost use Rattle.slh_internal.specs.Signing.{signature_of};
 ghost use Rattle.slh_trees.specs.Refusals.{RefusedExactly, message_refusal};
 
 use crate::absorbing::{begin_front, head};
@@ -25,7 +25,7 @@ use slh_core::pieces::MessageSuite;
 use slh_core::steps::Steps;
 use slh_dsa::{Error, Mode, ParameterSet, SigningKey};
 use slh_frames::MAX_MESSAGE;
-use slh_trees::sign::sign_digest;
+use slh_internal::sign::sign_digest;
 use std::marker::Brand;
 use std::sync::ledger::{Blank, Ledger};
 

@@ -7,7 +7,7 @@ ghost use Rattle.slh_dsa.specs.declared.error.Error.TheVariants.{Length, Message
 ghost use Rattle.slh_frames.specs.declared.frame.Mode.{Mode as SigningMode};
 ghost use Rattle.slh_stream.specs.Suspended.{HasTail, IsBlank, IsResumed, IsSuspended};
 ghost use Rattle.slh_stream.specs.Tails.{IsTailOf, hashed_count, mode_of};
-ghost use Rattle.slh_trees.specs.Checking.{signature_size};
+ghost use Rattle.slh_internal.specs.Checking.{signature_size};
 ghost use Rattle.slh_trees.specs.Refusals.{RefusedExactly, message_refusal};
 
 use crate::absorbing::absorb;
@@ -19,7 +19,7 @@ use slh_core::params::forest_sizes;
 use slh_dsa::{Error, Mode, ParameterSet};
 use slh_frames::MAX_MESSAGE;
 use slh_hash::{Hashes, ResumableSuite};
-use slh_trees::SigView;
+use slh_internal::SigView;
 
 /// A verifier between two pieces, without its signature and its key: numbers alone, so that a caller
 /// keeps it where it likes. Any numbers are one, though of no message that anybody absorbed.

@@ -8,7 +8,7 @@ ghost use Rattle.slh_hash.specs.Suspended.{HasHashed, is_category_1, mac_block};
 ghost use Rattle.slh_stream.specs.Passes.{pass_refusal, randomizer_for};
 ghost use Rattle.slh_stream.specs.SuspendedPass.{IsBlank, IsFirstAside, IsSecondAside};
 ghost use Rattle.slh_trees.specs.Refusals.{RefusedExactly, context_refusal, message_refusal};
-ghost use Rattle.slh_trees.specs.Signing.{signature_of};
+ghost use Rattle.slh_internal.specs.Signing.{signature_of};
 
 use crate::absorbing::begin_front;
 use crate::key_parts::secret_parts;

@@ -8,7 +8,7 @@ ghost use Rattle.slh_dsa.specs.declared.error.Error.TheVariants.{MessageTooLong,
 ghost use Rattle.slh_frames.specs.declared.frame.Mode.{Mode as SigningMode};
 ghost use Rattle.slh_stream.specs.Tails.{hashed_count};
 ghost use Rattle.slh_stream.specs.Verifying.{IsVerifying, message_digest};
-ghost use Rattle.slh_trees.specs.Checking.{digest_root};
+ghost use Rattle.slh_internal.specs.Checking.{digest_root};
 ghost use Rattle.slh_trees.specs.Refusals.{RefusedExactly, message_refusal};
 
 use crate::absorbing::{absorb, begin_front, begin_tail, end_tail};
@@ -21,8 +21,8 @@ use slh_core::pieces::MessageSuite;
 use slh_core::steps::Steps;
 use slh_dsa::{Error, Mode, ParameterSet, VerifyingKey};
 use slh_frames::MAX_MESSAGE;
-use slh_trees::SigView;
-use slh_trees::check::root_for_digest;
+use slh_internal::SigView;
+use slh_internal::check::root_for_digest;
 use std::marker::Brand;
 use std::sync::ledger::{Blank, Ledger};
 

@@ -4,8 +4,6 @@ pub mod TreehashSteps
 pub mod Rows
 pub mod Climbs
 pub mod Layers
-pub mod Numbers
 pub mod Forests
-pub mod Signatures
 pub mod Ascents
 pub mod Refusals

@@ -1,16 +1,15 @@
--- What a signature leads to, by its bytes and public values alone (FIPS 205, algorithms 11, 13, 17
--- and 20). K is the suite with its public seed.
-use Rattle.std.specs.Prelude.{ℕ, zero, suc, ◌+◌, ◌*◌, List, take, drop, slice_range}
+-- What a tree's, a layer's and a forest's part of a signature lead to, by its bytes and public values
+-- alone (FIPS 205, algorithms 11, 13 and 17). K is the suite with its public seed.
+use Rattle.std.specs.Prelude.{ℕ, zero, suc, ◌+◌, ◌*◌, List, take, drop}
 use Rattle.slh_core.specs.Address.{address_bytes, fors_roots_type}
 use Rattle.slh_core.specs.Bytes.{joined, part}
 use Rattle.slh_core.specs.Wots.{wots_pk_from_sig}
 use Rattle.slh_core.specs.Digits.{digits}
-use Rattle.slh_core.specs.Parameters.{Scheme, chain_count}
-use Rattle.slh_core.specs.Suite.{Seeded, seeded}
+use Rattle.slh_core.specs.Parameters.{chain_count}
+use Rattle.slh_core.specs.Suite.{Seeded}
 use Rattle.slh_trees.specs.Fors.{fors_place, leaf_index}
 use Rattle.slh_trees.specs.Hypertree.{tree_at, leaf_at, layer_size}
 use Rattle.slh_trees.specs.Merkle.{node_bytes, climb}
-use Rattle.slh_trees.specs.MessageDigest.{split_digest}
 use Rattle.slh_trees.specs.Xmss.{tree_place}
 
 -- in tree t of layer j, the node at height z above leaf y, by the signature of a message
@@ -45,28 +44,3 @@ fors_pk_from_sig K t l k a sig md =
 -- how many bytes the forest's part of a signature has
 abbrev pub forest_size : ℕ → ℕ → ℕ → ℕ
 forest_size n k a = k * ((1 + a) * n)
-
--- how many bytes a signature has
-abbrev pub signature_size : Scheme → ℕ
-signature_size Z = Z.n + forest_size Z.n Z.k Z.a + Z.d * layer_size Z.n Z.hp
-
--- the forest's part of a signature, after the randomizer
-abbrev pub forest_of : Scheme → List ℕ → List ℕ
-forest_of Z sig = slice_range sig Z.n (Z.n + forest_size Z.n Z.k Z.a)
-
--- the parts of all layers, from layer 0 up
-abbrev pub layers_of : Scheme → List ℕ → List ℕ
-layers_of Z sig = drop (Z.n + forest_size Z.n Z.k Z.a) sig
-
--- the root that a signature leads to, for a digest and a public seed s
-unfoldable pub digest_root : Scheme → List ℕ → List ℕ → List ℕ → List ℕ
-digest_root Z s digest sig =
-    let K = seeded Z.suite Z.n s in
-    let parts = split_digest Z digest in
-    let key = fors_pk_from_sig K parts.tree parts.leaf Z.k Z.a (forest_of Z sig) parts.md in
-    checked_message K Z.hp parts.tree parts.leaf (layers_of Z sig) key Z.d
-
--- the root that a signature of a message leads to, under a public seed s and a key's root
-abbrev pub checked_root : Scheme → List ℕ → List ℕ → List ℕ → List ℕ → List ℕ
-checked_root Z s root message sig =
-    digest_root Z s (Z.suite.h_msg (take Z.n sig) s root message) sig

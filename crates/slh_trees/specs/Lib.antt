@@ -3,11 +3,7 @@ pub mod Xmss
 pub mod Hypertree
 pub mod Fors
 pub mod Lengths
-pub mod MessageDigest
 pub mod Checking
-pub mod SignatureParts
 pub mod Treehash
 pub mod ToySuite
-pub mod Keys
-pub mod Signing
 pub mod Refusals

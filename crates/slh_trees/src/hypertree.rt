@@ -86,7 +86,7 @@ pub fn ht_sign<P: HypertreeParams, L: Ledger>(
 }
 
 /// The root that the signatures of all layers lead to.
-pub(crate) fn ht_root<P: HypertreeParams, L: Ledger>(
+pub fn ht_root<P: HypertreeParams, L: Ledger>(
     m: &NBytes<P::N>,
     sig: &[u8],
     keyed: &P::Keyed,

@@ -1,5 +1,5 @@
 use Rattle.std.proofs.Common.{take}
-use Rattle.slh_audit.proofs.Binding.{sized_dispute}
+use Rattle.slh_evidence.proofs.Binding.{sized_dispute}
 use Rattle.slh_audit.proofs.Judging.{none_against}
 use Rattle.slh_core.specs.Bytes.{part}
 use Rattle.slh_core.specs.Parameters.{scheme_of}

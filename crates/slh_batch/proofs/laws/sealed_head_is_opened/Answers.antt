@@ -6,7 +6,7 @@ use Rattle.slh_batch.specs.Receipts.{batch_context, batch_message}
 use Rattle.slh_batch.specs.Tree.{batch_leaf}
 use Rattle.slh_frames.specs.declared.frame.Mode.TheVariants.{Pure}
 use Rattle.slh_frames.specs.Frames.{frame}
-use Rattle.slh_trees.specs.Signing.{signature_of}
+use Rattle.slh_internal.specs.Signing.{signature_of}
 use Rattle.slh_batch.proofs.laws.sealed_head_is_opened.Goals as goal
 
 pub returns-clause-opens : goal.returns-clause-opens

@@ -2,7 +2,7 @@ use Rattle.std.proofs.Common.{◌≡◌, ◌+◌, List, length, drop, true, fals
 use Rattle.std.specs.Prelude.{if◌then◌else◌}
 use Rattle.line_serve.specs.Lines.{parts}
 use Rattle.line_serve.proofs.Fronts.{to_end}
-use Rattle.slh_trees.specs.Checking.{signature_size}
+use Rattle.slh_internal.specs.Checking.{signature_size}
 use Rattle.slh_dsa.specs.Calls.{is_valid}
 use Rattle.slh_frames.specs.declared.frame.Mode.TheVariants.{Pure}
 use Rattle.slh_log.proofs.Signatures.{Fills, is_filled, not_filled}

@@ -3,7 +3,7 @@ use Rattle.slh_readers.proofs.Passed.{other_rand, same_rand}
 use Rattle.slh_readers.proofs.signing.end_pass.Goals as goal
 use Rattle.slh_readers.specs.Answers.{EndsPass}
 use Rattle.slh_run.proofs.Signed.{written}
-use Rattle.slh_trees.specs.Checking.{signature_size}
+use Rattle.slh_internal.specs.Checking.{signature_size}
 
 pub returns-in-Ok : goal.returns-in-Ok
 unfolding EndsPass

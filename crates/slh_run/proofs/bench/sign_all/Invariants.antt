@@ -1,7 +1,7 @@
 use Rattle.std.proofs.Common.{◌≡◌, ◌*◌, ◌≤◌}
 use Rattle.hmac_sha256.specs.Hash.{StandsFor, absorbed_bytes}
 use Rattle.slh_run.specs.Bench.{accepted_count, bench_signatures}
-use Rattle.slh_trees.specs.Checking.{signature_size}
+use Rattle.slh_internal.specs.Checking.{signature_size}
 use Rattle.slh_run.proofs.bench.sign_all.Given as goal
 
 -- the signatures so far are hashed, and those that are accepted are counted

@@ -7,7 +7,7 @@ use Rattle.slh_readers.proofs.Signatures.{digest_ended, long_digest, no_digest, 
 use Rattle.slh_readers.proofs.signing.ByDigestOnSet.on.Goals as goal
 use Rattle.slh_run.specs.Errors.{error_of}
 use Rattle.slh_readers.specs.Terms.{Terms}
-use Rattle.slh_trees.specs.Signing.{signature_of}
+use Rattle.slh_internal.specs.Signing.{signature_of}
 
 pub returns-in_err-key : goal.returns-in_err-key
 returns-in_err-key g c =

@@ -1,0 +1,17 @@
+pub mod Meaning
+pub mod Nearby
+pub mod Pieces
+pub mod Descent
+pub mod LayerDescent
+pub mod ForestDescent
+pub mod LayersDescent
+pub mod OwnBytes
+pub mod Finding
+pub mod OwnLayers
+pub mod Binding
+pub mod Told
+pub mod Shown
+pub mod Answered
+pub mod Order
+pub mod Climbed
+pub mod Forested

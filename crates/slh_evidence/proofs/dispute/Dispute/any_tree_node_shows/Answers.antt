@@ -1,0 +1,20 @@
+use Rattle.std.proofs.Common.{arith}
+use Rattle.std.proofs.lemmas.Bool.{false≢true}
+use Rattle.slh_evidence.proofs.Shown.{told}
+use Rattle.slh_evidence.proofs.Meaning.{IsShown}
+use Rattle.slh_evidence.proofs.dispute.Dispute.any_tree_node_shows.Goals as goal
+
+pub returns-then-layer-USIZE : goal.returns-then-layer-USIZE
+unfolding IsShown
+returns-then-layer-USIZE g c =
+    told _ _ _ ((λ t. absurd (false≢true t)), (λ shows. absurd (omega (arith, c.if-layer-USIZE.true, shows.2.0))))
+
+pub returns-then-height-USIZE : goal.returns-then-height-USIZE
+unfolding IsShown
+returns-then-height-USIZE g c =
+    told _ _ _ ((λ t. absurd (false≢true t)), (λ shows. absurd (omega (arith, c.if-height-USIZE.true, shows.1))))
+
+pub returns-then-height-eq0 : goal.returns-then-height-eq0
+unfolding IsShown
+returns-then-height-eq0 g c =
+    told _ _ _ ((λ t. absurd (false≢true t)), (λ shows. absurd (omega (arith, c.if-height-eq0.true, shows.0))))

@@ -1,0 +1,12 @@
+use Rattle.std.proofs.Common.{arith, ◌∙◌}
+use Rattle.slh_trees.specs.Checking.{checked_message}
+use Rattle.slh_evidence.proofs.dispute.Dispute.own_from.Goals as goal
+
+pub loop-layer-init : goal.loop-layer-init
+unfolding checked_message
+loop-layer-init g c = record {
+  checked = c.checked_key-checked.ensures;
+  own = c.copy-own.ensures ∙ c.requires.key;
+  low = omega arith;
+  made = λ i low below. absurd (omega arith);
+}

@@ -1,0 +1,14 @@
+use Rattle.std.proofs.Common.{◌≡◌, ◌-◌, [], ◌∷◌, None}
+use Rattle.std.specs.List.{find}
+use Rattle.slh_evidence.specs.Evidence.{dispute_on, shows}
+use Rattle.slh_evidence.specs.Places.{in_turn}
+use Rattle.slh_evidence.specs.declared.evidence.Evidence.TheVariants.{TreeNode}
+use Rattle.slh_core.specs.Parameters.{scheme_of}
+use Rattle.slh_evidence.proofs.layer.LayerCheck.first_tree_node.Given as goal
+
+-- nothing so far shows
+abbrev pub invariant-loop-down : goal.invariant-loop-down
+invariant-loop-down g l =
+    let Z = scheme_of g.P.HashSuite.suite g.P.N.ArraySize.USIZE g.P.HPrime.ArraySize.USIZE g.P.D.ArraySize.USIZE g.P.A.ArraySize.USIZE g.P.K.ArraySize.USIZE in
+    let D = dispute_on Z l.self.dispute.now in
+    find (shows D) (in_turn (λ down. TreeNode l.layer (D.hp - down) ∷ []) l.down) ≡ None

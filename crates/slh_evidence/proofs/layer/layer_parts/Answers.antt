@@ -1,0 +1,8 @@
+use Rattle.std.proofs.Common.{length}
+use Rattle.slh_evidence.proofs.Told.{path_len}
+use Rattle.slh_evidence.proofs.layer.layer_parts.Goals as goal
+
+pub returns-clause-path_len : goal.returns-clause-path_len
+returns-clause-path_len g c =
+    path_len g.P.N.ArraySize.USIZE g.P.WotsSigLen.ArraySize.USIZE g.P.HPrime.ArraySize.USIZE (length c.args.sig.now) (length c.split_at.result.1.now)
+    c.tree_sizes.ensures.signature_len c.requires (rw (c.USIZE.ensures, c.USIZE-2.ensures) at c.split_at.ensures.back_len)

@@ -1,0 +1,5 @@
+pub mod MessageDigest
+pub mod Checking
+pub mod SignatureParts
+pub mod Keys
+pub mod Signing
