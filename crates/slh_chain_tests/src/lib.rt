@@ -1,15 +1,8 @@
-//! Tests of `slh_chain` from outside: the toy suite, and SLH-DSA-SHA2-128f.
+//! Tests of `slh_chain` from outside: the examples of its page and of docs/KEYS.md. Links, walks and
+//! faults are in the stored run of `slh_chain_cli`.
 #![tactic(auto)]
 
-#[cfg(test)]
-mod chains;
-#[cfg(test)]
-mod extended;
-#[cfg(test)]
-mod links;
 #[cfg(test)]
 mod page_of_chains;
 #[cfg(test)]
 mod policy;
-#[cfg(test)]
-mod toys;

@@ -19,28 +19,18 @@ fn release_key(
     Ok(end.key)
 }
 
-fn leads_to(root: &VerifyingKey<Sha2_128f>, chain: &[u8], key: &VerifyingKey<Sha2_128f>) -> bool {
-    match release_key(root, chain) {
-        Ok(found) => found == *key,
-        Err(_) => false,
-    }
-}
-
-fn leads_nowhere(root: &VerifyingKey<Sha2_128f>, chain: &[u8]) -> bool {
-    match release_key(root, chain) {
-        Ok(_) => false,
-        Err(error) => error == ChainError::Invalid(0),
-    }
+pub(crate) fn key(number: u8) -> Option<SigningKey<Sha2_128f>> {
+    SigningKey::slh_keygen_internal(&[1; 16], &[2; 16], &[number; 16]).ok()
 }
 
 // Whether the root key leads to the release key, and the release key nowhere.
 fn leads_to_release(alloc: Global) -> Option<bool> {
-    let root = SigningKey::slh_keygen_internal(&[1; 16], &[2; 16], &[3; 16]).ok()?;
-    let release = SigningKey::slh_keygen_internal(&[4; 16], &[5; 16], &[6; 16]).ok()?;
-    let release = release.verifying_key();
+    let root = key(3)?;
+    let release = key(6)?.verifying_key();
     let chain = release_link(alloc, &root, &release).ok()?;
-    let root = root.verifying_key();
-    Some(leads_to(&root, &chain, &release) && leads_nowhere(&release, &chain))
+    let is_found = release_key(&root.verifying_key(), &chain).ok()? == release;
+    let error = release_key(&release, &chain).err()?;
+    Some(is_found && error == ChainError::Invalid(0))
 }
 
 #[test]

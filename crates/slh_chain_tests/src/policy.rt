@@ -1,6 +1,6 @@
 //! The example of docs/KEYS.md: names of links that say until when, under which number and for what.
-use crate::toys::{key, opened};
-use slh_chain::{Chain, delegate};
+use crate::page_of_chains::key;
+use slh_chain::Chain;
 use slh_dsa::ParameterSet;
 use std::alloc::Global;
 use std::str;
@@ -42,13 +42,14 @@ const DAYS: [(&str, &[&str], &str, bool); 5] = [
     ("2027-06-29", &[], "config", false),
 ];
 
+// A chain of one link, which is made from the empty one.
 fn are_judged(alloc: Global) -> Option<bool> {
-    let root = key(0)?;
-    let subject = key(1)?.verifying_key();
+    let key = key(7)?;
+    let root = key.verifying_key();
     let name = b"2027-06-30/17/firmware";
-    let bytes = delegate(alloc, &root, name, 0, &subject, None).ok()?;
-    let public = root.verifying_key();
-    let chain = opened(&public, &bytes)?;
+    let empty = Chain::open(&root, &[]).ok()?;
+    let bytes = empty.extend(alloc, &key, name, 0, &root, None).ok()?;
+    let chain = Chain::open(&root, &bytes).ok()?;
     for (today, revoked, purpose, allowed) in &DAYS {
         if is_allowed(&chain, today, revoked, purpose) != *allowed {
             return Some(false);
