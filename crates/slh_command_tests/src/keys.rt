@@ -22,11 +22,3 @@ pub(crate) fn verifying() -> Option<[u8; 32]> {
     hex::decode_to_slice(VERIFYING, &mut key).ok()?;
     Some(key)
 }
-
-/// Bytes of which one is another, by its lowest bit.
-pub(crate) fn changed(alloc: Global, bytes: &[u8], at: usize) -> Option<Vec<u8>> {
-    let mut other = bytes.to_vec(alloc).ok()?;
-    let byte = other.get_mut(at)?;
-    *byte ^= 1;
-    Some(other)
-}

@@ -1,9 +1,7 @@
-//! A batch that is sealed, and what is said of its head and receipts.
-use crate::keys::{SET, changed, signing, verifying};
-use slh_batch::{Batch, BatchError, HeadError, Place, ReceiptError};
-use slh_command::{
-    Receipts, SealError, UnderHeadError, accept_receipt, accept_receipt_under_head, seal_batch,
-};
+//! A batch that is sealed, its head and its receipts.
+use crate::keys::{SET, signing, verifying};
+use slh_batch::{Batch, Place};
+use slh_command::{Receipts, SealError, accept_receipt, accept_receipt_under_head, seal_batch};
 use std::alloc::{AllocError, Global};
 
 // The head that comes first, and receipts, up to so many.
@@ -49,135 +47,47 @@ fn taker(alloc: Global, most: usize) -> Kept {
 }
 
 // The head and the receipts of two messages, of which so many are kept.
-fn sealed(
-    alloc: Global,
-    most: usize,
-    opt_rand: Option<&[u8]>,
-) -> Option<Result<Kept, SealError<AllocError>>> {
+fn sealed(alloc: Global, most: usize) -> Option<Result<Kept, SealError<AllocError>>> {
     let mut batch = Batch::new(alloc);
     batch.push(b"first").ok()?;
     batch.push(b"second").ok()?;
-    Some(seal_batch(alloc, SET, &signing()?, batch, opt_rand, taker(alloc, most)))
+    Some(seal_batch(alloc, SET, &signing()?, batch, None, taker(alloc, most)))
 }
 
-fn of(message: &[u8], receipt: &[u8]) -> Option<Result<Place, ReceiptError>> {
-    Some(accept_receipt(SET, &verifying()?, message, receipt))
+// The number of messages, and the root over them, by Python's hashlib.
+const HEAD: &str = "000000023ae5bfa57ffa769d9634a86f3a26286aa69fd50ea0585f8061f902ad5f0327f7";
+
+fn is_head(head: &[u8]) -> Option<bool> {
+    let mut front = [0u8; 36];
+    hex::decode_to_slice(HEAD, &mut front).ok()?;
+    Some(head.starts_with(&front) && head.len() == 36 + 17_088)
 }
 
-// What is said of each message with each receipt, and of receipts that were changed.
-fn are_told_apart(first: &[u8], second: &[u8]) -> Option<bool> {
-    let accepted = of(b"first", first)? == Ok(Place { index: 0, count: 2 })
-        && of(b"second", second)? == Ok(Place { index: 1, count: 2 });
-    let refused = of(b"second", first)? == Err(ReceiptError::Invalid)
-        && of(b"first", second)? == Err(ReceiptError::Invalid);
-    let cut = of(b"first", first.get(1..)?)? == Err(ReceiptError::Form);
-    Some(accepted && refused && cut)
-}
-
-fn receipts_hold(alloc: Global) -> Option<bool> {
-    let kept = sealed(alloc, 2, None)?.ok()?;
-    are_told_apart(kept.receipts.get(0)?, kept.receipts.get(1)?)
-}
-
-#[test]
-fn a_receipt_is_one_of_its_own_file(rt: HostRuntime) {
-    assert!(rt; receipts_hold(rt.alloc()) == Some(true));
-}
-
-// The root over both messages, by Python's hashlib.
-const ROOT: &str = "3ae5bfa57ffa769d9634a86f3a26286aa69fd50ea0585f8061f902ad5f0327f7";
-
-fn says_number_and_root(alloc: Global) -> Option<bool> {
-    let kept = sealed(alloc, 2, None)?.ok()?;
-    let mut root = [0u8; 32];
-    hex::decode_to_slice(ROOT, &mut root).ok()?;
-    let number = kept.head.get(..4)? == [0, 0, 0, 2].as_slice();
-    Some(number && kept.head.get(4..36)? == root.as_slice() && kept.head.len() == 36 + 17_088)
-}
-
-#[test]
-fn a_head_has_the_number_and_the_root_of_another_program(rt: HostRuntime) {
-    assert!(rt; says_number_and_root(rt.alloc()) == Some(true));
-}
-
-fn under(head: &[u8], message: &[u8], receipt: &[u8]) -> Option<Result<Place, UnderHeadError>> {
-    Some(accept_receipt_under_head(SET, &verifying()?, head, message, receipt))
-}
-
-fn is_accepted_under(alloc: Global, head: &[u8], second: &[u8]) -> Option<bool> {
-    let accepted = Ok(Place { index: 1, count: 2 });
-    let other = changed(alloc, second, 17_000)?;
-    let unsigned = of(b"second", &other)? == Err(ReceiptError::Invalid);
+// Whether a message is accepted by its receipt, alone and under the head.
+fn is_accepted(kept: &Kept, i: u32, message: &[u8]) -> Option<bool> {
+    let (key, receipt) = (verifying()?, kept.receipts.get(i as usize)?);
+    let place = Place { index: i, count: 2 };
     Some(
-        unsigned
-            && under(head, b"second", second)? == accepted
-            && under(head, b"second", &other)? == accepted,
+        accept_receipt(SET, &key, message, receipt) == Ok(place)
+            && accept_receipt_under_head(SET, &key, &kept.head, message, receipt) == Ok(place),
     )
 }
 
-fn is_accepted_by_its_path(alloc: Global) -> Option<bool> {
-    let kept = sealed(alloc, 2, None)?.ok()?;
-    is_accepted_under(alloc, &kept.head, kept.receipts.get(1)?)
-}
-
-#[test]
-fn a_receipt_is_accepted_under_a_head_whatever_its_signature(rt: HostRuntime) {
-    assert!(rt; is_accepted_by_its_path(rt.alloc()) == Some(true));
-}
-
-// What is said of bytes of a head and of a receipt of which one or both are no good.
-fn are_refused_under(alloc: Global, head: &[u8], first: &[u8]) -> Option<bool> {
-    let (cut_head, cut) = (head.get(1..)?, first.get(1..)?);
-    let unsigned = changed(alloc, head, 1000)?;
+fn are_accepted(alloc: Global) -> Option<bool> {
+    let kept = sealed(alloc, 2)?.ok()?;
     Some(
-        under(cut_head, b"first", cut)? == Err(UnderHeadError::Head(HeadError::Form))
-            && under(&unsigned, b"first", cut)? == Err(UnderHeadError::Head(HeadError::Invalid))
-            && under(head, b"first", cut)? == Err(UnderHeadError::Receipt(ReceiptError::Form))
-            && under(head, b"second", first)?
-                == Err(UnderHeadError::Receipt(ReceiptError::Invalid)),
+        is_head(&kept.head)?
+            && is_accepted(&kept, 0, b"first")?
+            && is_accepted(&kept, 1, b"second")?,
     )
 }
 
-fn are_refused_in_order(alloc: Global) -> Option<bool> {
-    let kept = sealed(alloc, 2, None)?.ok()?;
-    are_refused_under(alloc, &kept.head, kept.receipts.get(0)?)
-}
-
 #[test]
-fn a_head_is_refused_before_a_receipt(rt: HostRuntime) {
-    assert!(rt; are_refused_in_order(rt.alloc()) == Some(true));
-}
-
-// A receipt of the only message whose signature is nothing but zeros.
-#[test]
-fn a_signature_of_zeros_is_invalid(rt: HostRuntime) {
-    let mut receipt = [0u8; 8 + 17_088];
-    receipt[7] = 1;
-    assert!(rt; of(b"first", &receipt) == Some(Err(ReceiptError::Invalid)));
-}
-
-fn is_refused_by(sealed: Option<Result<Kept, SealError<AllocError>>>, error: BatchError) -> bool {
-    match sealed {
-        Some(Err(SealError::Batch(found))) => found == error,
-        _ => false,
-    }
-}
-
-#[test]
-fn a_randomizer_has_n_bytes(rt: HostRuntime) {
-    assert!(rt;
-        is_refused_by(
-            sealed(rt.alloc(), 2, Some(&[0; 15])),
-            BatchError::Randomizer
-        )
-    );
-}
-
-fn is_left_to_the_taker(alloc: Global) -> bool {
-    matches!(sealed(alloc, 1, None), Some(Err(SealError::Receipts(_))))
+fn a_batch_has_the_head_of_another_program_and_its_receipts(rt: HostRuntime) {
+    assert!(rt; are_accepted(rt.alloc()) == Some(true));
 }
 
 #[test]
 fn a_taker_may_refuse_a_receipt(rt: HostRuntime) {
-    assert!(rt; is_left_to_the_taker(rt.alloc()));
+    assert!(rt; matches!(sealed(rt.alloc(), 1), Some(Err(SealError::Receipts(_)))));
 }

@@ -9,7 +9,7 @@ fn is_told(alloc: Global, word: &str, detail: Detail<'_>, line: &str) -> bool {
     }
 }
 
-fn words_stand_alone_or_with_more(alloc: Global) -> bool {
+fn are_told(alloc: Global) -> bool {
     is_told(
         alloc,
         "not shown",
@@ -25,16 +25,7 @@ fn words_stand_alone_or_with_more(alloc: Global) -> bool {
         "foreign",
         Detail::Evidence(b"early 0 1"),
         "{\"verdict\":\"foreign\",\"evidence\":\"early 0 1\"}\n",
-    )
-}
-
-#[test]
-fn a_verdict_is_a_word_and_what_it_has_besides(rt: HostRuntime) {
-    assert!(rt; words_stand_alone_or_with_more(rt.alloc()));
-}
-
-fn names_are_escaped(alloc: Global) -> bool {
-    is_told(
+    ) && is_told(
         alloc,
         "missing",
         Detail::Name("\"\\/\u{0}\n\u{1f}\u{7f} ä"),
@@ -48,6 +39,6 @@ fn names_are_escaped(alloc: Global) -> bool {
 }
 
 #[test]
-fn a_name_is_escaped(rt: HostRuntime) {
-    assert!(rt; names_are_escaped(rt.alloc()));
+fn verdicts_are_words_with_what_they_have_besides(rt: HostRuntime) {
+    assert!(rt; are_told(rt.alloc()));
 }

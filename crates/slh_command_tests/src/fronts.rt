@@ -8,11 +8,10 @@ use whole_files::{Failed, MemFiles};
 
 const FRONT: usize = 1 << 16;
 
-/// The first bytes of files in memory, or a fault.
+/// The first bytes of files in memory.
 #[derive(Drop)]
 pub(crate) struct MemFronts {
     pub(crate) alloc: Global,
-    pub(crate) fails: bool,
 }
 
 // The first bytes, or all.
@@ -28,9 +27,6 @@ fn front_of(bytes: &[u8]) -> &[u8]
 
 impl Fronts<MemFiles> for MemFronts {
     fn front(&mut self, files: &MemFiles, path: &str) -> Result<ByteString, Failed> {
-        if self.fails {
-            return Err(Failed);
-        }
         let Some(bytes) = files.bytes(path) else {
             return Err(Failed);
         };

@@ -1,5 +1,5 @@
-//! Signatures that another program made: the SHA-256 of each.
-use crate::readers::{public, signing, slowly};
+//! Signatures that another program made: the SHA-256 of each. And messages that change meanwhile.
+use crate::readers::{is_changed, public, signing, slowly};
 use hmac_sha256::Hash;
 use slh_files::Key;
 use slh_readers::{ReadError, audit, sign_digest, sign_twice, verify};
@@ -72,15 +72,43 @@ fn known_signature_of_a_message(rt: HostRuntime) {
 }
 
 #[test]
-fn known_signature_of_a_sha256_digest(rt: HostRuntime) {
+fn known_signatures_of_digests(rt: HostRuntime) {
     let wanted = "6ede90ccaf41b9fb616a9d264d2f3098bc6ebe374c12ea86c5c89b85084bef74";
     let (context, hello) = (b"Test context!", b"Hello, world!");
     assert!(rt; is_known(rt.alloc(), Mode::Sha256, context, None, hello, wanted) == Ok(true));
-}
-
-#[test]
-fn known_signature_of_a_sha512_digest(rt: HostRuntime) {
     let wanted = "cf156a3cbbea4b6726a994fbc1b5d11c2ec56d661a230319163b0a1333b99d65";
     let rand = Some(NUMBERS.as_slice());
     assert!(rt; is_known(rt.alloc(), Mode::Sha512, b"", rand, b"abc", wanted) == Ok(true));
+}
+
+// Two readings of a message, which differ.
+const CHANGED: &str = "\
+Hello Hallo
+Hello Hell
+Hello Hello!
+Hello\u{20}
+ Hello";
+
+fn is_seen(alloc: Global, key: &Key, row: &str) -> bool {
+    match row.split_once(' ') {
+        Some((first, second)) => {
+            let second = slowly(second.as_bytes());
+            is_changed(sign_twice(alloc, key, b"", None, first.as_bytes(), second))
+        }
+        None => false,
+    }
+}
+
+fn are_seen(alloc: Global) -> Result<bool, Error> {
+    let key = signing(alloc)?;
+    let mut all = true;
+    for row in CHANGED.lines() {
+        all = is_seen(alloc, &key, row) && all;
+    }
+    Ok(all)
+}
+
+#[test]
+fn other_bytes_are_seen(rt: HostRuntime) {
+    assert!(rt; are_seen(rt.alloc()) == Ok(true));
 }
