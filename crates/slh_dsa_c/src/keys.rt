@@ -10,8 +10,8 @@ use crate::status::{KEY_MISMATCH, LENGTH, OK, UNKNOWN_SET};
 use hybrid_array::ArraySize;
 use slh_core::equal_parts::part_of;
 use slh_core::params::chain_sizes;
-use slh_sets::{OnSet, SetSuite, WriteOnSet};
 use slh_internal::uncounted::top_root;
+use slh_sets::{OnSet, SetSuite, WriteOnSet};
 
 // A signing key whose verifying key is wanted.
 #[derive(Drop)]

@@ -69,7 +69,13 @@ pub fn make_checkpoint<'a>(folder: LogFolder<'_, 'a>, bytes: &[u8]) -> Result<()
     let names = names_of(folder, CHECKPOINT)?;
     let mut files = HostFiles::new(folder.rt);
     let mode = whole_files::Mode::Masked;
-    match make_new(&mut files, names.path.as_str(), names.part.as_str(), mode, bytes) {
+    match make_new(
+        &mut files,
+        names.path.as_str(),
+        names.part.as_str(),
+        mode,
+        bytes,
+    ) {
         Ok(Written::Settled) => Ok(()),
         Ok(Written::Unsettled) => Err(Failure::Unsettled(
             folder.path,

@@ -1,9 +1,9 @@
 //! The example of the page of `slh_trees`.
 use crate::worked::{SIGNATURE, changed};
-use slh_trees::toy::Toy;
-use slh_internal::uncounted::check_root;
-use slh_internal::SigView;
 use slh_core::nbytes::NBytes;
+use slh_internal::SigView;
+use slh_internal::uncounted::check_root;
+use slh_trees::toy::Toy;
 
 // what stands before an empty context (FIPS 205, algorithm 22)
 const HEAD: [u8; 2] = [0, 0];
