@@ -45,15 +45,19 @@ fn manifest_of_two(alloc: Global, files: &mut MemStore) -> Option<Vec<u8>> {
 }
 
 // Whether the manifest of two files is accepted until the second changes.
+fn is_accepted_until(manifest: &[u8], files: &mut MemStore) -> Option<bool> {
+    let key = key()?.verifying_key();
+    let is_accepted = checked(&key, manifest, files) == Ok(());
+    put(files, b"image", b"third")?;
+    Some(is_accepted && checked(&key, manifest, files) == Err(CheckError::Differs(1)))
+}
+
 fn holds_for_two_files(alloc: Global) -> Option<bool> {
     let mut files = MemStore::new(alloc, Vec::new(alloc));
     put(&mut files, b"boot", b"first")?;
     put(&mut files, b"image", b"second")?;
     let manifest = manifest_of_two(alloc, &mut files)?;
-    let key = key()?.verifying_key();
-    let is_accepted = checked(&key, &manifest, &mut files) == Ok(());
-    put(&mut files, b"image", b"third")?;
-    Some(is_accepted && checked(&key, &manifest, &mut files) == Err(CheckError::Differs(1)))
+    is_accepted_until(&manifest, &mut files)
 }
 
 #[test]
