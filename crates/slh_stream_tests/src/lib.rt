@@ -1,4 +1,4 @@
-//! Tests of `slh_stream` from outside: the toy suite, and the six sets of SLH-DSA over SHA-2.
+//! Tests of `slh_stream` from outside, over the six sets of SLH-DSA over SHA-2.
 #![tactic(auto)]
 
 #[cfg(test)]
@@ -7,5 +7,3 @@ mod known_answers;
 mod page_of_pieces;
 #[cfg(test)]
 mod pieces;
-#[cfg(test)]
-mod refusals;
