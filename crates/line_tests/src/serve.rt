@@ -5,8 +5,8 @@ ghost use Rattle.line_serve.specs.Fields.{fields};
 
 use line_serve::{
     ByteString, Failed, MemSink, MemSource, NullSink, QuietSource, Replier, Source, Words,
-    all_fields, count_fields, cut_fields, decimal_value, field, field_at, hex_field, number_at,
-    push_hex_line, push_number_line, read_some, serve_lines, serve_words, write_all,
+    all_fields, count_fields, field, field_at, hex_field, push_hex_line, push_number_line,
+    read_some, serve_lines, serve_words, write_all,
 };
 use std::alloc::{AllocError, Global};
 
@@ -96,6 +96,7 @@ fn answers_in_turn(alloc: Global) -> bool {
         && answers(alloc, b"a b\nc", b"a\nc\n")
         && answers(alloc, b" a \r\n\rb\r\r\n", b"a\n\rb\r\n")
         && answers(alloc, b"a\n\nb\n", b"a\nb\n")
+        && answers_into_nothing(alloc)
 }
 
 fn answers_into_nothing(alloc: Global) -> bool {
@@ -108,7 +109,6 @@ fn answers_into_nothing(alloc: Global) -> bool {
 #[test]
 fn lines_are_answered_in_turn(rt: HostRuntime) {
     assert!(rt; answers_in_turn(rt.alloc()));
-    assert!(rt; answers_into_nothing(rt.alloc()));
 }
 
 // So many bytes `a`, and then these.
@@ -153,8 +153,7 @@ fn are_not_too_long(alloc: Global) -> bool {
 
 #[test]
 fn a_line_is_too_long_past_the_limit(rt: HostRuntime) {
-    assert!(rt; are_too_long(rt.alloc()));
-    assert!(rt; are_not_too_long(rt.alloc()));
+    assert!(rt; are_too_long(rt.alloc()) && are_not_too_long(rt.alloc()));
 }
 
 // A thousand lines of seven bytes are two pieces of at most 4096 bytes, and a third read finds the
@@ -362,97 +361,12 @@ fn long_replies_are_written_early(rt: HostRuntime) {
     assert!(rt; writes_early(rt.alloc()) == Ok(true));
 }
 
-// Whether the line has so many fields, and this second one.
-fn has_fields(line: &[u8], count: usize, second: Option<&[u8]>) -> bool {
-    count_fields(line) == count && field(line, 1) == second
-}
-
-fn has_at_most_one_field() -> bool {
-    has_fields(b"", 0, None)
-        && has_fields(b"\r", 0, None)
-        && has_fields(b"\ra", 1, None)
-        && has_fields(b"a\tb", 1, None)
-}
-
-fn has_two_fields() -> bool {
-    has_fields(b"  a  b\r", 2, Some(b"b")) && has_fields(b"a b\r \r", 2, Some(b"b\r"))
-}
-
-fn cuts_in_place() -> bool {
-    let mut cut = [b"".as_slice(); 2];
-    cut_fields(b" a  b c\r", &mut cut) == 2
-        && cut == [b"a".as_slice(), b"b"]
-        && cut_fields(b"d\r", &mut cut) == 1
-        && cut[0] == b"d".as_slice()
-}
-
-#[test]
-fn fields_of_lines(rt: HostRuntime) {
-    assert!(rt; has_at_most_one_field());
-    assert!(rt; has_two_fields());
-    assert!(rt; cuts_in_place());
-}
-
-fn is_cut(all: &[&[u8]], count: usize, second: &[u8]) -> bool {
-    all.len() == count && field_at(all, 1) == second
-}
-
-// Whether all fields of a line are cut as this one is.
-fn cuts(alloc: Global, line: &[u8], count: usize, second: &[u8]) -> bool {
-    match all_fields(alloc, line) {
-        Ok(all) => is_cut(&all, count, second),
-        Err(_) => false,
-    }
-}
-
-fn cuts_all(alloc: Global) -> bool {
-    cuts(alloc, b"", 0, b"") && cuts(alloc, b" a  b c\r", 3, b"b") && cuts(alloc, b"a", 1, b"")
-}
-
-#[test]
-fn all_fields_of_lines(rt: HostRuntime) {
-    assert!(rt; cuts_all(rt.alloc()));
-}
-
-// Whether the text is this number, and no other follows.
-fn is_number(text: &[u8], number: Option<u32>) -> bool {
-    number_at(&[text], 0) == number && number_at(&[text], 1) == None
-}
-
-fn are_numbers() -> bool {
-    is_number(b"0", Some(0))
-        && is_number(b"0000000007", Some(7))
-        && is_number(b"4294967295", Some(4_294_967_295))
-}
-
-fn are_no_numbers() -> bool {
-    is_number(b"4294967296", None)
-        && is_number(b"00000000007", None)
-        && is_number(b"", None)
-        && is_number(b"-", None)
-        && is_number(b"+1", None)
-        && is_number(b"1 ", None)
-        && is_number(b"a", None)
-}
-
-fn are_values_up_to_a_last() -> bool {
-    decimal_value(b"18446744073709551615", 20, u64::MAX) == Some(u64::MAX)
-        && decimal_value(b"18446744073709551616", 20, u64::MAX) == None
-        && decimal_value(b"16", 2, 15) == None
-}
-
-#[test]
-fn decimal_numbers(rt: HostRuntime) {
-    assert!(rt; are_numbers());
-    assert!(rt; are_no_numbers());
-    assert!(rt; are_values_up_to_a_last());
-}
-
 fn reply_lines(alloc: Global) -> Result<ByteString, AllocError> {
     let mut text = ByteString::new(alloc);
     push_number_line(&mut text, b"differs ", 0)?;
     push_number_line(&mut text, b"", u64::MAX)?;
     push_hex_line(&mut text, b"record ", b"\x00\xff\xab")?;
+    text.append(ByteString::from_slice(alloc, b"end\n")?)?;
     Ok(text)
 }
 
@@ -463,123 +377,24 @@ fn is_text(text: &Result<ByteString, AllocError>, wanted: &[u8]) -> bool {
     }
 }
 
+// The bytes of the second of two fields in hexadecimal.
+fn second_bytes(alloc: Global, line: &[u8]) -> Result<ByteString, AllocError> {
+    let fields = all_fields(alloc, line)?;
+    let mut bytes = ByteString::new(alloc);
+    hex_field(alloc, field_at(&fields, 1), &mut bytes)?;
+    Ok(bytes)
+}
+
 #[test]
 fn numbers_and_bytes_as_text(rt: HostRuntime) {
-    let wanted = b"differs 0\n18446744073709551615\nrecord 00ffab\n";
+    let wanted = b"differs 0\n18446744073709551615\nrecord 00ffab\nend\n";
     assert!(rt; is_text(&reply_lines(rt.alloc()), wanted));
-}
-
-// Whether a field in hexadecimal is found, and this value put behind what a string has.
-fn puts_hex(alloc: Global, bytes: &[u8], found: bool, value: &[u8]) -> Result<bool, AllocError> {
-    let mut out = ByteString::from_slice(alloc, b"=")?;
-    let is_found = hex_field(alloc, bytes, &mut out)?;
-    match out.as_slice() {
-        [_, put @ ..] => Ok(is_found == found && put == value),
-        [] => Ok(false),
-    }
-}
-
-fn puts_value(alloc: Global, bytes: &[u8], value: &[u8]) -> bool {
-    puts_hex(alloc, bytes, true, value).unwrap_or(false)
-}
-
-fn puts_nothing(alloc: Global, bytes: &[u8]) -> bool {
-    puts_hex(alloc, bytes, false, b"").unwrap_or(false)
-}
-
-fn puts_values(alloc: Global) -> bool {
-    puts_value(alloc, b"-", b"") && puts_value(alloc, b"00fFAb", b"\x00\xff\xab")
-}
-
-fn puts_nothing_else(alloc: Global) -> bool {
-    puts_nothing(alloc, b"00fFAb9")
-        && puts_nothing(alloc, b"0g")
-        && puts_nothing(alloc, b"00g0")
-        && puts_nothing(alloc, b"--")
-        && puts_nothing(alloc, b"7")
-}
-
-#[test]
-fn hexadecimal_fields(rt: HostRuntime) {
-    assert!(rt; puts_values(rt.alloc()));
-    assert!(rt; puts_nothing_else(rt.alloc()));
-}
-
-// Two strings, the second put behind the first.
-fn appended(alloc: Global, first: &[u8], second: &[u8]) -> Result<ByteString, AllocError> {
-    let mut text = ByteString::from_slice(alloc, first)?;
-    text.append(ByteString::from_slice(alloc, second)?)?;
-    Ok(text)
-}
-
-fn appends(alloc: Global, first: &[u8], second: &[u8], whole: &[u8]) -> bool {
-    is_text(&appended(alloc, first, second), whole)
-}
-
-fn appends_all(alloc: Global) -> bool {
-    appends(alloc, b"", b"b", b"b")
-        && appends(alloc, b"a", b"", b"a")
-        && appends(alloc, b"a", b"b", b"ab")
-}
-
-#[test]
-fn strings_are_put_behind_others(rt: HostRuntime) {
-    assert!(rt; appends_all(rt.alloc()));
-}
-
-fn key_text(alloc: Global) -> Result<ByteString, AllocError> {
-    let mut text = ByteString::new(alloc);
-    text.push_slice(b"key ")?;
-    text.push_slice(b"00ab")?;
-    Ok(text)
-}
-
-// Whether the text is cut and written.
-fn becomes_key(text: &mut ByteString) -> bool {
-    text.truncate(3);
-    if let Some(first) = text.as_mut_slice().first_mut() {
-        *first = b'K';
-    }
-    text.as_slice() == b"Key".as_slice() && text.len() == 3
-}
-
-fn is_cut_to_key(text: &mut ByteString) -> bool {
-    text.as_slice() == b"key 00ab".as_slice() && becomes_key(text)
-}
-
-// The text's bytes, and no bytes.
-fn two_words(alloc: Global, text: &ByteString) -> Result<Words, AllocError> {
-    let mut words = Words::new(alloc);
-    words.push(text.as_slice())?;
-    words.push(b"")?;
-    Ok(words)
-}
-
-fn has_key(words: &Words) -> bool {
-    words.len() == 2 && words.get(0) == Some(b"Key".as_slice()) && words.get(2) == None
-}
-
-// Whether words stay as the text was that is cleared.
-fn keeps_words(alloc: Global, text: &mut ByteString) -> Result<bool, AllocError> {
-    let words = two_words(alloc, text)?;
-    text.clear();
-    Ok(text.is_empty() && has_key(&words))
-}
-
-fn are_strings_and_words_right(alloc: Global) -> Result<bool, AllocError> {
-    let mut text = key_text(alloc)?;
-    Ok(is_cut_to_key(&mut text) && keeps_words(alloc, &mut text)?)
-}
-
-fn takes_key(mut sink: MemSink) -> bool {
-    write_all(&mut sink, b"Key").is_ok() && sink.bytes() == b"Key".as_slice()
-}
-
-#[test]
-fn byte_strings_and_words(rt: HostRuntime) {
-    let alloc = rt.alloc();
-    assert!(rt; are_strings_and_words_right(alloc) == Ok(true));
-    assert!(rt; takes_key(MemSink::new(alloc, Vec::new(alloc))));
+    assert!(rt;
+        is_text(
+            &second_bytes(rt.alloc(), b"record 00fFAb\r"),
+            b"\x00\xff\xab"
+        )
+    );
 }
 
 struct Pairs;
