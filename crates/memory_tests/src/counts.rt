@@ -12,9 +12,9 @@ fn takes(alloc: Global) -> bool {
     }
 }
 
-/// How many allocations were made before this call. `None`: none of a run's fails, so they can't be
-/// counted.
-pub(crate) fn made(alloc: Global) -> Option<u32> {
+// How many allocations were made before this call. `None`: none of a run's fails, so they can't be
+// counted.
+fn made(alloc: Global) -> Option<u32> {
     for more in 0..FAILING {
         if !takes(alloc) {
             return Some(FAILING - 1 - more);
@@ -23,12 +23,13 @@ pub(crate) fn made(alloc: Global) -> Option<u32> {
     None
 }
 
-/// The same, or the number that is expected.
-pub(crate) fn made_or(alloc: Global, expected: u32) -> u32 {
-    match made(alloc) {
-        Some(count) => count,
-        None => expected,
-    }
+/// Whether something holds, and so many allocations were made, if they can be counted.
+pub(crate) fn holds_after(alloc: Global, expected: u32, holds: bool) -> bool {
+    holds
+        && match made(alloc) {
+            Some(count) => count == expected,
+            None => true,
+        }
 }
 
 // The one that `examples/no_memory` wants to fail: an allocation did.

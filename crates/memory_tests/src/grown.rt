@@ -1,5 +1,5 @@
 //! Calls that take memory in as many growths as their pages say.
-use crate::counts::made_or;
+use crate::counts::holds_after;
 use crate::toys::{OF_BATCH, OF_SEALED, batch, key, sealed};
 use slh_chain::delegate;
 use std::alloc::Global;
@@ -7,8 +7,7 @@ use std::alloc::Global;
 // The levels of its digests, and the signature.
 #[test]
 fn a_seal_takes_two(rt: HostRuntime) {
-    assert!(rt; sealed(rt.alloc()).is_some());
-    assert_eq!(rt; made_or(rt.alloc(), OF_BATCH + 2), OF_BATCH + 2);
+    assert!(rt; holds_after(rt.alloc(), OF_BATCH + 2, sealed(rt.alloc()).is_some()));
 }
 
 // The copy of the signature, and the levels of the second seal.
@@ -21,29 +20,23 @@ fn is_sealed_again(alloc: Global) -> Option<bool> {
 
 #[test]
 fn a_second_seal_takes_one(rt: HostRuntime) {
-    assert!(rt; is_sealed_again(rt.alloc()) == Some(true));
-    let count = OF_SEALED + 1 + OF_BATCH + 1;
-    assert_eq!(rt; made_or(rt.alloc(), count), count);
+    let is_sealed = is_sealed_again(rt.alloc()) == Some(true);
+    assert!(rt; holds_after(rt.alloc(), OF_SEALED + 1 + OF_BATCH + 1, is_sealed));
 }
 
-fn has_path(alloc: Global) -> Option<bool> {
-    Some(sealed(alloc)?.path(alloc, 1).ok()?.len() == 1)
-}
-
-#[test]
-fn a_path_takes_one(rt: HostRuntime) {
-    assert!(rt; has_path(rt.alloc()) == Some(true));
-    assert_eq!(rt; made_or(rt.alloc(), OF_SEALED + 1), OF_SEALED + 1);
-}
-
-fn has_head(alloc: Global) -> Option<bool> {
-    Some(sealed(alloc)?.head(alloc).ok()?.len() > 36)
+// One growth each. The other calls take none.
+fn has_path_and_head(alloc: Global) -> Option<bool> {
+    let sealed = sealed(alloc)?;
+    let path = sealed.path(alloc, 1).ok()?.len();
+    let head = sealed.head(alloc).ok()?.len();
+    let has_signature = sealed.signature().as_slice().len() > 0;
+    Some(sealed.len() == 2 && has_signature && sealed.root().len() == 32 && path == 1 && head > 36)
 }
 
 #[test]
-fn a_head_takes_one(rt: HostRuntime) {
-    assert!(rt; has_head(rt.alloc()) == Some(true));
-    assert_eq!(rt; made_or(rt.alloc(), OF_SEALED + 1), OF_SEALED + 1);
+fn a_path_and_a_head_take_one(rt: HostRuntime) {
+    let has_both = has_path_and_head(rt.alloc()) == Some(true);
+    assert!(rt; holds_after(rt.alloc(), OF_SEALED + 2, has_both));
 }
 
 fn has_receipt(alloc: Global) -> Option<bool> {
@@ -53,22 +46,17 @@ fn has_receipt(alloc: Global) -> Option<bool> {
 // The path, and the receipt.
 #[test]
 fn a_receipt_takes_two(rt: HostRuntime) {
-    assert!(rt; has_receipt(rt.alloc()) == Some(true));
-    assert_eq!(rt; made_or(rt.alloc(), OF_SEALED + 2), OF_SEALED + 2);
+    let has_one = has_receipt(rt.alloc()) == Some(true);
+    assert!(rt; holds_after(rt.alloc(), OF_SEALED + 2, has_one));
 }
 
 fn has_link(alloc: Global) -> Option<bool> {
     let key = key()?;
-    Some(
-        delegate(alloc, &key, b"a", 0, &key.verifying_key(), None)
-            .ok()?
-            .len()
-            > 5,
-    )
+    let link = delegate(alloc, &key, b"a", 0, &key.verifying_key(), None).ok()?;
+    Some(link.len() > 5)
 }
 
 #[test]
 fn a_link_takes_one(rt: HostRuntime) {
-    assert!(rt; has_link(rt.alloc()) == Some(true));
-    assert_eq!(rt; made_or(rt.alloc(), 1), 1);
+    assert!(rt; holds_after(rt.alloc(), 1, has_link(rt.alloc()) == Some(true)));
 }

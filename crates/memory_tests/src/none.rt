@@ -1,6 +1,6 @@
 //! The calls that have an allocator and take nothing of it.
-use crate::counts::made_or;
-use crate::toys::{OF_BATCH, OF_RING, OF_SEALED, OF_STORE, batch, path, ring, sealed, store};
+use crate::counts::holds_after;
+use crate::toys::{OF_BATCH, OF_RING, OF_STORE, batch, path, ring, store};
 use line_serve::{ByteString, MemSink, MemSource, NullSink, QuietSource, Sink, Source, Words};
 use slh_batch::Batch;
 use slh_manifest::{Builder, MemStore, Store};
@@ -9,44 +9,31 @@ use slh_run::serve;
 use slh_trees::toy::Toy;
 use std::alloc::Global;
 
-#[test]
-fn new_strings_and_words(rt: HostRuntime) {
-    let string = ByteString::new(rt.alloc());
-    let words = Words::new(rt.alloc());
-    assert!(rt; string.is_empty() && words.len() == 0);
-    assert_eq!(rt; made_or(rt.alloc(), 0), 0);
-}
-
-#[test]
-fn new_ends(rt: HostRuntime) {
-    let alloc = rt.alloc();
+fn are_empty_ends(alloc: Global) -> bool {
+    let string = ByteString::new(alloc);
+    let words = Words::new(alloc);
     let _quiet = QuietSource::new(Vec::new(alloc));
     let _source = MemSource::new(Vec::new(alloc), Vec::new(alloc));
     let sink = MemSink::new(alloc, Vec::new(alloc));
-    assert!(rt; sink.bytes().is_empty());
-    assert_eq!(rt; made_or(alloc, 0), 0);
+    string.is_empty() && words.len() == 0 && sink.bytes().is_empty()
 }
 
 #[test]
-fn a_new_batch(rt: HostRuntime) {
-    let batch = Batch::new(rt.alloc());
-    assert!(rt; batch.len() == 0);
-    assert_eq!(rt; made_or(rt.alloc(), 0), 0);
+fn new_strings_words_and_ends(rt: HostRuntime) {
+    assert!(rt; holds_after(rt.alloc(), 0, are_empty_ends(rt.alloc())));
+}
+
+fn are_empty(alloc: Global) -> bool {
+    let batch = Batch::new(alloc);
+    let builder = Builder::new(alloc);
+    let _store = MemStore::new(alloc, Vec::new(alloc));
+    let ring = Ring::<Toy>::new(alloc);
+    batch.len() == 0 && builder.is_empty() && ring.len() == 0
 }
 
 #[test]
-fn a_new_builder_and_store(rt: HostRuntime) {
-    let builder = Builder::new(rt.alloc());
-    assert!(rt; builder.is_empty());
-    let _store = MemStore::new(rt.alloc(), Vec::new(rt.alloc()));
-    assert_eq!(rt; made_or(rt.alloc(), 0), 0);
-}
-
-#[test]
-fn a_new_ring(rt: HostRuntime) {
-    let ring = Ring::<Toy>::new(rt.alloc());
-    assert!(rt; ring.len() == 0);
-    assert_eq!(rt; made_or(rt.alloc(), 0), 0);
+fn new_batches_builders_stores_and_rings(rt: HostRuntime) {
+    assert!(rt; holds_after(rt.alloc(), 0, are_empty(rt.alloc())));
 }
 
 // Bytes that are looked at, cut and taken out of a string.
@@ -60,8 +47,7 @@ fn is_emptied(alloc: Global) -> Option<bool> {
 
 #[test]
 fn a_string_is_cut(rt: HostRuntime) {
-    assert!(rt; is_emptied(rt.alloc()) == Some(true));
-    assert_eq!(rt; made_or(rt.alloc(), 1), 1);
+    assert!(rt; holds_after(rt.alloc(), 1, is_emptied(rt.alloc()) == Some(true)));
 }
 
 // A read that gives two of three bytes, and one that fails.
@@ -74,8 +60,7 @@ fn is_read(alloc: Global) -> Option<bool> {
 
 #[test]
 fn a_source_is_read(rt: HostRuntime) {
-    assert!(rt; is_read(rt.alloc()) == Some(true));
-    assert_eq!(rt; made_or(rt.alloc(), 2), 2);
+    assert!(rt; holds_after(rt.alloc(), 2, is_read(rt.alloc()) == Some(true)));
 }
 
 // A write that fails.
@@ -88,8 +73,7 @@ fn is_refused(alloc: Global) -> Option<bool> {
 
 #[test]
 fn a_write_fails(rt: HostRuntime) {
-    assert!(rt; is_refused(rt.alloc()) == Some(true));
-    assert_eq!(rt; made_or(rt.alloc(), 1), 1);
+    assert!(rt; holds_after(rt.alloc(), 1, is_refused(rt.alloc()) == Some(true)));
 }
 
 // What `serve` answers to one word that it doesn't know.
@@ -103,8 +87,7 @@ fn status(alloc: Global) -> Option<u8> {
 // The word, and its place.
 #[test]
 fn other_words_have_the_usage_text(rt: HostRuntime) {
-    assert!(rt; status(rt.alloc()) == Some(2));
-    assert_eq!(rt; made_or(rt.alloc(), 2), 2);
+    assert!(rt; holds_after(rt.alloc(), 2, status(rt.alloc()) == Some(2)));
 }
 
 fn is_batch_of_two(alloc: Global) -> Option<bool> {
@@ -114,20 +97,8 @@ fn is_batch_of_two(alloc: Global) -> Option<bool> {
 
 #[test]
 fn a_batch_is_looked_at(rt: HostRuntime) {
-    assert!(rt; is_batch_of_two(rt.alloc()) == Some(true));
-    assert_eq!(rt; made_or(rt.alloc(), OF_BATCH), OF_BATCH);
-}
-
-fn is_sealed_batch_of_two(alloc: Global) -> Option<bool> {
-    let sealed = sealed(alloc)?;
-    let some = sealed.signature().as_slice().len() > 0 && sealed.root().len() == 32;
-    Some(sealed.len() == 2 && some)
-}
-
-#[test]
-fn a_sealed_batch_is_looked_at(rt: HostRuntime) {
-    assert!(rt; is_sealed_batch_of_two(rt.alloc()) == Some(true));
-    assert_eq!(rt; made_or(rt.alloc(), OF_SEALED), OF_SEALED);
+    let is_batch = is_batch_of_two(rt.alloc()) == Some(true);
+    assert!(rt; holds_after(rt.alloc(), OF_BATCH, is_batch));
 }
 
 // Reads of a name that is there, and of one that isn't.
@@ -139,8 +110,7 @@ fn is_looked_up(alloc: Global) -> Option<bool> {
 
 #[test]
 fn a_store_is_read(rt: HostRuntime) {
-    assert!(rt; is_looked_up(rt.alloc()) == Some(true));
-    assert_eq!(rt; made_or(rt.alloc(), OF_STORE), OF_STORE);
+    assert!(rt; holds_after(rt.alloc(), OF_STORE, is_looked_up(rt.alloc()) == Some(true)));
 }
 
 // A path that is there is refused, and taken out.
@@ -154,6 +124,5 @@ fn is_taken_out(alloc: Global) -> Option<bool> {
 
 #[test]
 fn a_path_is_taken_out(rt: HostRuntime) {
-    assert!(rt; is_taken_out(rt.alloc()) == Some(true));
-    assert_eq!(rt; made_or(rt.alloc(), OF_RING), OF_RING);
+    assert!(rt; holds_after(rt.alloc(), OF_RING, is_taken_out(rt.alloc()) == Some(true)));
 }

@@ -13,11 +13,11 @@ pub(crate) fn key() -> Option<SigningKey<Toy>> {
 /// The allocations of [`batch`].
 pub(crate) const OF_BATCH: u32 = 1;
 
-/// A batch of two messages.
+/// A batch of two messages, one by its digest.
 pub(crate) fn batch(alloc: Global) -> Option<Batch> {
     let mut batch = Batch::new(alloc);
     batch.push(b"a").ok()?;
-    batch.push(b"b").ok()?;
+    batch.push_digest(&[7; 32]).ok()?;
     Some(batch)
 }
 
