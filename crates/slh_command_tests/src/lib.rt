@@ -1,10 +1,12 @@
-//! Tests of `slh_command`, `slh_readers` and `slh_paths` from outside.
+//! Tests of `slh_command`, `slh_readers`, `slh_paths` and `slh_files` from outside.
 #![tactic(auto)]
 
 #[cfg(test)]
 mod fronts;
 #[cfg(test)]
 mod groups;
+#[cfg(test)]
+mod key_files;
 #[cfg(test)]
 mod keys;
 #[cfg(test)]

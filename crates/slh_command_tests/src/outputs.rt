@@ -1,8 +1,10 @@
-//! Outputs of `slh_paths` over files in memory: secrets are kept, and what is none is replaced.
+//! Outputs of `slh_paths` over files in memory: secrets are kept, and what can't be looked at, and
+//! what is none is replaced.
 use crate::fronts::MemFronts;
-use slh_paths::{PutError, put_whole};
+use slh_paths::{Fronts, PutError, put_whole};
+use slh_run::ByteString;
 use std::alloc::{AllocError, Global};
-use whole_files::{Kind, MemFiles, Mode, Written};
+use whole_files::{Failed, Kind, MemFiles, Mode, WriteError, Written};
 
 // What OpenSSL made, from examples/data/openssl_keys.pem, the same key as a line, a label, and
 // masters, each behind the mark `|`.
@@ -28,11 +30,16 @@ fn has(files: &MemFiles, path: &str, bytes: &[u8]) -> bool {
     }
 }
 
-fn put_new(alloc: Global, files: &mut MemFiles, path: &str) -> Result<Written, PutError> {
+fn put_new<R: Fronts<MemFiles>>(
+    alloc: Global,
+    files: &mut MemFiles,
+    fronts: &mut R,
+    path: &str,
+) -> Result<Written, PutError> {
     if path == "part" {
         return Err(PutError::Memory);
     }
-    put_whole(alloc, files, &mut MemFronts { alloc }, path, "part", b"new")
+    put_whole(alloc, files, fronts, path, "part", b"new")
 }
 
 // Whether an output over a file with these bytes is answered so, in so many calls, and leaves the
@@ -47,7 +54,7 @@ fn is_put(
     let mut files = MemFiles::new(alloc, Vec::new(alloc), u64::MAX);
     files.put("other", Kind::Regular, 0o644, b"else")?;
     files.put("at", Kind::Regular, 0o640, old.as_bytes())?;
-    let put = put_new(alloc, &mut files, "at");
+    let put = put_new(alloc, &mut files, &mut MemFronts { alloc }, "at");
     Ok(
         put == answer
             && files.calls() == calls
@@ -74,4 +81,40 @@ fn what_is_no_secret_is_replaced(rt: HostRuntime) {
         let replaced = is_put(rt.alloc(), old, Ok(Written::Settled), 7, "new");
         assert!(rt; replaced == Ok(true), "{old}");
     }
+}
+
+// Finds nothing that can be read.
+#[derive(Drop)]
+struct Unreadable;
+
+impl Fronts<MemFiles> for Unreadable {
+    fn front(&mut self, _files: &MemFiles, _path: &str) -> Result<ByteString, Failed> {
+        Err(Failed)
+    }
+}
+
+// Whether an output over files of which this call fails is refused so, and leaves the file.
+fn is_kept<R: Fronts<MemFiles>>(
+    alloc: Global,
+    fronts: &mut R,
+    call: u64,
+    error: PutError,
+) -> Result<bool, AllocError> {
+    let mut files = MemFiles::new(alloc, vec![in alloc; call]?, u64::MAX);
+    files.put("at", Kind::Regular, 0o640, b"old")?;
+    let put = put_new(alloc, &mut files, fronts, "at");
+    Ok(put == Err(error) && files.count() == 1 && has(&files, "at", b"old"))
+}
+
+fn are_kept(alloc: Global) -> Result<bool, AllocError> {
+    let failed = PutError::Write(WriteError::Failed);
+    Ok(
+        is_kept(alloc, &mut Unreadable, u64::MAX, PutError::Unread)?
+            && is_kept(alloc, &mut MemFronts { alloc }, 0, failed)?,
+    )
+}
+
+#[test]
+fn what_cannot_be_looked_at_is_not_replaced(rt: HostRuntime) {
+    assert!(rt; are_kept(rt.alloc()) == Ok(true));
 }

@@ -1,8 +1,8 @@
 //! Signatures that another program made: the SHA-256 of each. And messages that change meanwhile.
 use crate::readers::{is_changed, public, signing, slowly};
 use hmac_sha256::Hash;
-use slh_files::Key;
-use slh_readers::{ReadError, audit, sign_digest, sign_twice, verify};
+use slh_files::{Key, evidence_of};
+use slh_readers::{ReadError, audit, check_evidence, sign_digest, sign_twice, verify};
 use slh_run::{ByteString, Error, Mode, Verdict};
 use std::alloc::Global;
 
@@ -79,6 +79,36 @@ fn known_signatures_of_digests(rt: HostRuntime) {
     let wanted = "cf156a3cbbea4b6726a994fbc1b5d11c2ec56d661a230319163b0a1333b99d65";
     let rand = Some(NUMBERS.as_slice());
     assert!(rt; is_known(rt.alloc(), Mode::Sha512, b"", rand, b"abc", wanted) == Ok(true));
+}
+
+// Some 200 pieces, each of which has a byte more than the one before.
+const LONG: [u8; 20_000] = [b'a'; 20_000];
+
+#[test]
+fn known_signature_of_a_long_message(rt: HostRuntime) {
+    let wanted = "166ef1f8f7ce80555372b5d2d214587d7a448aea213f6113fbe225ac9ceb938c";
+    assert!(rt; is_known(rt.alloc(), Mode::Pure, b"", None, &LONG, wanted) == Ok(true));
+}
+
+fn is_undisputed(alloc: Global) -> Result<bool, Error> {
+    let key = signing(alloc)?;
+    let evidence = evidence_of(alloc, b"early 0 1")?;
+    match (
+        signed(alloc, &key, Mode::Pure, b"", None, b"Hello"),
+        evidence,
+    ) {
+        (Ok(signature), Some(evidence)) => {
+            let (signature, message) = (signature.as_slice(), slowly(b"Hello"));
+            let shown = check_evidence(&key, Mode::Pure, b"", signature, evidence, message);
+            Ok(matches!(shown, Ok(false)))
+        }
+        _ => Ok(false),
+    }
+}
+
+#[test]
+fn evidence_shows_nothing_against_an_own_signature(rt: HostRuntime) {
+    assert!(rt; is_undisputed(rt.alloc()) == Ok(true));
 }
 
 // Two readings of a message, which differ.

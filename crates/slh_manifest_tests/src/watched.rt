@@ -78,12 +78,13 @@ const DIGESTS: &str = "\
 4097 d68e9b6ca6ef568622005e43007475e22f47e488041fb1afb2c0cfaa7fec673b
 2000000 10a0b3fad17972b3b1b9171c811c2a461674993cb410def99c5ae2522d811da4";
 
-// The body of a manifest of one name with so many bytes, of which a read gives at most so many.
-fn body_of(alloc: Global, len: u64, most: u64) -> Option<Vec<u8>> {
+// The body of a manifest of names with so many bytes each, of which a read gives at most so many.
+fn body_of(alloc: Global, names: &[&[u8]], len: u64, most: u64) -> Option<Vec<u8>> {
     let mut builder = Builder::new(alloc);
-    builder
-        .add(b"a", &mut store_of(alloc, len, most, NEVER)?)
-        .ok()?;
+    let mut store = store_of(alloc, len, most, NEVER)?;
+    for name in names {
+        builder.add(*name, &mut store).ok()?;
+    }
     builder.body(alloc).ok()
 }
 
@@ -96,7 +97,7 @@ fn has_entry(body: &[u8], len: u64, digits: &str) -> bool {
 }
 
 fn is_entry(alloc: Global, len: u64, most: u64, digits: &str) -> bool {
-    match body_of(alloc, len, most) {
+    match body_of(alloc, &[b"a"], len, most) {
         Some(body) => has_entry(&body, len, digits),
         None => false,
     }
@@ -187,7 +188,7 @@ fn all_ask(alloc: Global, body: &[u8], row: &[u64; 8]) -> Option<bool> {
 }
 
 fn both_ask(alloc: Global, row: &[u64; 8]) -> Option<bool> {
-    let body = body_of(alloc, row[0], PIECE)?;
+    let body = body_of(alloc, &[b"a"], row[0], PIECE)?;
     all_ask(alloc, &body, row)
 }
 
@@ -205,8 +206,8 @@ fn signed_asks(alloc: Global, manifest: &[u8], row: &[u64; 8]) -> Option<bool> {
     Some(is_wanted(answer, row) && has_seen(&store, row))
 }
 
-fn all_ask_alike(alloc: Global, manifest: &[u8]) -> bool {
-    for row in &ASKED {
+fn all_ask_alike(alloc: Global, manifest: &[u8], rows: &[[u64; 8]]) -> bool {
+    for row in rows {
         if row[0] == 3 && signed_asks(alloc, manifest, row) != Some(true) {
             return false;
         }
@@ -214,15 +215,42 @@ fn all_ask_alike(alloc: Global, manifest: &[u8]) -> bool {
     true
 }
 
-fn asks_alike(alloc: Global) -> Option<bool> {
+fn asks_alike(alloc: Global, names: &[&[u8]], rows: &[[u64; 8]]) -> Option<bool> {
     let mut own = store_of(alloc, 3, PIECE, NEVER)?;
-    let manifest = manifest_of(alloc, &key()?, &[b"a"], &mut own).ok()?;
-    Some(all_ask_alike(alloc, &manifest))
+    let manifest = manifest_of(alloc, &key()?, names, &mut own).ok()?;
+    Some(all_ask_alike(alloc, &manifest, rows))
 }
 
 #[test]
 fn a_check_of_a_signed_manifest_asks_alike(rt: HostRuntime) {
-    assert!(rt; asks_alike(rt.alloc()) == Some(true));
+    assert!(rt; asks_alike(rt.alloc(), &[b"a"], &ASKED) == Some(true));
+}
+
+// The same of two entries: nothing is asked for behind the first that isn't right.
+const ASKED_OF_TWO: [[u64; 8]; 7] = [
+    [3, 3, NEVER, 4, 4, 4, 10, 6],
+    [3, 2, NEVER, 2, 4, 4, 6, 2],
+    [3, NEVER, NEVER, 1, 4, 4, 4, 4],
+    [3, 3, 0, 1, 4, 4, 4, 0],
+    [3, 3, 1, 2, 4, 4, 5, 3],
+    [3, 3, 2, 3, 4, 4, 9, 3],
+    [3, 3, 3, 4, 4, 4, 10, 6],
+];
+
+fn opened_ask(alloc: Global) -> Option<bool> {
+    let body = body_of(alloc, &[b"a", b"b"], 3, PIECE)?;
+    let manifest = Manifest::reopen(&body)?;
+    let mut all = true;
+    for row in &ASKED_OF_TWO {
+        all = opened_asks(&manifest, &mut store_for(alloc, row)?, row) && all;
+    }
+    Some(all)
+}
+
+#[test]
+fn a_check_ends_with_the_first_entry_that_is_not_right(rt: HostRuntime) {
+    assert!(rt; opened_ask(rt.alloc()) == Some(true));
+    assert!(rt; asks_alike(rt.alloc(), &[b"a", b"b"], &ASKED_OF_TWO) == Some(true));
 }
 
 // Whether an `add` that takes three reads ends with this one, if it fails.

@@ -10,10 +10,10 @@ fn replies(alloc: Global, lines: &[u8]) -> Result<(u8, Vec<u8>), AllocError> {
 }
 
 // A line with three seeds, and the key that the Rust crate `slh-dsa` makes of them.
-const LINE: &[u8] =
+pub(crate) const LINE: &[u8] =
     b"SLH-DSA-SHA2-128f keygen 01010101010101010101010101010101 02020202020202020202020202020202 03030303030303030303030303030303\n";
 
-const REPLY: &[u8] =
+pub(crate) const REPLY: &[u8] =
     b"key 0101010101010101010101010101010102020202020202020202020202020202030303030303030303030303030303034052e0733e69e78739d6e67c77f9a37d 030303030303030303030303030303034052e0733e69e78739d6e67c77f9a37d\n";
 
 fn is_answered(alloc: Global) -> bool {

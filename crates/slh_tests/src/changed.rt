@@ -78,12 +78,7 @@ fn a_changed_byte_is_refused(rt: HostRuntime) {
     assert!(rt; are_invalid());
 }
 
-fn is_equal_with_its_randomizer_alone() -> bool {
-    let sig = signed(1, Some(&[8; 16]));
-    sig != signed(1, Some(&[9; 16])) && sig == signed(1, Some(&[8; 16]))
-}
-
 #[test]
 fn other_randomizers_make_other_signatures(rt: HostRuntime) {
-    assert!(rt; is_equal_with_its_randomizer_alone());
+    assert!(rt; signed(1, Some(&[8; 16])) != signed(1, Some(&[9; 16])));
 }

@@ -1,4 +1,4 @@
-//! The example of the page of `slh_trees`.
+//! The example of the page of `slh_internal`.
 use crate::worked::{SIGNATURE, changed};
 use slh_core::nbytes::NBytes;
 use slh_internal::SigView;
