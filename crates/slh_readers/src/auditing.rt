@@ -30,7 +30,7 @@ struct Doubted<'a, R> {
 
 // Writes the digest of what the reader gives, with the signature's randomizer under the key.
 fn digest_read<P: SetSuite, R: Read + Drop>(
-    doubted: Doubted<'_, R>,
+    mut doubted: Doubted<'_, R>,
     out: &mut [u8],
 ) -> Result<(), ReadError>
     requires { length out.old ≡ P.M.USIZE }
@@ -40,16 +40,13 @@ fn digest_read<P: SetSuite, R: Read + Drop>(
 {
     let Doubted {
         mode,
-        key,
         context,
         signature,
-        reader,
+        ..
     } = doubted;
-    let mut reader = reader;
-    let signing = SigningKey::<P>::try_from(key)?;
-    let public = signing.verifying_key();
+    let public = SigningKey::<P>::try_from(doubted.key)?.verifying_key();
     let mut verifier = MessageVerifier::<P>::new(&public, mode, context, signature)?;
-    absorb_all(&mut reader, &mut verifier)?;
+    absorb_all(&mut doubted.reader, &mut verifier)?;
     verifier.finish_digest(out);
     Ok(())
 }

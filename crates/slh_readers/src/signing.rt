@@ -73,20 +73,11 @@ impl<'a, R: Read + Drop> OnSet for ByDigest<'a, R> {
         IsSigned (R.remaining c.reader)
         (digest_answer Z c.mode c.key.now c.context.now opt_rand) result };
 
-    fn on<P: SetSuite>(self) -> Result<ByteString, ReadError> {
-        let ByDigest {
-            alloc,
-            mode,
-            key,
-            context,
-            opt_rand,
-            reader,
-        } = self;
-        let mut reader = reader;
-        let key = SigningKey::<P>::try_from(key)?;
-        let mut signer = DigestSigner::<P>::new(&key, mode, context, opt_rand)?;
-        absorb_all(&mut reader, &mut signer)?;
-        end_digest(alloc, signer)
+    fn on<P: SetSuite>(mut self) -> Result<ByteString, ReadError> {
+        let key = SigningKey::<P>::try_from(self.key)?;
+        let mut signer = DigestSigner::<P>::new(&key, self.mode, self.context, self.opt_rand)?;
+        absorb_all(&mut self.reader, &mut signer)?;
+        end_digest(self.alloc, signer)
     }
 }
 
@@ -132,22 +123,13 @@ impl<'a, R: Read + Drop, S: Read + Drop> OnSet for ByPasses<'a, R, S> {
         IsSignedTwice Z c.key.now c.context.now opt_rand
         (R.remaining c.first) (S.remaining c.second) result };
 
-    fn on<P: SetSuite>(self) -> Result<ByteString, ReadError> {
-        let ByPasses {
-            alloc,
-            key,
-            context,
-            opt_rand,
-            first,
-            second,
-        } = self;
-        let (mut first, mut second) = (first, second);
-        let key = SigningKey::<P>::try_from(key)?;
-        let mut pass = FirstPass::<P>::new(&key, context, opt_rand)?;
-        absorb_all(&mut first, &mut pass)?;
+    fn on<P: SetSuite>(mut self) -> Result<ByteString, ReadError> {
+        let key = SigningKey::<P>::try_from(self.key)?;
+        let mut pass = FirstPass::<P>::new(&key, self.context, self.opt_rand)?;
+        absorb_all(&mut self.first, &mut pass)?;
         let mut pass = pass.again();
-        absorb_all(&mut second, &mut pass)?;
-        end_pass(alloc, pass)
+        absorb_all(&mut self.second, &mut pass)?;
+        end_pass(self.alloc, pass)
     }
 }
 

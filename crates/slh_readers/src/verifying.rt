@@ -30,18 +30,11 @@ impl<'a, R: Read + Drop> OnSet for Claim<'a, R> {
     ghost gives = { λ c Z _ result. IsAnswer (R.remaining c.reader) (λ m. accepted_by
         (judgement Z (Verify c.mode c.key.now c.context.now m c.signature.now))) result };
 
-    fn on<P: SetSuite>(self) -> Result<bool, ReadError> {
-        let Claim {
-            mode,
-            key,
-            context,
-            signature,
-            reader,
-        } = self;
-        let mut reader = reader;
-        let key = VerifyingKey::<P>::try_from(key)?;
-        let mut verifier = MessageVerifier::<P>::new(&key, mode, context, signature)?;
-        absorb_all(&mut reader, &mut verifier)?;
+    fn on<P: SetSuite>(mut self) -> Result<bool, ReadError> {
+        let key = VerifyingKey::<P>::try_from(self.key)?;
+        let mut verifier =
+            MessageVerifier::<P>::new(&key, self.mode, self.context, self.signature)?;
+        absorb_all(&mut self.reader, &mut verifier)?;
         Ok(verifier.finish().is_ok())
     }
 }
