@@ -1,3 +1,4 @@
+mod Keys
 mod Checks
 mod Escapes
 mod Texts

@@ -1,10 +1,12 @@
 //! Batches that are signed, and where their heads and receipts go.
-ghost use Rattle.std.specs.Prelude.{Option, None, IfErr, IfOk, OnOk};
+ghost use Rattle.std.specs.Prelude.{◌≡◌, Option, None, IfErr, IfOk, OnOk};
 ghost use Rattle.std.specs.Option.{option_copied};
 ghost use Rattle.slh_batch.specs.Heads.{head_of};
+ghost use Rattle.slh_batch.specs.declared.error.BatchError.TheVariants.{Memory};
 ghost use Rattle.slh_command.specs.Batches.{IsSealed, RefusedBy, Taken, TookAll, TookHead};
-ghost use Rattle.slh_command.specs.Batches.{TookReceipt, sealing_refusal};
+ghost use Rattle.slh_command.specs.Batches.{TookReceipt, batch_signature, sealing_refusal};
 ghost use Rattle.slh_sets.specs.Sets.{scheme_for};
+ghost use Rattle.slh_trees.specs.Refusals.{RefusedOrNoMemory};
 
 use slh_batch::{Batch, BatchError, Sealed};
 use slh_dsa::{ParameterSet, SigningKey};
@@ -90,30 +92,24 @@ fn hand_out<P: ParameterSet, R: Receipts>(
     Ok(())
 }
 
-// Signs a batch by the bytes of a key, and hands out its head and receipts.
-fn seal_by<P: ParameterSet, R: Receipts + Drop>(
+// Signs a batch by the bytes of a key.
+fn sealed_by<P: ParameterSet>(
     alloc: Global,
     key: &[u8],
     batch: Batch,
     opt_rand: Option<&[u8]>,
-    receipts: R,
-) -> Result<R, SealError<R::Error>>
-    ensures refused { let opt_rand = option_copied opt_rand.entry in
-        IfErr result (RefusedBy (sealing_refusal P.scheme key.now batch opt_rand)) }
-    ensures sealed { let opt_rand = option_copied opt_rand.entry in
-        IfOk result (λ after. IsSealed P.scheme key.now opt_rand batch
-        (R.taken receipts) (R.taken after)) }
+) -> Result<Sealed<P>, BatchError>
+    ensures refusal { let opt_rand = option_copied opt_rand.entry in
+        RefusedOrNoMemory Memory result (sealing_refusal P.scheme key.now batch opt_rand) }
+    ensures leaves { IfOk result (λ sealed. sealed.leaves ≡ batch) }
+    ensures signature { let opt_rand = option_copied opt_rand.entry in
+        IfOk result (λ sealed. sealed.signature
+        ≡ batch_signature P.scheme key.now opt_rand batch) }
 {
     let Ok(key) = SigningKey::<P>::try_from(key) else {
-        return Err(SealError::Batch(BatchError::Memory));
+        return Err(BatchError::Memory);
     };
-    let sealed = match batch.seal(alloc, &key, opt_rand) {
-        Ok(sealed) => sealed,
-        Err(error) => return Err(SealError::Batch(error)),
-    };
-    let mut receipts = receipts;
-    hand_out(alloc, &sealed, &mut receipts)?;
-    Ok(receipts)
+    batch.seal(alloc, &key, opt_rand)
 }
 
 impl<'a, R: Receipts + Drop> OnSet for Sealing<'a, R> {
@@ -124,15 +120,13 @@ impl<'a, R: Receipts + Drop> OnSet for Sealing<'a, R> {
         × IfOk result (λ after. IsSealed Z c.key.now opt_rand c.batch
         (R.taken c.receipts) (R.taken after)) };
 
-    fn on<P: SetSuite>(self) -> Result<R, SealError<R::Error>> {
-        let Sealing {
-            alloc,
-            key,
-            batch,
-            opt_rand,
-            receipts,
-        } = self;
-        seal_by::<P, R>(alloc, key, batch, opt_rand, receipts)
+    fn on<P: SetSuite>(mut self) -> Result<R, SealError<R::Error>> {
+        let sealed = match sealed_by::<P>(self.alloc, self.key, self.batch, self.opt_rand) {
+            Ok(sealed) => sealed,
+            Err(error) => return Err(SealError::Batch(error)),
+        };
+        hand_out(self.alloc, &sealed, &mut self.receipts)?;
+        Ok(self.receipts)
     }
 }
 

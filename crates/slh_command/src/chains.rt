@@ -9,7 +9,7 @@ ghost use Rattle.slh_sets.specs.Sets.{scheme_for};
 ghost use Rattle.slh_trees.specs.Refusals.{RefusedOrNoMemory};
 
 use line_serve::ByteString;
-use slh_chain::{Chain, ChainError, LinkError, Links, delegate, walk};
+use slh_chain::{Chain, ChainError, LinkError, LinkRef, Links, delegate, walk};
 use slh_dsa::{ParameterSet, SigningKey, VerifyingKey};
 use slh_sets::{OnSet, Set, SetSuite};
 use std::alloc::{AllocError, Global};
@@ -88,6 +88,21 @@ pub struct LinkText<'a> {
     pub subject: Vec<u8>,
 }
 
+// A link of a chain that was walked, with its key as bytes.
+fn text_of<'a, P: ParameterSet>(
+    alloc: Global,
+    link: LinkRef<'a, P>,
+) -> Result<LinkText<'a>, AllocError>
+    ensures { let link = link.entry in IfOk result (λ text. parts_of text
+        ≡ record { depth = link.depth; name = link.name.now; subject = link.subject }) }
+{
+    Ok(LinkText {
+        depth: link.depth,
+        name: link.name,
+        subject: link.subject.to_vec(alloc)?,
+    })
+}
+
 // The links of a chain that was walked.
 fn texts_of<'a, P: ParameterSet>(
     alloc: Global,
@@ -97,11 +112,7 @@ fn texts_of<'a, P: ParameterSet>(
 {
     let mut texts = Vec::new(alloc);
     for link in links {
-        let text = LinkText {
-            depth: link.depth,
-            name: link.name,
-            subject: link.subject.to_vec(alloc)?,
-        };
+        let text = text_of(alloc, link)?;
         if texts.push(text).is_err() {
             return Err(AllocError);
         }
