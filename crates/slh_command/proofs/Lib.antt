@@ -1,4 +1,5 @@
 mod Keys
+mod Opened
 mod Checks
 mod Escapes
 mod Texts
