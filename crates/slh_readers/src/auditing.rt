@@ -30,7 +30,7 @@ struct Doubted<'a, R> {
 
 // Writes the digest of what the reader gives, with the signature's randomizer under the key.
 fn digest_read<P: SetSuite, R: Read + Drop>(
-    mut doubted: Doubted<'_, R>,
+    doubted: Doubted<'_, R>,
     out: &mut [u8],
 ) -> Result<(), ReadError>
     requires { length out.old ≡ P.M.USIZE }
@@ -46,7 +46,7 @@ fn digest_read<P: SetSuite, R: Read + Drop>(
     } = doubted;
     let public = SigningKey::<P>::try_from(doubted.key)?.verifying_key();
     let mut verifier = MessageVerifier::<P>::new(&public, mode, context, signature)?;
-    absorb_all(&mut doubted.reader, &mut verifier)?;
+    absorb_all(doubted.reader, &mut verifier)?;
     verifier.finish_digest(out);
     Ok(())
 }

@@ -46,15 +46,15 @@ fn absorb_some<R: Read, T: Absorber>(
 
 /// Hands on all that a reader gives, to its end.
 #[tactic(auto, unfolding(crate::specs::Reading::AbsorbsAll))]
-pub(crate) fn absorb_all<R: Read, T: Absorber>(
-    reader: &mut R,
+pub(crate) fn absorb_all<R: Read + Drop, T: Absorber>(
+    mut reader: R,
     absorber: &mut T,
 ) -> Result<(), ReadError>
-    ensures { AbsorbsAll T.stands absorber.old absorber.new (R.remaining reader.old) result }
+    ensures { AbsorbsAll T.stands absorber.old absorber.new (R.remaining reader) result }
 {
     let mut buf = [0u8; PIECE];
     for _ in 0..u64::MAX {
-        if absorb_some(reader, absorber, &mut buf)? == 0 {
+        if absorb_some(&mut reader, absorber, &mut buf)? == 0 {
             return Ok(());
         }
     }

@@ -73,10 +73,10 @@ impl<'a, R: Read + Drop> OnSet for ByDigest<'a, R> {
         IsSigned (R.remaining c.reader)
         (digest_answer Z c.mode c.key.now c.context.now opt_rand) result };
 
-    fn on<P: SetSuite>(mut self) -> Result<ByteString, ReadError> {
+    fn on<P: SetSuite>(self) -> Result<ByteString, ReadError> {
         let key = SigningKey::<P>::try_from(self.key)?;
         let mut signer = DigestSigner::<P>::new(&key, self.mode, self.context, self.opt_rand)?;
-        absorb_all(&mut self.reader, &mut signer)?;
+        absorb_all(self.reader, &mut signer)?;
         end_digest(self.alloc, signer)
     }
 }
@@ -123,12 +123,12 @@ impl<'a, R: Read + Drop, S: Read + Drop> OnSet for ByPasses<'a, R, S> {
         IsSignedTwice Z c.key.now c.context.now opt_rand
         (R.remaining c.first) (S.remaining c.second) result };
 
-    fn on<P: SetSuite>(mut self) -> Result<ByteString, ReadError> {
+    fn on<P: SetSuite>(self) -> Result<ByteString, ReadError> {
         let key = SigningKey::<P>::try_from(self.key)?;
         let mut pass = FirstPass::<P>::new(&key, self.context, self.opt_rand)?;
-        absorb_all(&mut self.first, &mut pass)?;
+        absorb_all(self.first, &mut pass)?;
         let mut pass = pass.again();
-        absorb_all(&mut self.second, &mut pass)?;
+        absorb_all(self.second, &mut pass)?;
         end_pass(self.alloc, pass)
     }
 }

@@ -30,11 +30,15 @@ impl<'a, R: Read + Drop> OnSet for Claim<'a, R> {
     ghost gives = { λ c Z _ result. IsAnswer (R.remaining c.reader) (λ m. accepted_by
         (judgement Z (Verify c.mode c.key.now c.context.now m c.signature.now))) result };
 
-    fn on<P: SetSuite>(mut self) -> Result<bool, ReadError> {
+    fn on<P: SetSuite>(self) -> Result<bool, ReadError> {
         let key = VerifyingKey::<P>::try_from(self.key)?;
-        let mut verifier =
-            MessageVerifier::<P>::new(&key, self.mode, self.context, self.signature)?;
-        absorb_all(&mut self.reader, &mut verifier)?;
+        let mut verifier = MessageVerifier::<P>::new(
+            &key,
+            self.mode,
+            self.context,
+            self.signature,
+        )?;
+        absorb_all(self.reader, &mut verifier)?;
         Ok(verifier.finish().is_ok())
     }
 }
