@@ -1,12 +1,7 @@
--- What is answered by the bytes of a key, where they are one of the set and where they are none.
+-- What is answered by the bytes of a key, where they are one of the set.
 use Rattle.std.proofs.Common.{◌≡◌, Bool, true, false, ◌&&◌, Option, None, Some, if◌then◌else◌, refl}
 use Rattle.slh_dsa.specs.declared.error.Error.{Error}
 use Rattle.slh_dsa.specs.declared.error.Error.TheVariants.{Length}
-
-pub no_key : {E : Type 0} (fits : Bool) (e : Error) (refusal other : Option E)
-    → (if fits then None else Some Length) ≡ Some e → (if fits then refusal else other) ≡ other
-no_key true e refusal other is = cc is
-no_key false e refusal other is = refl
 
 pub one_key : {E : Type 0} (fits : Bool) (refusal other : Option E)
     → (if fits then None else Some Length) ≡ None → (if fits then refusal else other) ≡ refusal

@@ -77,7 +77,7 @@ number_unless None number = number
 number_unless (Some refusal) number = error_number refusal
 
 -- what the end of the second pass answers, with a key again, into so many bytes
-abbrev pub finish_number : Scheme → List ℕ → Option (List ℕ) → List ℕ → List ℕ → ℕ → ℕ
+unfoldable pub finish_number : Scheme → List ℕ → Option (List ℕ) → List ℕ → List ℕ → ℕ → ℕ
 finish_number Z key opt_rand message rand len = number_unless (signing_key_refusal Z key)
     (pass_number (pass_refusal Z key opt_rand message rand len))
 

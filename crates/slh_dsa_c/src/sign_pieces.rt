@@ -317,6 +317,7 @@ fn number_of_pass(error: PassError) -> u32
 }
 
 // Ends the second pass by a key of bytes.
+#[tactic(auto, unfolding(crate::specs::SignPieces::finish_number))]
 fn finish_by<P: SetSuite>(state: &SuspendedPass, key: &[u8], out: &mut [u8]) -> u32
     ensures status { (opt_rand : Option (List ℕ)) (context rand m : List ℕ)
         → IsSecondAside P.scheme.n state.now key.now opt_rand context rand m

@@ -10,7 +10,7 @@ use crate::builder::CONTEXT;
 use crate::entry::front_entry;
 use crate::entry_ref::EntryRef;
 use crate::error::CheckError;
-use crate::parts::{entries_of, parts_of};
+use crate::parts::{Parts, any_parts_of, parts_of};
 use slh_dsa::{Mode, ParameterSet, VerifyingKey};
 use std::marker::Model;
 
@@ -61,7 +61,7 @@ impl<'a> Manifest<'a> {
         ensures form { is_some result ≡ has_entries bytes.now }
         ensures entries { IfSome result (λ manifest. manifest ≡ entries_of bytes.now) }
     {
-        let (count, entries) = entries_of(bytes)?;
+        let Parts { count, entries, .. } = any_parts_of(bytes)?;
         Some(Manifest { count, entries })
     }
 

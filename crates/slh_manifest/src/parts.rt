@@ -37,16 +37,25 @@ fn count_of(manifest: &[u8]) -> Option<u32>
     Some(count)
 }
 
-/// How many entries a manifest has, and what follows their number, where they stand there.
-pub(crate) fn entries_of(manifest: &[u8]) -> Option<(u32, &[u8])>
+/// The parts of a manifest of whatever signature. `None`: the bytes don't have the form of one.
+pub(crate) fn any_parts_of(manifest: &[u8]) -> Option<Parts<'_>>
     ensures form { is_some result ≡ has_entries manifest.now }
-    ensures count { IfSome result (λ found. found.0 ≡ spec_count_of manifest.now) }
-    ensures entries { IfSome result (λ found. found.1.now ≡ drop 4 manifest.now) }
+    ensures count { IfSome result (λ parts. parts.count ≡ spec_count_of manifest.now) }
+    ensures entries { IfSome result (λ parts. parts.entries.now ≡ drop 4 manifest.now) }
+    ensures body { IfSome result (λ parts. parts.body.now ≡ body_part manifest.now) }
+    ensures signature { IfSome result
+        (λ parts. parts.signature.now ≡ signature_part manifest.now) }
+    ensures body_len { IfSome result (λ parts. length parts.body.now ≤ 2 ^ 60) }
 {
     let count = count_of(manifest)?;
     let entries = &manifest[4..];
-    skip_entries(count, entries)?;
-    Some((count, entries))
+    let signature = skip_entries(count, entries)?;
+    Some(Parts {
+        count,
+        entries,
+        body: &manifest[..manifest.len() - signature.len()],
+        signature,
+    })
 }
 
 /// The parts of a manifest. `None`: the bytes don't have the form of one.
@@ -61,16 +70,9 @@ pub(crate) fn parts_of<P: ParameterSet>(manifest: &[u8]) -> Option<Parts<'_>>
     ensures signature_len { IfSome result
         (λ parts. length parts.signature.now ≡ signature_size P.scheme) }
 {
-    let count = count_of(manifest)?;
-    let entries = &manifest[4..];
-    let signature = skip_entries(count, entries)?;
-    if signature.len() != P::SigLen::USIZE {
+    let parts = any_parts_of(manifest)?;
+    if parts.signature.len() != P::SigLen::USIZE {
         return None;
     }
-    Some(Parts {
-        count,
-        entries,
-        body: &manifest[..manifest.len() - signature.len()],
-        signature,
-    })
+    Some(parts)
 }
