@@ -1,4 +1,5 @@
-//! What no clause says: that answers come where there is memory, and what single texts give.
+//! What no clause of `line_serve` says: that answers come where there is memory, and what single
+//! texts give.
 ghost use Rattle.std.specs.Prelude.{◌<◌, ◌++◌, ◌∷◌, [], Some, unwrap_or, slice_get, replicate};
 ghost use Rattle.std.specs.Option.{option_map};
 ghost use Rattle.line_serve.specs.Fields.{fields};
