@@ -1,7 +1,7 @@
 //! Tests of `slh_trees`, `slh_audit` and `slh_dsa` from outside: the toy suite, whose values were
 //! worked by hand, and a known key of SLH-DSA-SHA2-128f. Below them those of `slh_core` (`core_`),
 //! `slh_hash` (`hash_`) and `signature_core` (`signature_traits`), above them those of `slh_sets`
-//! (`sets`).
+//! (`sets`) and, over its six sets, of `slh_stream` (`stream_`).
 #![tactic(auto)]
 
 #[cfg(test)]
@@ -25,6 +25,8 @@ mod page_of_audits;
 #[cfg(test)]
 mod page_of_keys;
 #[cfg(test)]
+mod page_of_streams;
+#[cfg(test)]
 mod page_of_trees;
 #[cfg(test)]
 mod sets;
@@ -32,6 +34,10 @@ mod sets;
 mod signature_traits;
 #[cfg(test)]
 mod signatures;
+#[cfg(test)]
+mod stream_answers;
+#[cfg(test)]
+mod stream_pieces;
 #[cfg(test)]
 mod traits;
 #[cfg(test)]

@@ -2,7 +2,7 @@
 //! that of three seeds, which repeat 1, 2 and 3.
 ghost use Rattle.std.specs.Prelude.{◌≤◌};
 
-use crate::pieces::{Signing, is_accepted, is_signed, key};
+use crate::stream_pieces::{Signing, is_accepted, is_signed, key};
 use hmac_sha256::Hash;
 use hybrid_array::ArraySize;
 use sha2::{Digest, Sha512};
