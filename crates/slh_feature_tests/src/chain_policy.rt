@@ -1,5 +1,5 @@
 //! The example of docs/KEYS.md: names of links that say until when, under which number and for what.
-use crate::page_of_chains::key;
+use crate::keys::key;
 use slh_chain::Chain;
 use slh_dsa::ParameterSet;
 use std::alloc::Global;
@@ -44,7 +44,7 @@ const DAYS: [(&str, &[&str], &str, bool); 5] = [
 
 // A chain of one link, which is made from the empty one.
 fn are_judged(alloc: Global) -> Option<bool> {
-    let key = key(7)?;
+    let key = key(7);
     let root = key.verifying_key();
     let name = b"2027-06-30/17/firmware";
     let empty = Chain::open(&root, &[]).ok()?;

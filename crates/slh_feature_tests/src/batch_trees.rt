@@ -1,4 +1,4 @@
-//! Trees and paths that another program computed.
+//! Trees and paths of batches that another program computed.
 use crate::page_of_batches::sealed;
 use hmac_sha256::Hash;
 use slh_batch::Sealed;

@@ -1,5 +1,6 @@
-//! Entries by their digests, and bodies that are signed elsewhere.
-use crate::page_of_manifests::{checked, key};
+//! Entries of a manifest by their digests, and bodies that are signed elsewhere.
+use crate::keys::key;
+use crate::page_of_manifests::checked;
 use slh_dsa::Sha2_128f;
 use slh_manifest::{Builder, CONTEXT, MemStore};
 use std::alloc::Global;
@@ -20,7 +21,7 @@ fn signed_elsewhere(alloc: Global, body: &[u8; 88]) -> Option<Vec<u8>> {
     add_digest(&mut builder, b"a", 3, &body[14..46])?;
     add_digest(&mut builder, b"b", 0, &body[56..])?;
     let body = builder.body(alloc).ok()?;
-    let signature = key()?
+    let signature = key(3)
         .try_sign_with_context(alloc, &body, CONTEXT, None)
         .ok()?;
     builder
@@ -39,7 +40,7 @@ fn is_accepted(alloc: Global) -> Option<bool> {
     let mut body = [0u8; 88];
     hex::decode_to_slice(BODY, &mut body).ok()?;
     let manifest = signed_elsewhere(alloc, &body)?;
-    let answer = checked(&key()?.verifying_key(), &manifest, &mut files(alloc)?);
+    let answer = checked(&key(3).verifying_key(), &manifest, &mut files(alloc)?);
     Some(manifest.starts_with(&body) && answer == Ok(()))
 }
 

@@ -1,6 +1,6 @@
-//! The status where a call of an end fails, and what is written then. Clauses of `serve` say what a
-//! status means, not that a fault gives it.
-use crate::page_of_lines::{LINE, REPLY};
+//! The status of a run where a call of an end fails, and what is written then. Clauses of `serve`
+//! say what a status means, not that a fault gives it.
+use crate::page_of_runs::{LINE, REPLY};
 use slh_run::{MemSink, MemSource, Words, serve};
 use std::alloc::{AllocError, Global};
 

@@ -1,4 +1,5 @@
 //! The example of the page of `slh_chain`.
+use crate::keys::key;
 use slh_chain::{ChainError, LinkError, delegate, walk};
 use slh_dsa::{Sha2_128f, SigningKey, VerifyingKey};
 use std::alloc::Global;
@@ -19,14 +20,10 @@ fn release_key(
     Ok(end.key)
 }
 
-pub(crate) fn key(number: u8) -> Option<SigningKey<Sha2_128f>> {
-    SigningKey::slh_keygen_internal(&[1; 16], &[2; 16], &[number; 16]).ok()
-}
-
 // Whether the root key leads to the release key, and the release key nowhere.
 fn leads_to_release(alloc: Global) -> Option<bool> {
-    let root = key(3)?;
-    let release = key(6)?.verifying_key();
+    let root = key(3);
+    let release = key(6).verifying_key();
     let chain = release_link(alloc, &root, &release).ok()?;
     let is_found = release_key(&root.verifying_key(), &chain).ok()? == release;
     let error = release_key(&release, &chain).err()?;

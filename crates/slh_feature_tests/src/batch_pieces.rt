@@ -1,5 +1,5 @@
-//! Messages in pieces.
-use crate::batches::is_digest;
+//! Messages of a batch in pieces.
+use crate::batch_trees::is_digest;
 use slh_batch::{Batch, MessageHasher};
 use std::alloc::Global;
 

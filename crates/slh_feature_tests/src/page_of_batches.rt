@@ -1,14 +1,11 @@
 //! The examples of the page of `slh_batch`.
+use crate::keys::key;
 use slh_batch::{Batch, BatchError, Head, HeadError, ReceiptError, Sealed, accept, accept_under};
 use slh_dsa::{Sha2_128f, SigningKey, VerifyingKey};
 use std::alloc::Global;
 
-fn key() -> SigningKey<Sha2_128f> {
-    SigningKey::slh_keygen_internal(&[1; 16], &[2; 16], &[3; 16]).unwrap()
-}
-
 fn public() -> VerifyingKey<Sha2_128f> {
-    key().verifying_key()
+    key(3).verifying_key()
 }
 
 const MESSAGES: [&[u8]; 2] = [b"an entry", b"another"];
@@ -41,7 +38,7 @@ fn is_of_second(key: &VerifyingKey<Sha2_128f>, receipt: &[u8]) -> bool {
 }
 
 fn runs(alloc: Global) -> bool {
-    match receipt_of_second(alloc, &key(), &MESSAGES) {
+    match receipt_of_second(alloc, &key(3), &MESSAGES) {
         Ok(receipt) => is_of_second(&public(), &receipt),
         Err(_) => false,
     }
@@ -79,7 +76,7 @@ pub(crate) fn sealed(alloc: Global, messages: &[&[u8]]) -> Result<Sealed<Sha2_12
     for message in messages {
         batch.push(message)?;
     }
-    batch.seal(alloc, &key(), None)
+    batch.seal(alloc, &key(3), None)
 }
 
 fn entry_of<'a>(index: u32, message: &'a [u8], path: &'a [[u8; 32]]) -> Entry<'a> {

@@ -1,4 +1,4 @@
-//! Paths as text.
+//! Paths of a ring as text.
 use line_serve::ByteString;
 use slh_ring::Path;
 use std::alloc::Global;

@@ -1,6 +1,7 @@
-//! How a store is read: in pieces, at most one byte further than an entry says, and not again after
-//! a read that failed.
-use crate::page_of_manifests::{checked, key, manifest_of};
+//! How a store is read for a manifest: in pieces, at most one byte further than an entry says, and
+//! not again after a read that failed.
+use crate::keys::key;
+use crate::page_of_manifests::{checked, manifest_of};
 use slh_manifest::{
     BuildError, Builder, CheckError, EntryError, Failed, Manifest, MemStore, Store,
 };
@@ -202,7 +203,7 @@ fn checks_ask_for_one_byte_past_an_entry_at_most_and_end_with_a_fault(rt: HostRu
 // Whether a check of a signed manifest of 3 bytes does what the rows of so many say.
 fn signed_asks(alloc: Global, manifest: &[u8], row: &[u64; 8]) -> Option<bool> {
     let mut store = store_for(alloc, row)?;
-    let answer = checked(&key()?.verifying_key(), manifest, &mut store);
+    let answer = checked(&key(3).verifying_key(), manifest, &mut store);
     Some(is_wanted(answer, row) && has_seen(&store, row))
 }
 
@@ -217,7 +218,7 @@ fn all_ask_alike(alloc: Global, manifest: &[u8], rows: &[[u64; 8]]) -> bool {
 
 fn asks_alike(alloc: Global, names: &[&[u8]], rows: &[[u64; 8]]) -> Option<bool> {
     let mut own = store_of(alloc, 3, PIECE, NEVER)?;
-    let manifest = manifest_of(alloc, &key()?, names, &mut own).ok()?;
+    let manifest = manifest_of(alloc, &key(3), names, &mut own).ok()?;
     Some(all_ask_alike(alloc, &manifest, rows))
 }
 

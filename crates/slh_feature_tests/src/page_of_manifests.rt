@@ -1,5 +1,6 @@
 //! The example of the page of `slh_manifest`. A call that found no memory is made again, so that it
 //! holds with each allocation failing in turn, too (`rt try --test --fail-alloc`).
+use crate::keys::key;
 use slh_dsa::{Sha2_128f, SigningKey, VerifyingKey};
 use slh_manifest::{BuildError, Builder, CheckError, MemStore, Store, check};
 use std::alloc::Global;
@@ -25,10 +26,6 @@ pub(crate) fn checked<T: Store>(
     check(key, manifest, store)
 }
 
-pub(crate) fn key() -> Option<SigningKey<Sha2_128f>> {
-    SigningKey::slh_keygen_internal(&[1; 16], &[2; 16], &[3; 16]).ok()
-}
-
 fn put(files: &mut MemStore, name: &[u8], bytes: &[u8]) -> Option<()> {
     if files.put(name, bytes).is_err() {
         files.put(name, bytes).ok()?;
@@ -37,7 +34,7 @@ fn put(files: &mut MemStore, name: &[u8], bytes: &[u8]) -> Option<()> {
 }
 
 fn manifest_of_two(alloc: Global, files: &mut MemStore) -> Option<Vec<u8>> {
-    let (key, names): (_, [&[u8]; 2]) = (key()?, [b"boot", b"image"]);
+    let (key, names): (_, [&[u8]; 2]) = (key(3), [b"boot", b"image"]);
     match manifest_of(alloc, &key, &names, files) {
         Ok(manifest) => Some(manifest),
         Err(_) => manifest_of(alloc, &key, &names, files).ok(),
@@ -46,7 +43,7 @@ fn manifest_of_two(alloc: Global, files: &mut MemStore) -> Option<Vec<u8>> {
 
 // Whether the manifest of two files is accepted until the second changes.
 fn is_accepted_until(manifest: &[u8], files: &mut MemStore) -> Option<bool> {
-    let key = key()?.verifying_key();
+    let key = key(3).verifying_key();
     let is_accepted = checked(&key, manifest, files) == Ok(());
     put(files, b"image", b"third")?;
     Some(is_accepted && checked(&key, manifest, files) == Err(CheckError::Differs(1)))
