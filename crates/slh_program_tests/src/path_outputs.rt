@@ -1,6 +1,6 @@
 //! Outputs of `slh_paths` over files in memory: secrets are kept, and what can't be looked at, and
 //! what is none is replaced.
-use crate::fronts::MemFronts;
+use crate::path_fronts::MemFronts;
 use slh_paths::{Fronts, PutError, put_whole};
 use slh_run::ByteString;
 use std::alloc::{AllocError, Global};

@@ -1,6 +1,6 @@
-//! Texts of proofs: those of a number, digests of bytes that are 0, 1 and so on, and a checkpoint
-//! have the SHA-256 digests of the texts that Python's standard library makes of them.
-use crate::heads::digest;
+//! Texts of proofs of a log: those of a number, digests of bytes that are 0, 1 and so on, and a
+//! checkpoint have the SHA-256 digests of the texts that Python's standard library makes of them.
+use crate::log_heads::digest;
 use hmac_sha256::Hash;
 use slh_log_tasks::proof_files::{ProofError, Purpose, proof_text, read_proof};
 use std::alloc::Global;

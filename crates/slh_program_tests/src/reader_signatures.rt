@@ -1,4 +1,5 @@
-//! Signatures that another program made: the SHA-256 of each. And messages that change meanwhile.
+//! Signatures that another program made of what readers give: the SHA-256 of each. And messages
+//! that change meanwhile.
 use crate::readers::{is_changed, public, signing, slowly};
 use hmac_sha256::Hash;
 use slh_files::{Key, evidence_of};

@@ -1,4 +1,4 @@
-//! Heads that are signed and opened by the bytes of keys.
+//! Heads of a log that are signed and opened by the bytes of keys.
 use hex::FromHex;
 use hmac_sha256::Hash;
 use slh_log::Checkpoint;

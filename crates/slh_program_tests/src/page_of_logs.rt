@@ -1,6 +1,6 @@
 //! The example of the page of `slh_log`: a client that has a head of six entries takes one of
 //! eight.
-use crate::heads::digest;
+use crate::log_heads::digest;
 use slh_dsa::{Sha2_128f, SigningKey, VerifyingKey};
 use slh_log::{CheckpointError, OpenError, check_growth, checkpoint, open};
 use std::alloc::Global;

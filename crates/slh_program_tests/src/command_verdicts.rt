@@ -1,4 +1,4 @@
-//! Verdicts in JSON, by the text that RFC 8259 has for them.
+//! Verdicts of `slh_command` in JSON, by the text that RFC 8259 has for them.
 use slh_command::{Detail, verdict_json};
 use std::alloc::Global;
 

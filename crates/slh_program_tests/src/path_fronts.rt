@@ -1,4 +1,4 @@
-//! The first bytes of files in memory.
+//! The first bytes of files in memory, for outputs of `slh_paths`.
 ghost use Rattle.std.specs.Prelude.{◌≡◌, IfOk, take};
 
 use slh_paths::Fronts;

@@ -1,4 +1,4 @@
-//! What is refused, and faults of readers.
+//! What `slh_readers` refuses, and faults of readers.
 use crate::readers::{Broken, is_broken, is_refused, public, signing};
 use slh_readers::{sign_digest, sign_twice, verify};
 use slh_run::{Error, Mode};

@@ -1,4 +1,4 @@
-//! A batch that is sealed, its head and its receipts.
+//! A batch that `slh_command` seals, its head and its receipts.
 use crate::keys::{SET, signing, verifying};
 use slh_batch::{Batch, Place};
 use slh_command::{Receipts, SealError, accept_receipt, accept_receipt_under_head, seal_batch};

@@ -1,0 +1,34 @@
+//! Tests from outside of what the program `slh` is made of: of `slh_command` (`command_`),
+//! `slh_readers` (`reader_`), `slh_paths` (`path_`) and `slh_files` (`key_files`), and of `slh_log`
+//! and `slh_log_tasks` (`log_`) what goes over bytes alone: heads under a key of the Rust crate,
+//! the tree of the Certificate Transparency project, texts of proofs that Python made.
+#![tactic(auto)]
+
+#[cfg(test)]
+mod command_groups;
+#[cfg(test)]
+mod command_receipts;
+#[cfg(test)]
+mod command_verdicts;
+#[cfg(test)]
+mod key_files;
+#[cfg(test)]
+mod keys;
+#[cfg(test)]
+mod log_heads;
+#[cfg(test)]
+mod log_proofs;
+#[cfg(test)]
+mod page_of_logs;
+#[cfg(test)]
+mod page_of_readers;
+#[cfg(test)]
+mod path_fronts;
+#[cfg(test)]
+mod path_outputs;
+#[cfg(test)]
+mod reader_refusals;
+#[cfg(test)]
+mod reader_signatures;
+#[cfg(test)]
+mod readers;
