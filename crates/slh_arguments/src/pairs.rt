@@ -1,6 +1,6 @@
 //! The files of a pair of keys.
 use slh_files::{Key, Kind, Outcome, encode_key, verifying_key};
-use slh_paths::{Failure, outputs};
+use slh_paths::{Cause, Failure, outputs};
 use slh_run::ByteString;
 
 /// The text of a key file. A key that gives none is told of under a name.
@@ -12,7 +12,7 @@ pub fn key_file<'a>(
 ) -> Result<ByteString, Failure<'a>> {
     match encode_key(rt.alloc(), kind, key) {
         Ok(text) => Ok(text),
-        Err(error) => Err(Failure::Key(name, error)),
+        Err(error) => Err(Failure::Told(name, Cause::Key(error))),
     }
 }
 

@@ -107,7 +107,7 @@ pub fn report(
     };
     match tell(&mut io::writer(rt), rt.alloc(), form, outcome, detail) {
         Ok(told) => Ok(told),
-        Err(error) => Err(Failure::Output(error)),
+        Err(error) => Err(Failure::Told("standard output", Cause::System(error))),
     }
 }
 
@@ -132,8 +132,8 @@ pub fn tell_verdict<'a>(
 /// Why a file that is read in pieces isn't signed or verified.
 pub fn read_failure(path: &str, error: ReadError) -> Failure<'_> {
     match error {
-        ReadError::Read(error) => Failure::File(path, error),
-        ReadError::Refused(error) => Failure::Refused(path, error),
+        ReadError::Read(error) => Failure::Told(path, Cause::System(error)),
+        ReadError::Refused(error) => Failure::Told(path, Cause::Refused(error)),
         ReadError::Changed => Failure::Told(path, Cause::Changed),
     }
 }

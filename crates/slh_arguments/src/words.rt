@@ -74,7 +74,7 @@ pub fn check_inputs(words: &ArgMatches<'_>) -> Result<(), Failure<'static>> {
         }
     }
     if inputs > 1 {
-        return Err(Failure::TwoInputs);
+        return Err(Failure::Alone(Cause::TwoInputs));
     }
     Ok(())
 }
@@ -112,7 +112,7 @@ pub fn context(rt: &HostRuntime, words: &ArgMatches<'_>) -> Result<ByteString, F
     let context = match words.get_str(names::CONTEXT_HEX) {
         Some(digits) => match digits_of(rt.alloc(), digits.as_bytes())? {
             Some(bytes) => bytes,
-            None => return Err(Failure::ContextHex),
+            None => return Err(Failure::Told("--context-hex", Cause::NotHexadecimal)),
         },
         None => {
             let context = words.get_str(names::CONTEXT).unwrap_or("");
@@ -120,10 +120,10 @@ pub fn context(rt: &HostRuntime, words: &ArgMatches<'_>) -> Result<ByteString, F
         }
     };
     if context.len() > MAX_CONTEXT {
-        return Err(Failure::Context);
+        return Err(Failure::Alone(Cause::Context));
     }
     if RESERVED_CONTEXTS.contains(&context.as_slice()) {
-        return Err(Failure::ReservedContext);
+        return Err(Failure::Alone(Cause::ReservedContext));
     }
     Ok(context)
 }
@@ -133,7 +133,7 @@ pub fn key_of_kind<'a>(rt: &HostRuntime, kind: Kind, path: &'a str) -> Result<Ke
     let file = files::read_limited(rt, path)?;
     match read_key(rt.alloc(), kind, file.as_slice()) {
         Ok(key) => Ok(key),
-        Err(error) => Err(Failure::Key(path, error)),
+        Err(error) => Err(Failure::Told(path, Cause::Key(error))),
     }
 }
 
@@ -147,7 +147,7 @@ pub fn verifying_key<'a>(rt: &HostRuntime, words: &ArgMatches<'a>) -> Result<Key
     };
     match read_key(rt.alloc(), Kind::Verifying, text.as_bytes()) {
         Ok(key) => Ok(key),
-        Err(error) => Err(Failure::Key("--key-text", error)),
+        Err(error) => Err(Failure::Told("--key-text", Cause::Key(error))),
     }
 }
 
@@ -157,7 +157,7 @@ pub fn signing_key<'a>(rt: &HostRuntime, words: &ArgMatches<'a>) -> Result<Key, 
     let file = files::read_limited(rt, path)?;
     match read_signing_key(rt.alloc(), file.as_slice()) {
         Ok(key) => Ok(key),
-        Err(error) => Err(Failure::Key(path, error)),
+        Err(error) => Err(Failure::Told(path, Cause::Key(error))),
     }
 }
 
@@ -194,6 +194,6 @@ pub fn signature<'a>(
     if signature.len() == set.signature_len() {
         Ok(signature)
     } else {
-        Err(Failure::Signature(path, end, set))
+        Err(Failure::Beside(path, end, Cause::NotSignature(set)))
     }
 }

@@ -3,7 +3,7 @@ use clap::ArgMatches;
 use slh_arguments::{Claim, check_inputs, own_claim, read_failure, report, required};
 use slh_command::Detail;
 use slh_files::{Outcome, evidence_of};
-use slh_paths::Failure;
+use slh_paths::{Cause, Failure};
 use slh_readers::{ReadError, check_evidence};
 use slh_run::{ByteString, Error, Evidence, Verdict, push_evidence};
 use slh_words::names;
@@ -49,7 +49,7 @@ pub fn evidence<'a>(rt: &HostRuntime, words: &ArgMatches<'a>) -> Result<Outcome,
     check_inputs(words)?;
     let Some(evidence) = evidence_of(rt.alloc(), required(words, names::EVIDENCE)?.as_bytes())?
     else {
-        return Err(Failure::Evidence);
+        return Err(Failure::Told("--evidence", Cause::NotAudit));
     };
     let path = required(words, names::FILE)?;
     let Claim {

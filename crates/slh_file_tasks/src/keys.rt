@@ -2,7 +2,7 @@
 use clap::ArgMatches;
 use slh_arguments::{check_output, public_file, required, set_of, signing_key, write_pair};
 use slh_files::{Outcome, made_key};
-use slh_paths::{Failure, files, outputs, random};
+use slh_paths::{Cause, Failure, files, outputs, random};
 use slh_sets::Set;
 use slh_words::names;
 
@@ -15,7 +15,7 @@ pub fn keygen<'a>(rt: &HostRuntime, words: &ArgMatches<'a>) -> Result<Outcome, F
     let set = new_set(rt, words)?;
     let key = match made_key(rt.alloc(), set, &random::<96>(rt)?) {
         Ok(key) => key,
-        Err(error) => return Err(Failure::Refused(name, error)),
+        Err(error) => return Err(Failure::Told(name, Cause::Refused(error))),
     };
     write_pair(rt, name, &key)
 }

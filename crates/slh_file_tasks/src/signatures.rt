@@ -103,7 +103,7 @@ fn of_file<'a>(
     }
     match audited(terms, FromStart::new(rt, file), signature) {
         Ok(signature) => Ok(signature),
-        Err(Doubt::Foreign) => Err(Failure::Fault(path)),
+        Err(Doubt::Foreign) => Err(Failure::Told(path, Cause::Fault)),
         Err(Doubt::Invalid(made)) => Err(why_invalid(rt, path, terms, file, made.as_slice())),
         Err(Doubt::Unread(error)) => Err(read_failure(path, error)),
     }
@@ -172,7 +172,7 @@ fn why_invalid<'a>(
     let (first, second) = (FromStart::new(rt, file), FromStart::new(rt, file));
     match signed(rt.alloc(), path, terms, first, second) {
         Ok(again) if is_same_front(signature, again.as_slice(), terms.key.set.n()) => {
-            Failure::Fault(path)
+            Failure::Told(path, Cause::Fault)
         }
         Ok(_) => read_failure(path, ReadError::Changed),
         Err(failure) => failure,
@@ -204,7 +204,7 @@ fn of_stream<'a>(
     }
     match audited(terms, message, signature) {
         Ok(signature) => Ok(signature),
-        Err(Doubt::Foreign | Doubt::Invalid(_)) => Err(Failure::Fault(path)),
+        Err(Doubt::Foreign | Doubt::Invalid(_)) => Err(Failure::Told(path, Cause::Fault)),
         Err(Doubt::Unread(error)) => Err(read_failure(path, error)),
     }
 }

@@ -237,7 +237,7 @@ fn tell_accepted<'a>(
         Err(ReceiptError::Invalid) => report(rt, words, Outcome::Invalid, Detail::Nothing),
         Err(ReceiptError::Form) => {
             let (path, end) = file.name;
-            Err(Failure::NewTold(path, end, Cause::NotReceipt))
+            Err(Failure::Beside(path, end, Cause::NotReceipt))
         }
         Err(ReceiptError::Message) => Err(Failure::Told(file.file, Cause::MessageTooLong)),
     }

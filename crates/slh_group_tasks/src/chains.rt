@@ -112,10 +112,21 @@ fn walk_failure<'a>(path: &'a str, error: WalkError) -> Failure<'a> {
         WalkError::Memory => return Failure::Memory,
     };
     match error {
-        ChainError::Form(i) => Failure::BadLink(path, Cause::NoLink, i),
-        ChainError::Budget(i) => Failure::BadLink(path, Cause::TooDeep, i),
-        ChainError::Invalid(i) => Failure::BadLink(path, Cause::NotByKeyBefore, i),
+        ChainError::Form(i) => Failure::Told(path, Cause::NoLink(i)),
+        ChainError::Budget(i) => Failure::Told(path, Cause::TooDeep(i)),
+        ChainError::Invalid(i) => Failure::Told(path, Cause::NotByKeyBefore(i)),
     }
+}
+
+// Whether a failure is that of a link, which makes what it stands for no key.
+fn is_of_link(failure: &Failure<'_>) -> bool {
+    let Failure::Told(_, cause) = failure else {
+        return false;
+    };
+    matches!(
+        cause,
+        Cause::NoLink(_) | Cause::TooDeep(_) | Cause::NotByKeyBefore(_)
+    )
 }
 
 /// Writes the key at the end of a chain.
@@ -179,8 +190,7 @@ pub fn acting_key<'a>(
     }
     match key_at_end(rt, words) {
         Ok(key) => Ok(Some(key)),
-        Err(Failure::BadLink(path, cause, i)) => {
-            let failure = Failure::BadLink(path, cause, i);
+        Err(failure) if is_of_link(&failure) => {
             let _ = eprintln!(rt; "slh: {failure}");
             Ok(None)
         }

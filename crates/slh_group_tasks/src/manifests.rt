@@ -33,7 +33,7 @@ fn folder_path<'a>(rt: &HostRuntime, words: &ArgMatches<'a>) -> Result<&'a str, 
     match fs::metadata(rt, path) {
         Ok(found) if found.is_dir() => Ok(path),
         Ok(_) => Err(Failure::Told(path, Cause::NotFolder)),
-        Err(error) => Err(Failure::File(path, error)),
+        Err(error) => Err(Failure::Told(path, Cause::System(error))),
     }
 }
 
@@ -45,10 +45,10 @@ fn found_below<'a>(
 ) -> Result<Vec<String>, Failure<'a>> {
     match names_below(rt, path, found) {
         Ok(names) => Ok(names),
-        Err(walk) if walk.below.is_empty() => Err(Failure::File(path, walk.error)),
+        Err(walk) if walk.below.is_empty() => Err(Failure::Told(path, Cause::System(walk.error))),
         Err(walk) => {
             let below = shown(rt.alloc(), walk.below.as_bytes())?;
-            Err(Failure::EntryFile(path, below, walk.error))
+            Err(Failure::Entry(path, below, Cause::System(walk.error)))
         }
     }
 }
@@ -128,7 +128,7 @@ fn entry_failure<'a>(
 ) -> Failure<'a> {
     match (error, fault) {
         (BuildError::Full, _) => Failure::Told(path, cause_of(error)),
-        (BuildError::Fault, Some(fault)) => Failure::EntryFile(path, name, fault),
+        (BuildError::Fault, Some(fault)) => Failure::Entry(path, name, Cause::System(fault)),
         _ => Failure::Entry(path, name, cause_of(error)),
     }
 }
@@ -181,7 +181,7 @@ fn others_below<'a>(
     }
     let folder = match files::folder_place(rt, path) {
         Ok(folder) => folder,
-        Err(error) => return Err(Failure::File(path, error)),
+        Err(error) => return Err(Failure::Told(path, Cause::System(error))),
     };
     let named = named_places(rt, words)?;
     for name in found_below(rt, path, Found::All)? {
@@ -254,10 +254,11 @@ fn fault_failure<'a>(
     folder: Folder<'_>,
 ) -> Result<Failure<'a>, AllocError> {
     let name = shown(alloc, folder.name())?;
-    Ok(match folder.fault {
-        Some(fault) => Failure::EntryFile(path, name, fault),
-        None => Failure::Entry(path, name, Cause::Unreadable),
-    })
+    let cause = match folder.fault {
+        Some(fault) => Cause::System(fault),
+        None => Cause::Unreadable,
+    };
+    Ok(Failure::Entry(path, name, cause))
 }
 
 // Tells a verdict of a file below the folder.

@@ -40,7 +40,7 @@ pub fn make_master<'a>(rt: &HostRuntime, words: &ArgMatches<'a>) -> Result<Outco
 pub fn key<'a>(rt: &HostRuntime, words: &ArgMatches<'a>) -> Result<Outcome, Failure<'a>> {
     let text = required(words, names::PATH)?;
     let Some(path) = Path::from_text(text.as_bytes()) else {
-        return Err(Failure::Path(text));
+        return Err(Failure::Told(text, Cause::NotPath));
     };
     let key = derived(rt, words, &path)?;
     write_pair(rt, required(words, names::NAME)?, &key)
@@ -58,7 +58,7 @@ fn record_failure<'a>(texts: &[&'a str], error: RecordError) -> Failure<'a>
     requires { NamesText (length texts.now) error }
 {
     match error {
-        RecordError::Text(i) => Failure::Path(texts[i]),
+        RecordError::Text(i) => Failure::Told(texts[i], Cause::NotPath),
         RecordError::Ring(i, error) => ring_failure(texts[i], error),
         RecordError::Memory => Failure::Memory,
     }
@@ -136,7 +136,7 @@ fn record_at<'a>(rt: &HostRuntime, path: &'a str) -> Result<(Set, ByteString), F
 fn restore_failure<'a>(path: &'a str, error: RestoreError) -> Failure<'a> {
     match error {
         RestoreError::Form => Failure::Told(path, Cause::NotOfItsSet),
-        RestoreError::Mismatch(i) => Failure::ToldAt(path, Cause::OtherMaster, i),
+        RestoreError::Mismatch(i) => Failure::Told(path, Cause::OtherMaster(i)),
         RestoreError::Memory => Failure::Memory,
     }
 }

@@ -34,7 +34,7 @@ fn signed<'a>(
     let (bytes, random) = (key.bytes.as_slice(), randomness.of_set(key.set));
     match sign_head(folder.rt.alloc(), key.set, bytes, origin, head, random) {
         Ok(checkpoint) => Ok(checkpoint),
-        Err(SignHeadError::Key) => Err(Failure::Key("--key", KeyFileError::Length)),
+        Err(SignHeadError::Key) => Err(Failure::Told("--key", Cause::Key(KeyFileError::Length))),
         Err(SignHeadError::Head(error)) => Err(unsigned(error)),
     }
 }
@@ -186,7 +186,7 @@ fn check_standard(words: &ArgMatches<'_>, paths: &[&str]) -> Result<(), Failure<
         .filter(|path| **path == files::STANDARD)
         .count();
     if count > 1 || key && count > 0 {
-        return Err(Failure::TwoInputs);
+        return Err(Failure::Alone(Cause::TwoInputs));
     }
     Ok(())
 }

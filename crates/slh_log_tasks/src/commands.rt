@@ -5,7 +5,7 @@ use crate::proving::prove;
 use crate::watching::{growth, verify};
 use clap::ArgMatches;
 use slh_files::Outcome;
-use slh_paths::Failure;
+use slh_paths::{Cause, Failure};
 
 /// Does what the words behind `slh log` ask for.
 pub fn outcome_of<'a>(rt: &HostRuntime, matches: &ArgMatches<'a>) -> Result<Outcome, Failure<'a>> {
@@ -16,6 +16,6 @@ pub fn outcome_of<'a>(rt: &HostRuntime, matches: &ArgMatches<'a>) -> Result<Outc
         Some(("check", words)) => check(rt, words),
         Some(("verify", words)) => verify(rt, words),
         Some(("growth", words)) => growth(rt, words),
-        _ => Err(Failure::Command),
+        _ => Err(Failure::Alone(Cause::NoCommand)),
     }
 }

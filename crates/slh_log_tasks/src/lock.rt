@@ -40,7 +40,7 @@ fn held<'a>(folder: LogFolder<'_, 'a>, path: &str) -> Failure<'a> {
             Ok(text) => text,
             Err(_) => return Failure::Memory,
         },
-        Err(error) => return folder.failed(LOCK, error),
+        Err(error) => return folder.told(LOCK, Cause::System(error)),
     };
     match format!(in alloc; "{LOCK}: {text}") {
         Ok(name) => Failure::Entry(folder.path, name, Cause::Held),
@@ -61,7 +61,7 @@ pub fn take<'a>(folder: LogFolder<'_, 'a>) -> Result<(), Failure<'a>> {
     match take_lock(&mut files, &lock) {
         Ok(()) => Ok(()),
         Err(WriteError::Taken) => Err(held(folder, names.path.as_str())),
-        Err(_) => Err(folder.failed(LOCK, fault_of(&mut files))),
+        Err(_) => Err(folder.told(LOCK, Cause::System(fault_of(&mut files)))),
     }
 }
 
@@ -71,7 +71,7 @@ fn free<'a>(folder: LogFolder<'_, 'a>) -> Result<(), Failure<'a>> {
     let mut files = HostFiles::new(folder.rt);
     match free_lock(&mut files, path.as_str()) {
         Ok(()) => Ok(()),
-        Err(_) => Err(folder.failed(LOCK, fault_of(&mut files))),
+        Err(_) => Err(folder.told(LOCK, Cause::System(fault_of(&mut files)))),
     }
 }
 

@@ -62,14 +62,6 @@ impl<'s, 'a> LogFolder<'s, 'a> {
         }
     }
 
-    /// Why a file below the folder couldn't be read or written.
-    pub fn failed(&self, name: &str, error: io::Error) -> Failure<'a> {
-        match String::from_str(self.rt.alloc(), name) {
-            Ok(name) => Failure::EntryFile(self.path, name, error),
-            Err(_) => Failure::Memory,
-        }
-    }
-
     // The first bytes of a file, up to one more than it may have.
     fn front(&self, name: &str, most: u64) -> io::Result<ByteString> {
         let path = self.path_of(name)?;
@@ -83,7 +75,7 @@ impl<'s, 'a> LogFolder<'s, 'a> {
             Err(error) if error.kind() == ErrorKind::NotFound => {
                 return Err(Failure::Told(self.path, Cause::NoLog));
             }
-            Err(error) => return Err(self.failed(CHECKPOINT, error)),
+            Err(error) => return Err(self.told(CHECKPOINT, Cause::System(error))),
         };
         let Some((origin, checkpoint)) = read_unverified(bytes.as_slice()) else {
             return Err(self.told(CHECKPOINT, Cause::NotCheckpoint));
@@ -104,7 +96,7 @@ impl<'s, 'a> LogFolder<'s, 'a> {
         let name = self.name_of(bundle.path(self.rt.alloc()))?;
         match self.front(name.as_str(), MAX_BUNDLE) {
             Ok(bytes) => Ok(bytes),
-            Err(error) => Err(self.failed(name.as_str(), error)),
+            Err(error) => Err(self.told(name.as_str(), Cause::System(error))),
         }
     }
 
@@ -120,7 +112,7 @@ impl<'s, 'a> LogFolder<'s, 'a> {
         let name = self.tile_name(tile)?;
         match self.front(name.as_str(), 32 * tile.width as u64) {
             Ok(bytes) => Ok(bytes),
-            Err(error) => Err(self.failed(name.as_str(), error)),
+            Err(error) => Err(self.told(name.as_str(), Cause::System(error))),
         }
     }
 

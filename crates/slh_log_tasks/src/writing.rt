@@ -3,9 +3,9 @@ use crate::file_names::{Names, names_of};
 use crate::lock::fault_of;
 use crate::log_folder::{CHECKPOINT, LogFolder};
 use log_files::{FolderError, LogFile, Piece, PublishError, are_separate, make_folder, publish};
+use slh_paths::outputs::unwritten;
 use slh_paths::{Cause, Failure};
 use std::alloc::{AllocError, Global};
-use std::io::{self, ErrorKind};
 use whole_files::{HostFiles, WriteError, Written, make_new};
 
 /// Makes a folder below the folder of a log, or this one where the name is empty.
@@ -19,7 +19,7 @@ pub fn need_folder<'a>(folder: LogFolder<'_, 'a>, name: &str) -> Result<(), Fail
     match make_folder(&mut files, path.as_str()) {
         Ok(()) => Ok(()),
         Err(FolderError::NoFolder) => Err(folder.told(name, Cause::NoFolder)),
-        Err(_) => Err(folder.failed(name, fault_of(&mut files))),
+        Err(_) => Err(folder.told(name, Cause::System(fault_of(&mut files)))),
     }
 }
 
@@ -50,20 +50,6 @@ fn need_folders<'a>(folder: LogFolder<'_, 'a>, log_files: &[LogFile]) -> Result<
     Ok(())
 }
 
-// Why a file isn't written.
-fn refused<'a>(
-    folder: LogFolder<'_, 'a>,
-    name: &str,
-    error: WriteError,
-    fault: io::Error,
-) -> Failure<'a> {
-    match error {
-        WriteError::NotRegular => folder.told(name, Cause::NotRegular),
-        WriteError::Taken => folder.told(name, Cause::Exists),
-        WriteError::Failed | WriteError::Left => folder.failed(name, fault),
-    }
-}
-
 /// Makes the checkpoint of a new log, where nothing stands.
 pub fn make_checkpoint<'a>(folder: LogFolder<'_, 'a>, bytes: &[u8]) -> Result<(), Failure<'a>> {
     let names = names_of(folder, CHECKPOINT)?;
@@ -77,15 +63,14 @@ pub fn make_checkpoint<'a>(folder: LogFolder<'_, 'a>, bytes: &[u8]) -> Result<()
         bytes,
     ) {
         Ok(Written::Settled) => Ok(()),
-        Ok(Written::Unsettled) => Err(Failure::Unsettled(
-            folder.path,
-            "/checkpoint",
-            fault_of(&mut files),
-        )),
+        Ok(Written::Unsettled) => {
+            let fault = fault_of(&mut files);
+            Err(Failure::Beside(folder.path, "/checkpoint", Cause::Unsettled(fault)))
+        }
         Err(WriteError::Taken) => Err(Failure::Told(folder.path, Cause::LogExists)),
         Err(error) => {
             let fault = fault_of(&mut files);
-            Err(refused(folder, CHECKPOINT, error, fault))
+            Err(folder.told(CHECKPOINT, unwritten(error, fault)))
         }
     }
 }
@@ -165,11 +150,18 @@ fn publish_pieces<'a>(
     let fault = fault_of(&mut files);
     match published {
         Ok(Written::Settled) => Ok(()),
-        Ok(Written::Unsettled) => Err(Failure::Unsettled(folder.path, "/checkpoint", fault)),
+        Ok(Written::Unsettled) => Err(Failure::Beside(
+            folder.path,
+            "/checkpoint",
+            Cause::Unsettled(fault),
+        )),
         Err(PublishError::AtPiece(i, error)) => {
-            Err(refused(folder, name_at(log_files, i), error, fault))
+            Err(folder.told(name_at(log_files, i), unwritten(error, fault)))
         }
-        Err(PublishError::Unsettled(i)) => Err(folder.failed(name_at(log_files, i), fault)),
-        Err(PublishError::AtHead(error)) => Err(refused(folder, CHECKPOINT, error, fault)),
+        Err(PublishError::Unsettled(i)) => Err(folder.told(
+            name_at(log_files, i),
+            Cause::System(fault),
+        )),
+        Err(PublishError::AtHead(error)) => Err(folder.told(CHECKPOINT, unwritten(error, fault))),
     }
 }

@@ -1,10 +1,28 @@
-//! Why something that a command was given doesn't do: each message, once.
-use std::fmt;
+//! Why a command failed: each message, once.
+use slh_files::KeyFileError;
+use slh_run::Error;
+use slh_sets::Set;
+use std::{fmt, io};
+
+const CONTEXT: &str = "the context has more than 255 bytes";
+
+const RESERVED: &str =
+    "the contexts slh-batch, slh-chain, slh-log and slh-manifest are for what they name alone";
+
+const ROOT: &str = "the key's root is not that of its seeds";
 
 /// What is wrong with an input, an output or a word.
 #[derive(Clone, Copy)]
 pub enum Cause {
     // inputs, outputs and words
+    NoCommand,
+    TwoInputs,
+    Context,
+    ReservedContext,
+    NotHexadecimal,
+    NotAudit,
+    NoKeyOrSignature,
+    Fault,
     Missing,
     KeyMissing,
     NothingBeside,
@@ -24,6 +42,20 @@ pub enum Cause {
     NoSet,
     NoHash,
     NotDecimal,
+    /// A file can't be read, made or written.
+    System(io::Error),
+    /// A file couldn't be made, and what was begun couldn't be removed.
+    Left(io::Error),
+    /// A file was written whole, but its folder wasn't brought to the disk.
+    Unsettled(io::Error),
+    /// There are no random bytes.
+    Random(io::Error),
+    /// A file is no such key.
+    Key(KeyFileError),
+    /// A job with a file was refused.
+    Refused(Error),
+    /// A file is no signature of this set.
+    NotSignature(Set),
     // batches
     NoReceiptFile,
     BatchFull,
@@ -35,15 +67,15 @@ pub enum Cause {
     HeadOverFile,
     NotHead,
     NotReceipt,
-    // chains
+    // chains, and their links by number from 0
     EmptyChain,
     OtherSet,
     LinkName,
     Depth,
     Randomizer,
-    NoLink,
-    TooDeep,
-    NotByKeyBefore,
+    NoLink(u32),
+    TooDeep(u32),
+    NotByKeyBefore(u32),
     // manifests
     NameTooLong,
     FolderFull,
@@ -54,14 +86,15 @@ pub enum Cause {
     BelowFolder,
     Part,
     NotManifest,
-    // rings
+    // rings, and their paths by number from 0
+    NotPath,
     NotMaster,
     MasterNeedsFile,
     Twice,
     RingFull,
     NotRecord,
     NotOfItsSet,
-    OtherMaster,
+    OtherMaster(u32),
     // logs
     Origin,
     EntryTooLong,
@@ -94,9 +127,18 @@ pub enum Cause {
 }
 
 impl Cause {
-    // What is told of it. (It is a table, and so longer than other functions.)
+    // What is told of it, but for a number or an error of the system that it has. (It is a table,
+    // and so longer than other functions.)
     fn text(self) -> &'static str {
         match self {
+            Cause::NoCommand => "no such command: see slh --help",
+            Cause::TwoInputs => "only one file can be standard input",
+            Cause::Context => CONTEXT,
+            Cause::ReservedContext => RESERVED,
+            Cause::NotHexadecimal => "not hexadecimal",
+            Cause::NotAudit => "not what an audit prints",
+            Cause::NoKeyOrSignature => "neither a key nor a signature",
+            Cause::Fault => "the machine computed wrongly, and no signature is written",
             Cause::Missing => "it is missing",
             Cause::KeyMissing => "it is missing, and so is --key-text",
             Cause::NothingBeside => "standard input has none beside it",
@@ -116,6 +158,13 @@ impl Cause {
             Cause::NoSet => "no such set",
             Cause::NoHash => "no such hash",
             Cause::NotDecimal => "not a number in decimal",
+            Cause::System(_) => "",
+            Cause::Left(_) => "a file of 16 digits and .part may stay beside it",
+            Cause::Unsettled(_) => "it is written, but its folder can't be brought to the disk",
+            Cause::Random(_) => "no random bytes",
+            Cause::Key(error) => key_text(error),
+            Cause::Refused(error) => job_text(error),
+            Cause::NotSignature(_) => "not a signature",
             Cause::NoReceiptFile => "it has a receipt and no file for it",
             Cause::BatchFull => "a batch holds 2^20 files",
             Cause::BatchEmpty => "it has no files",
@@ -131,9 +180,9 @@ impl Cause {
             Cause::LinkName => "it has 1 to 64 bytes",
             Cause::Depth => "it is 0 to 15",
             Cause::Randomizer => "a wrong randomizer",
-            Cause::NoLink => "cut short, or no link",
-            Cause::TooDeep => "deeper than the one before lets it be",
-            Cause::NotByKeyBefore => "not signed by the key before it",
+            Cause::NoLink(_) => "cut short, or no link",
+            Cause::TooDeep(_) => "deeper than the one before lets it be",
+            Cause::NotByKeyBefore(_) => "not signed by the key before it",
             Cause::NameTooLong => "its name has more than 255 bytes",
             Cause::FolderFull => "more than 4096 files",
             Cause::TooLarge => "it has more than 2^32 bytes",
@@ -145,11 +194,12 @@ impl Cause {
             Cause::NotManifest => "not a manifest of the key's set",
             Cause::NotMaster => "not a master secret in hexadecimal",
             Cause::MasterNeedsFile => "a master goes to a file of mode 600",
+            Cause::NotPath => "not up to 8 numbers with slashes, or .",
             Cause::Twice => "it stands twice",
             Cause::RingFull => "a ring has 64 paths",
             Cause::NotRecord => "not a line SET RECORD",
             Cause::NotOfItsSet => "not a record of its set",
-            Cause::OtherMaster => "not of this master, or changed: path",
+            Cause::OtherMaster(_) => "not of this master, or changed: path",
             Cause::Origin => "not 1 to 255 bytes without spaces, plus signs and control characters",
             Cause::EntryTooLong => "an entry of more than 65535 bytes",
             Cause::LogFull => "the log is full",
@@ -186,6 +236,50 @@ impl Cause {
 
 impl fmt::Display for Cause {
     fn fmt<W: fmt::Write>(&self, f: &mut fmt::Formatter<W>) -> fmt::Result {
-        f.write_str(self.text())
+        let text = self.text();
+        match self {
+            Cause::System(error) => write!(f, "{error}"),
+            Cause::Left(error) => write!(f, "{error}; {text}"),
+            Cause::Unsettled(error) | Cause::Random(error) => write!(f, "{text}: {error}"),
+            Cause::NotSignature(set) => {
+                let (name, len) = (set.name(), set.signature_len());
+                write!(f, "{text} of {name}, which has {len} bytes")
+            }
+            Cause::NoLink(number) | Cause::TooDeep(number) | Cause::NotByKeyBefore(number) => {
+                write!(f, "link {number}: {text}")
+            }
+            Cause::OtherMaster(number) => write!(f, "{text} {number}"),
+            _ => f.write_str(text),
+        }
+    }
+}
+
+fn key_text(error: KeyFileError) -> &'static str {
+    match error {
+        KeyFileError::Empty => "an empty file, not a key",
+        KeyFileError::NoKey => "neither a key in PEM nor a line SET KEY",
+        KeyFileError::NoEnd => "the PEM block has no end line of its own",
+        KeyFileError::SecondBlock => "more than one PEM block",
+        KeyFileError::Encrypted => "the key is encrypted, which slh does not read",
+        KeyFileError::OtherKind => "the other key of a pair: see slh inspect",
+        KeyFileError::OtherLabel => "PEM of something else than such a key",
+        KeyFileError::Base64 => "what stands in the PEM block is not Base64",
+        KeyFileError::Hex => "the key is not hexadecimal",
+        KeyFileError::Algorithm => "a key of another algorithm than SLH-DSA over SHA-2",
+        KeyFileError::Length => "not the bytes of a key of its set, and nothing else",
+        KeyFileError::Root => ROOT,
+        KeyFileError::Memory => "out of memory",
+    }
+}
+
+fn job_text(error: Error) -> &'static str {
+    match error {
+        Error::Length => "a key or a signature has a wrong length",
+        Error::ContextTooLong => CONTEXT,
+        Error::RandomizerLength => "the randomizer has a wrong length",
+        Error::MessageTooLong => "the file has more than 2^60 bytes",
+        Error::KeyMismatch => ROOT,
+        Error::Invalid => "the signature is invalid",
+        Error::Memory => "out of memory",
     }
 }

@@ -55,7 +55,7 @@ impl Reader {
         } else {
             match fs::open(rt, path) {
                 Ok(file) => Source::File(file),
-                Err(error) => return Err(Failure::File(path, error)),
+                Err(error) => return Err(Failure::Told(path, Cause::System(error))),
             }
         };
         Ok(Reader {
@@ -78,7 +78,7 @@ impl Reader {
         let mut reader = self;
         match gather(rt.alloc(), &mut reader) {
             Ok(bytes) => Ok(bytes),
-            Err(error) => Err(Failure::File(path, error)),
+            Err(error) => Err(Failure::Told(path, Cause::System(error))),
         }
     }
 }
@@ -145,9 +145,9 @@ pub fn read_beside<'a>(
         read_front(rt, name.as_str(), MOST + 1)
     };
     match read {
-        Ok(bytes) if bytes.len() as u64 > MOST => Err(Failure::NewTold(path, end, Cause::TooLong)),
+        Ok(bytes) if bytes.len() as u64 > MOST => Err(Failure::Beside(path, end, Cause::TooLong)),
         Ok(bytes) => Ok(bytes),
-        Err(error) => Err(Failure::NewFile(path, end, error)),
+        Err(error) => Err(Failure::Beside(path, end, Cause::System(error))),
     }
 }
 

@@ -28,16 +28,16 @@ pub fn put<'a>(rt: &HostRuntime, path: &'a str, bytes: &[u8]) -> Result<(), Fail
     if path == STANDARD || path == STANDARD_OUTPUT {
         return match print(rt, bytes) {
             Ok(()) => Ok(()),
-            Err(error) => Err(Failure::Output(error)),
+            Err(error) => Err(Failure::Told("standard output", Cause::System(error))),
         };
     }
     match target_of(rt, path) {
         Ok(Target::Whole(target)) => put_at(rt, (path, ""), target.as_str(), bytes),
         Ok(Target::InPlace) => match write_in_place(rt, path, bytes) {
             Ok(()) => Ok(()),
-            Err(error) => Err(Failure::File(path, error)),
+            Err(error) => Err(Failure::Told(path, Cause::System(error))),
         },
-        Err(error) => Err(Failure::File(path, error)),
+        Err(error) => Err(Failure::Told(path, Cause::System(error))),
     }
 }
 
@@ -136,10 +136,10 @@ fn put_at<'a>(
     match put_whole(alloc, &mut files, &mut fronts, path, part, bytes) {
         Ok(written) => told(name, Ok(written), files.fault.take()),
         Err(PutError::Write(error)) => told(name, Err(error), files.fault.take()),
-        Err(PutError::Secret) => Err(Failure::NewTold(name.0, name.1, Cause::Secret)),
+        Err(PutError::Secret) => Err(Failure::Beside(name.0, name.1, Cause::Secret)),
         Err(PutError::Unread) => {
             let fault = known(fronts.fault.take());
-            Err(Failure::NewFile(name.0, name.1, fault))
+            Err(Failure::Beside(name.0, name.1, Cause::System(fault)))
         }
         Err(PutError::Memory) => Err(Failure::Memory),
     }
@@ -210,10 +210,17 @@ fn told<'a>(
     let fault = known(fault);
     match written {
         Ok(Written::Settled) => Ok(()),
-        Ok(Written::Unsettled) => Err(Failure::Unsettled(path, end, fault)),
-        Err(WriteError::NotRegular) => Err(Failure::NewTold(path, end, Cause::NotRegular)),
-        Err(WriteError::Taken) => Err(Failure::NewTold(path, end, Cause::Exists)),
-        Err(WriteError::Failed) => Err(Failure::NewFile(path, end, fault)),
-        Err(WriteError::Left) => Err(Failure::Left(path, end, fault)),
+        Ok(Written::Unsettled) => Err(Failure::Beside(path, end, Cause::Unsettled(fault))),
+        Err(error) => Err(Failure::Beside(path, end, unwritten(error, fault))),
+    }
+}
+
+/// Why a file isn't written.
+pub fn unwritten(error: WriteError, fault: io::Error) -> Cause {
+    match error {
+        WriteError::NotRegular => Cause::NotRegular,
+        WriteError::Taken => Cause::Exists,
+        WriteError::Failed => Cause::System(fault),
+        WriteError::Left => Cause::Left(fault),
     }
 }

@@ -1,4 +1,5 @@
 //! The system's random source.
+use crate::cause::Cause;
 use crate::failure::Failure;
 use std::random::RandomSource;
 
@@ -7,6 +8,6 @@ pub fn random<const N: usize>(rt: &HostRuntime) -> Result<[u8; N], Failure<'stat
     let mut bytes = [0; N];
     match rt.fill_bytes(&mut bytes) {
         Ok(()) => Ok(bytes),
-        Err(error) => Err(Failure::Random(error)),
+        Err(error) => Err(Failure::Alone(Cause::Random(error))),
     }
 }

@@ -1,6 +1,6 @@
 //! From the words of the command line to the program's status.
 use crate::commands::outcome_of;
-use slh_paths::Failure;
+use slh_paths::{Cause, Failure};
 use slh_words::command;
 use std::env;
 
@@ -37,7 +37,7 @@ fn own_words(rt: &HostRuntime) -> Result<Vec<String>, Failure<'static>> {
             let words: Vec<String> = words.collect(rt.alloc())?;
             Ok(words)
         }
-        Err(error) => Err(Failure::Words(error)),
+        Err(error) => Err(Failure::Told("the command line", Cause::System(error))),
     }
 }
 
@@ -50,7 +50,7 @@ fn answer(rt: &HostRuntime, words: &[String]) -> Result<u8, Failure<'static>> {
             let status = error.exit_code() as u8;
             return match error.print(rt) {
                 Ok(()) => Ok(status),
-                Err(error) => Err(Failure::Output(error)),
+                Err(error) => Err(Failure::Told("standard output", Cause::System(error))),
             };
         }
     };

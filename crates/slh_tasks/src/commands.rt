@@ -3,7 +3,7 @@ use clap::ArgMatches;
 use slh_file_tasks::{audit, evidence, inspect, keygen, public, sign, verify};
 use slh_files::Outcome;
 use slh_group_tasks::{batches, chains, manifests, rings};
-use slh_paths::Failure;
+use slh_paths::{Cause, Failure};
 
 /// Does what the words ask for.
 pub fn outcome_of<'a>(rt: &HostRuntime, matches: &ArgMatches<'a>) -> Result<Outcome, Failure<'a>> {
@@ -14,7 +14,7 @@ pub fn outcome_of<'a>(rt: &HostRuntime, matches: &ArgMatches<'a>) -> Result<Outc
         Some(("ring", words)) => ring(rt, words),
         Some(("log", words)) => slh_log_tasks::outcome_of(rt, words),
         Some((name, words)) => of_signatures(rt, name, words),
-        None => Err(Failure::Command),
+        None => Err(Failure::Alone(Cause::NoCommand)),
     }
 }
 
@@ -41,7 +41,7 @@ fn of_keys<'a>(
         "keygen" => keygen(rt, words),
         "public" => public(rt, words),
         "inspect" => inspect(rt, words),
-        _ => Err(Failure::Command),
+        _ => Err(Failure::Alone(Cause::NoCommand)),
     }
 }
 
@@ -49,7 +49,7 @@ fn batch<'a>(rt: &HostRuntime, matches: &ArgMatches<'a>) -> Result<Outcome, Fail
     match matches.subcommand() {
         Some(("sign", words)) => batches::sign(rt, words),
         Some(("verify", words)) => batches::verify(rt, words),
-        _ => Err(Failure::Command),
+        _ => Err(Failure::Alone(Cause::NoCommand)),
     }
 }
 
@@ -57,7 +57,7 @@ fn manifest<'a>(rt: &HostRuntime, matches: &ArgMatches<'a>) -> Result<Outcome, F
     match matches.subcommand() {
         Some(("seal", words)) => manifests::seal(rt, words),
         Some(("check", words)) => manifests::check(rt, words),
-        _ => Err(Failure::Command),
+        _ => Err(Failure::Alone(Cause::NoCommand)),
     }
 }
 
@@ -67,7 +67,7 @@ fn chain<'a>(rt: &HostRuntime, matches: &ArgMatches<'a>) -> Result<Outcome, Fail
         Some(("walk", words)) => chains::walk(rt, words),
         Some(("show", words)) => chains::show(rt, words),
         Some(("verify", words)) => chains::verify(rt, words),
-        _ => Err(Failure::Command),
+        _ => Err(Failure::Alone(Cause::NoCommand)),
     }
 }
 
@@ -77,6 +77,6 @@ fn ring<'a>(rt: &HostRuntime, matches: &ArgMatches<'a>) -> Result<Outcome, Failu
         Some(("key", words)) => rings::key(rt, words),
         Some(("record", words)) => rings::record(rt, words),
         Some(("restore", words)) => rings::restore(rt, words),
-        _ => Err(Failure::Command),
+        _ => Err(Failure::Alone(Cause::NoCommand)),
     }
 }
