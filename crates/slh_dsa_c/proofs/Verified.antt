@@ -35,6 +35,7 @@ Accepts Z n = (mode : Mode) (key context message : List ℕ) (opt_rand : Option 
 
 none_by_key : (Z : Scheme) (mode : Mode) (key context message sig : List ℕ) → length key ≡ 2 * Z.n
     → hash_verify_error Z mode key context message sig ≡ None → verify_error_by_key Z mode key context message sig ≡ None
+unfolding verify_error_by_key
 none_by_key Z mode key context message sig size none =
     none_first _ _ (no_cause _ _ ((Decides-eqb (length key) (2 * Z.n)).1 size)) (none_first _ _ none refl)
 

@@ -4,7 +4,8 @@ ghost use Rattle.std.specs.Prelude.{IfOk, MatchResult, None, Err};
 ghost use Rattle.slh_dsa_c.specs.Numbers.{mode_numbered};
 ghost use Rattle.slh_dsa_c.specs.VerifyPieces.{HasOtherLength, HasOtherRandomizer, IsNone, StandsIn, Verifies};
 ghost use Rattle.slh_dsa_c.specs.VerifyPieces.{begin_number, begin_refusal, begin_status, update_number};
-ghost use Rattle.slh_dsa_c.specs.Status.{verify_number, verify_status};
+ghost use Rattle.slh_dsa_c.specs.Status.{number_of_refusal, verify_error_by_key, verify_number};
+ghost use Rattle.slh_dsa_c.specs.Status.{verify_status};
 ghost use Rattle.slh_stream.specs.Suspended.{IsBlank, IsSuspended};
 ghost use Rattle.slh_internal.specs.Checking.{signature_size};
 ghost use Rattle.slh_trees.specs.Refusals.{RefusedExactly};
@@ -191,14 +192,30 @@ impl<'a> OnSet for Finish<'a> {
         × (mode_numbered c.mode ≡ None → result ≡ 13) };
 
     fn on<P: SetSuite>(self) -> u32 {
-        let Some(mode) = mode_of(self.mode) else {
-            return STATE;
-        };
-        match self.state.finish::<P>(mode, self.sig) {
-            Some(Ok(())) => OK,
-            Some(Err(error)) => number_of(error),
+        match mode_of(self.mode) {
+            Some(mode) => finish_in::<P>(&self.state, mode, self.sig),
             None => STATE,
         }
+    }
+}
+
+// The number of what finishing in a mode answers.
+#[tactic(auto, unfolding(crate::specs::Status::verify_error_by_key))]
+fn finish_in<P: SetSuite>(state: &SuspendedVerifier, mode: Mode, sig: &[u8]) -> u32
+    ensures value { (key context m : List ℕ) → length key ≡ 2 * P.N.USIZE
+        → IsSuspended P.N.USIZE state.now mode key context (take P.N.USIZE sig.now) m
+        → result ≡ number_of_refusal
+        (verify_error_by_key P.scheme mode key context m sig.now) }
+    ensures other { (key context rand m : List ℕ)
+        → IsSuspended P.N.USIZE state.now mode key context rand m
+        → length sig.now ≡ signature_size P.scheme → take P.N.USIZE sig.now ≢ rand
+        → result ≡ 13 }
+    ensures length { length sig.now ≢ signature_size P.scheme → result ≡ 5 }
+{
+    match state.finish::<P>(mode, sig) {
+        Some(Ok(())) => OK,
+        Some(Err(error)) => number_of(error),
+        None => STATE,
     }
 }
 

@@ -15,6 +15,7 @@ use slh_dsa::{
 };
 
 // Verifies by a key of bytes.
+#[tactic(auto, unfolding(crate::specs::Status::verify_error_by_key))]
 fn small_by<P: ParameterSet>(
     mode: Mode,
     public: &[u8],
@@ -45,6 +46,7 @@ fn small_in<P: ParameterSet>(mode: u32, public: &[u8], msg: &[u8], ctx: &[u8], s
 }
 
 // Verifies a message as it is by a key of bytes.
+#[tactic(auto, unfolding(crate::specs::Status::verify_error_by_key))]
 fn pure_by<P: ParameterSet>(public: &[u8], msg: &[u8], ctx: &[u8], sig: &[u8]) -> Result<(), Error>
     ensures { RefusedExactly result
         (verify_error_by_key P.scheme Pure public.now ctx.now msg.now sig.now) }
