@@ -87,9 +87,9 @@ keep_built() {
     cp "$1" "$2.new" && mv "$2.new" "$2" && echo "$3 $(toolchain)" >"$2.of"
 }
 
-# copy_for ROW: sets `copy` to a new folder with the crates that a row of crates.txt stands on, and what
-# is proved of them, for a crate that the gate has no place for. Its own folder there is empty.
-copy_for() {
+# sources_for ROW: sets `copy` to a new folder with the sources of the crates that a row of crates.txt stands
+# on, for a crate that the gate has no place for. Its own folder there is empty.
+sources_for() {
     copy=$(mktemp -d)
     trap 'rm -rf "$copy"' EXIT
     trap 'exit 1' HUP INT TERM
@@ -97,9 +97,18 @@ copy_for() {
     cp "$top/HANDLES" "$copy"
     for need in ${1#*:}; do rows_below "$need"; done | LC_ALL=C sort -u >"$copy/crates.txt"
     sed 's/[: ].*//' "$copy/crates.txt" | while read -r it; do
-        cp -Rp "$top/crates/$it" "$copy/crates" || exit 1
+        tar -C "$top/crates" --exclude "$it/out" -cf - "$it" | tar -C "$copy/crates" -xf - || exit 1
     done
     echo "$1" >>"$copy/crates.txt"
+}
+
+# copy_for ROW: the same, with what is proved of them
+copy_for() {
+    sources_for "$1"
+    for kept in "$copy"/crates/*; do
+        kept=${kept##*/}
+        [ ! -d "$top/crates/$kept/out" ] || cp -Rp "$top/crates/$kept/out" "$copy/crates/$kept" || exit 1
+    done
 }
 
 # The checksum of all sources in `copy`.
