@@ -70,6 +70,11 @@ sources_sum() (
     } | sha256sum | cut -d ' ' -f 1
 )
 
+# for_prover: the prover's allocator keeps what it was given, which saves 4 in 100 of the processor's time
+for_prover() {
+    export MIMALLOC_PURGE_DELAY=-1
+}
+
 # is_built FILE SUM: whether a file is there that was built from sources of this sum by this
 # toolchain, or by any where there is none
 is_built() {
@@ -147,6 +152,7 @@ build() {
         is_built "$4" "$of" && exit 0
         say "proving and building $1 for $cpu, which takes long the first time (docs/BUILD.md)"
         cd "$top/crates/$1" || exit 1
+        for_prover
         # without words the command for people ends with status 2
         if [ "$1" = slh ]; then
             rt run --cpu "$cpu" -- --version </dev/null >&2 || exit 1
