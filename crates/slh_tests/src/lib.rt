@@ -54,7 +54,7 @@ mod page_of_rings;
 #[cfg(test)]
 mod page_of_runs;
 #[cfg(test)]
-mod page_of_streams;
+mod page_of_pieces;
 #[cfg(test)]
 mod page_of_trees;
 #[cfg(test)]
