@@ -71,12 +71,17 @@ fn are_accepted(
 }
 
 /// A batch of some messages.
-pub(crate) fn sealed(alloc: Global, messages: &[&[u8]]) -> Result<Sealed<Sha2_128f>, BatchError> {
+pub(crate) fn batch_of(alloc: Global, messages: &[&[u8]]) -> Result<Batch, BatchError> {
     let mut batch = Batch::new(alloc);
     for message in messages {
         batch.push(message)?;
     }
-    batch.seal(alloc, &key(3), None)
+    Ok(batch)
+}
+
+/// The same, sealed.
+pub(crate) fn sealed(alloc: Global, messages: &[&[u8]]) -> Result<Sealed<Sha2_128f>, BatchError> {
+    batch_of(alloc, messages)?.seal(alloc, &key(3), None)
 }
 
 fn entry_of<'a>(index: u32, message: &'a [u8], path: &'a [[u8; 32]]) -> Entry<'a> {
