@@ -70,6 +70,11 @@ sources_sum() (
     } | sha256sum | cut -d ' ' -f 1
 )
 
+# for_prover: the prover's allocator keeps what it was given, which saves 4 in 100 of the processor's time
+for_prover() {
+    export MIMALLOC_PURGE_DELAY=-1
+}
+
 # is_built FILE SUM: whether a file is there that was built from sources of this sum by this
 # toolchain, or by any where there is none
 is_built() {
@@ -87,9 +92,9 @@ keep_built() {
     cp "$1" "$2.new" && mv "$2.new" "$2" && echo "$3 $(toolchain)" >"$2.of"
 }
 
-# copy_for ROW: sets `copy` to a new folder with the crates that a row of crates.txt stands on, and what
-# is proved of them, for a crate that the gate has no place for. Its own folder there is empty.
-copy_for() {
+# sources_for ROW: sets `copy` to a new folder with the sources of the crates that a row of crates.txt stands
+# on, for a crate that the gate has no place for. Its own folder there is empty.
+sources_for() {
     copy=$(mktemp -d)
     trap 'rm -rf "$copy"' EXIT
     trap 'exit 1' HUP INT TERM
@@ -97,9 +102,18 @@ copy_for() {
     cp "$top/HANDLES" "$copy"
     for need in ${1#*:}; do rows_below "$need"; done | LC_ALL=C sort -u >"$copy/crates.txt"
     sed 's/[: ].*//' "$copy/crates.txt" | while read -r it; do
-        cp -Rp "$top/crates/$it" "$copy/crates" || exit 1
+        tar -C "$top/crates" --exclude "$it/out" -cf - "$it" | tar -C "$copy/crates" -xf - || exit 1
     done
     echo "$1" >>"$copy/crates.txt"
+}
+
+# copy_for ROW: the same, with what is proved of them
+copy_for() {
+    sources_for "$1"
+    for kept in "$copy"/crates/*; do
+        kept=${kept##*/}
+        [ ! -d "$top/crates/$kept/out" ] || cp -Rp "$top/crates/$kept/out" "$copy/crates/$kept" || exit 1
+    done
 }
 
 # The checksum of all sources in `copy`.
@@ -138,6 +152,7 @@ build() {
         is_built "$4" "$of" && exit 0
         say "proving and building $1 for $cpu, which takes long the first time (docs/BUILD.md)"
         cd "$top/crates/$1" || exit 1
+        for_prover
         # without words the command for people ends with status 2
         if [ "$1" = slh ]; then
             rt run --cpu "$cpu" -- --version </dev/null >&2 || exit 1

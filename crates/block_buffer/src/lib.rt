@@ -10,7 +10,7 @@
 //! are given an allocator take memory: those that answer an array.
 //!
 //! What two pieces make, over a sink that keeps what it takes: 0 to 11 went there, and the buffer
-//! holds 12. The test `example_of_the_page` of `array_tests` runs this, and has the sink,
+//! holds 12. The test `example_of_the_page` of `ground_tests` runs this, and has the sink,
 //! `Recorder`:
 //!
 //! ```

@@ -8,7 +8,7 @@
 //! - [`ObjectIdentifier`] names an algorithm, [`AssociatedOid`] gives that of a type.
 //!
 //! A hash of a core of one's own, `Summing`, which adds the bytes of blocks of 4. The test
-//! `digests_on_the_way_and_after_a_reset` of `hash_tests` runs these lines, and has that core, in
+//! `digests_on_the_way_and_after_a_reset` of `ground_tests` runs these lines, and has that core, in
 //! some forty:
 //!
 //! ```

@@ -1,4 +1,5 @@
 //! Digests as text.
+use hex::FromHex;
 
 /// Whether the text is the bytes in hexadecimal.
 pub(crate) fn is_hex(text: &str, bytes: &[u8]) -> bool {
@@ -23,4 +24,12 @@ pub(crate) fn are_hex<const N: usize>(lines: &str, digests: &[[u8; N]]) -> bool 
             };
     }
     same && lines.next().is_none()
+}
+
+/// The digest of a text, and zeros where it is none.
+pub(crate) fn digest(text: &str) -> [u8; 32] {
+    match <[u8; 32] as FromHex>::from_hex(text) {
+        Ok(bytes) => bytes,
+        Err(_) => [0; 32],
+    }
 }

@@ -6,7 +6,7 @@
 //! - [`WrappedHash`] is SHA-256 by the traits of `digest_core`.
 //!
 //! A key from a secret, a code of a message under it, and the message's digest. The test
-//! `a_code_under_a_derived_key` of `hash_tests` runs these lines:
+//! `a_code_under_a_derived_key` of `ground_tests` runs these lines:
 //!
 //! ```
 //! let prk = HKDF::extract(b"salt", b"secret");

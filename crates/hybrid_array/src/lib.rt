@@ -22,7 +22,7 @@
 //! assert_eq!(rows[2].as_slice(), [0, 9]);
 //! ```
 //!
-//! The test `the_example_of_the_page` of `array_tests` runs these lines.
+//! The test `the_example_of_the_page` of `ground_tests` runs these lines.
 //!
 //! Through a view that a call answers in an `Option`, a `Result` or a pair, as
 //! `ArrayMut::try_from` does, a caller writes into the slice. A clause of the call says what the

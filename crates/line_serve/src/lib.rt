@@ -13,7 +13,7 @@
 //! - [`serve_words`] is a whole program of lines, with its usage text.
 //!
 //! A replier of one's own, and its replies to the lines of an input. Its ghost member says what it
-//! replies, and the prover checks that it does. The test `example_of_the_page` of `line_tests` runs
+//! replies, and the prover checks that it does. The test `example_of_the_page` of `ground_tests` runs
 //! this:
 //!
 //! ```

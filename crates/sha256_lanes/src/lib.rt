@@ -5,7 +5,7 @@
 //! [`blocks`]. What else is here is for many messages that differ in their ends alone, as the
 //! hashes of a tree under one public seed do.
 //!
-//! The digests of a block followed by each of four tails of three bytes. In `hash_tests`,
+//! The digests of a block followed by each of four tails of three bytes. In `ground_tests`,
 //! `sha256_tails::example_of_the_page` runs this:
 //!
 //! ```

@@ -7,7 +7,7 @@
 //! one public seed do.
 //!
 //! The digests of a block followed by each of four tails of three bytes. The test
-//! `example_of_the_page` of `hash_tests` runs this:
+//! `example_of_the_page` of `ground_tests` runs this:
 //!
 //! ```
 //! use sha512_lanes::{BLOCK_BYTES, Midstate};

@@ -9,7 +9,7 @@
 //! the way from the leaf to the root, 32 bytes each, and the signature.
 //!
 //! The receipt of one of several messages, and what a verifying key says of it. The tests of
-//! `page_of_batches` of `slh_batch_tests` run this and what follows:
+//! `page_of_batches` of `slh_tests` run this and what follows:
 //!
 //! ```
 //! use slh_batch::{Batch, BatchError, ReceiptError, accept};

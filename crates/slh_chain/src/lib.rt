@@ -9,7 +9,7 @@
 //! good chain has at most 16 links.
 //!
 //! A root key lets a release key act, and who knows the root key alone learns that key from the
-//! chain. `example_of_the_page_of_chains` of `slh_chain_tests` runs this:
+//! chain. `example_of_the_page_of_chains` of `slh_tests` runs this:
 //!
 //! ```
 //! use slh_chain::{ChainError, LinkError, delegate, walk};

@@ -19,12 +19,26 @@ use crate::verifying_key::VerifyingKey;
 use hybrid_array::{Array, ArraySize};
 use rand_core::Rng;
 use signature_core::{KeypairRef, RandomizedSigner, SignatureEncoding, Signer, Verifier};
+use slh_core::nbytes::NBytes;
 use slh_core::params::{MAX_N, chain_sizes};
 use slh_core::steps::Steps;
 use slh_frames::Mode;
 use std::alloc::{AllocError, Global};
 use std::marker::Brand;
 use std::sync::ledger::{Blank, Ledger};
+
+// The next n bytes of a generator.
+fn drawn<P: ParameterSet, R: Rng>(rng: &mut R) -> NBytes<P::N>
+    ensures value { result ≡ (fill_bytes P.N.USIZE (R.stream rng.old)).0 }
+    ensures rest { R.stream rng.new ≡ (fill_bytes P.N.USIZE (R.stream rng.old)).1 }
+    ensures len { length result ≡ P.N.USIZE }
+{
+    chain_sizes::<P>();
+    let mut store = [0; MAX_N];
+    let bytes = &mut store[..P::N::USIZE];
+    rng.fill_bytes(bytes);
+    NBytes::exact(bytes)
+}
 
 impl<P: ParameterSet> SigningKey<P> {
     /// A key of random bytes: a generator fills n bytes for the secret seed, n for the PRF key and n
@@ -42,13 +56,11 @@ impl<P: ParameterSet> SigningKey<P> {
         ensures true_key { IsTrueKey P.scheme result }
         ensures len { length result ≡ 4 * P.N.USIZE }
     {
-        chain_sizes::<P>();
-        let n = P::N::USIZE;
-        let (mut sk_seed, mut sk_prf, mut pk_seed) = ([0; MAX_N], [0; MAX_N], [0; MAX_N]);
-        rng.fill_bytes(&mut sk_seed[..n]);
-        rng.fill_bytes(&mut sk_prf[..n]);
-        rng.fill_bytes(&mut pk_seed[..n]);
-        SigningKey::slh_keygen_internal(&sk_seed[..n], &sk_prf[..n], &pk_seed[..n]).unwrap()
+        let sk_seed = drawn::<P, R>(rng);
+        let sk_prf = drawn::<P, R>(rng);
+        let pk_seed = drawn::<P, R>(rng);
+        SigningKey::slh_keygen_internal(sk_seed.as_slice(), sk_prf.as_slice(), pk_seed.as_slice())
+            .unwrap()
     }
 
     // The signature of a message in these bytes, by n random ones, on a counter that is made here.
@@ -65,13 +77,10 @@ impl<P: ParameterSet> SigningKey<P> {
             result ≡ signature_of P.scheme self.now (Some drawn.0) (frame [] msg.now) }
         ensures drawn { R.stream rng.new ≡ (fill_bytes P.N.USIZE (R.stream rng.old)).1 }
     {
-        chain_sizes::<P>();
-        let mut store = [0; MAX_N];
-        let opt_rand = &mut store[..P::N::USIZE];
-        rng.fill_bytes(opt_rand);
+        let opt_rand = drawn::<P, R>(rng);
         let mut steps = Steps::<L>::new(blank);
         let out = bytes.as_mut_slice();
-        self.hash_sign_checked(Mode::Pure, msg, b"", Some(opt_rand), out, &mut steps);
+        self.hash_sign_checked(Mode::Pure, msg, b"", Some(opt_rand.as_slice()), out, &mut steps);
         Signature::from_array(bytes)
     }
 }

@@ -9,7 +9,7 @@
 //!
 //! A [`Store`] has bytes under names, as files have; [`MemStore`] is one in memory. Many of its
 //! names are signed together, and who has the verifying key learns which is the first that is
-//! missing or differs. The test `example_of_the_page_of_manifests` of `slh_manifest_tests` runs
+//! missing or differs. The test `example_of_the_page_of_manifests` of `slh_tests` runs
 //! this:
 //!
 //! ```

@@ -13,7 +13,7 @@
 //! differ; the record of a ring without paths is the same under every master.
 //!
 //! The record of two products' keys, and the second key found again. The test
-//! `example_of_the_page_of_rings` of `slh_ring_tests` runs this:
+//! `example_of_the_page_of_rings` of `slh_tests` runs this:
 //!
 //! ```
 //! use slh_dsa::{Sha2_128f, SigningKey};

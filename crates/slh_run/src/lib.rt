@@ -5,7 +5,7 @@
 //! by name.
 //!
 //! The status of a run over some lines, and the replies. The test `example_of_the_page_of_lines` of
-//! `slh_feature_tests` runs this on a line that asks for a key, `SLH-DSA-SHA2-128f keygen` and three
+//! `slh_tests` runs this on a line that asks for a key, `SLH-DSA-SHA2-128f keygen` and three
 //! seeds of 32 hexadecimal digits each, whose reply is `key`, the signing key and the verifying
 //! key:
 //!

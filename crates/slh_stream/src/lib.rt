@@ -4,7 +4,7 @@
 //! pieces joined, whatever they are cut into. A [`MessageVerifier`] verifies in one pass, in each
 //! mode. A message itself is signed in two passes, a [`FirstPass`] and a [`SecondPass`]: R comes
 //! from the whole message, and H_msg begins with R. Its digest is signed in one, by a
-//! [`DigestSigner`], and where the digest is at hand by [`sign_digest`]. In `slh_stream_tests`,
+//! [`DigestSigner`], and where the digest is at hand by [`sign_digest`]. In `slh_tests`,
 //! `page_of_pieces::example_of_the_page` runs this:
 //!
 //! ```

@@ -1,5 +1,5 @@
 //! The example of the page of `slh_chain`.
-use crate::keys::key;
+use crate::keys_128f::key;
 use slh_chain::{ChainError, LinkError, delegate, walk};
 use slh_dsa::{Sha2_128f, SigningKey, VerifyingKey};
 use std::alloc::Global;

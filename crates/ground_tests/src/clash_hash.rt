@@ -7,7 +7,7 @@ use merkle_tree::{DIGEST_LEN, TreeHash};
 pub struct ByteHash;
 
 impl TreeHash for ByteHash {
-    ghost use Rattle.merkle_tree_tests.specs.ByteHash.{byte_hash};
+    ghost use Rattle.ground_tests.specs.ByteHash.{byte_hash};
 
     ghost hash = { byte_hash };
 

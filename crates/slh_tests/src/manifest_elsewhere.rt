@@ -1,5 +1,5 @@
 //! Entries of a manifest by their digests, and bodies that are signed elsewhere.
-use crate::keys::key;
+use crate::keys_128f::key;
 use crate::page_of_manifests::checked;
 use slh_dsa::Sha2_128f;
 use slh_manifest::{Builder, CONTEXT, MemStore};

@@ -62,7 +62,7 @@ fn all_shapes(alloc: Global) -> Result<[u8; 32], StoreError> {
 
 #[test]
 fn paths_and_proofs_of_all_shapes(rt: HostRuntime) {
-    let expected = crate::vectors::digest(
+    let expected = crate::hexadecimal::digest(
         "86104a43c583ec5566f9e40ce022ee9b3f259ec3809ad9264de831b160d7facc",
     );
     assert!(rt; all_shapes(rt.alloc()) == Ok(expected));

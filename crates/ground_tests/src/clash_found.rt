@@ -1,6 +1,6 @@
 //! Clashes that `merkle_clash` finds under a hash function that has them, worked by hand: it tells
 //! the first byte of an entry alone, and of a node that of the digest on its left.
-use crate::byte_hash::ByteHash;
+use crate::clash_hash::ByteHash;
 use merkle_clash::{
     EntryClash, are_short, entry_clash, growth_clash, inclusion_clash, leaves_clash, roots_clash,
 };

@@ -1,6 +1,6 @@
 //! A log of 255 entries that grows to 257, over files in memory: each call failing in turn, and
 //! everything stopping at each.
-use crate::memory::NEVER;
+use crate::whole_memory::NEVER;
 use log_files::{AppendError, Appending, LogFile, Piece, PublishError, are_separate, publish};
 use log_tiles::GrowingTiles;
 use merkle_tree::{Sha256, TreeHash};

@@ -1,5 +1,5 @@
 //! The folders of a log, and its lock.
-use crate::memory::{COUNT, NEVER, files, has, is_free};
+use crate::whole_memory::{COUNT, NEVER, files, has, is_free};
 use log_files::{FolderError, Piece, free_lock, make_folder, take_lock};
 use std::alloc::Global;
 use whole_files::{FileSystem, Kind, MemFiles, WriteError};

@@ -1,4 +1,4 @@
-use hex::FromHex;
+use crate::hexadecimal::digest;
 use merkle_store::{Leaves, StoreError, push_path, push_proof};
 use merkle_tree::{
     Frontier, Levels, MAX_LEAVES, Sha256, TreeHash, check_consistency, check_inclusion,
@@ -28,13 +28,6 @@ const ROOTS: [&str; 9] = [
     "ddb89be403809e325750d3d263cd78929c2942b7942a34b77e122c9594a74c8c",
     "5dc9da79a70659a9ad559cb701ded9a2ab9d823aad2f4960cfe370eff4604328",
 ];
-
-pub(crate) fn digest(text: &str) -> [u8; 32] {
-    match <[u8; 32] as FromHex>::from_hex(text) {
-        Ok(bytes) => bytes,
-        Err(_) => [0; 32],
-    }
-}
 
 // The digest of an entry of at most 16 bytes.
 fn leaf(text: &str) -> [u8; 32] {

@@ -1,5 +1,5 @@
 //! Files that are written whole: each call failing in turn, and everything stopping at each.
-use crate::memory::{COUNT, NEVER, files, has, is_free};
+use crate::whole_memory::{COUNT, NEVER, files, has, is_free};
 use std::alloc::{AllocError, Global};
 use whole_files::{
     FileSystem, Kind, MemFiles, Mode, WriteError, Written, is_input, is_part, make_pair,

@@ -1,6 +1,6 @@
 ghost use Rattle.std.specs.Prelude.{◌<◌, ◌≤◌};
 
-use crate::vectors::digest;
+use crate::hexadecimal::digest;
 use log_tiles::{Tile, TileError, TileSource, prove_growth, prove_presence};
 use merkle_tree::{Sha256, TreeHash, root_of};
 use std::alloc::Global;

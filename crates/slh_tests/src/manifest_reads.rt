@@ -1,6 +1,6 @@
 //! How a store is read for a manifest: in pieces, at most one byte further than an entry says, and
 //! not again after a read that failed.
-use crate::keys::key;
+use crate::keys_128f::key;
 use crate::page_of_manifests::{checked, manifest_of};
 use slh_manifest::{
     BuildError, Builder, CheckError, EntryError, Failed, Manifest, MemStore, Store,

@@ -1,5 +1,5 @@
 //! The examples of the page of `slh_batch`.
-use crate::keys::key;
+use crate::keys_128f::key;
 use slh_batch::{Batch, BatchError, Head, HeadError, ReceiptError, Sealed, accept, accept_under};
 use slh_dsa::{Sha2_128f, SigningKey, VerifyingKey};
 use std::alloc::Global;

@@ -1,6 +1,6 @@
 //! The example of the page of `slh_manifest`. A call that found no memory is made again, so that it
 //! holds with each allocation failing in turn, too (`rt try --test --fail-alloc`).
-use crate::keys::key;
+use crate::keys_128f::key;
 use slh_dsa::{Sha2_128f, SigningKey, VerifyingKey};
 use slh_manifest::{BuildError, Builder, CheckError, MemStore, Store, check};
 use std::alloc::Global;

@@ -1,5 +1,5 @@
 //! The example of docs/KEYS.md: names of links that say until when, under which number and for what.
-use crate::keys::key;
+use crate::keys_128f::key;
 use slh_chain::Chain;
 use slh_dsa::ParameterSet;
 use std::alloc::Global;
