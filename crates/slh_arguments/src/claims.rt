@@ -2,9 +2,9 @@
 use crate::words::{context, mode, required, signature, signing_key};
 use clap::ArgMatches;
 use slh_files::Key;
+use slh_jobs::{ByteString, Mode};
 use slh_paths::Failure;
 use slh_paths::files::Reader;
-use slh_run::{ByteString, Mode};
 use slh_words::names;
 
 /// A signature of a file, and the key that it is to be under.

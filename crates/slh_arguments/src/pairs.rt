@@ -1,7 +1,7 @@
 //! The files of a pair of keys.
 use slh_files::{Key, Kind, Outcome, encode_key, verifying_key};
+use slh_jobs::ByteString;
 use slh_paths::{Cause, Failure, outputs};
-use slh_run::ByteString;
 
 /// The text of a key file. A key that gives none is told of under a name.
 pub fn key_file<'a>(

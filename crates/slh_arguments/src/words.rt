@@ -1,8 +1,8 @@
 //! What the words of a command stand for.
 use clap::ArgMatches;
 use slh_files::{Key, Kind, Outcome, digits_of, read_key, read_signature, read_signing_key};
+use slh_jobs::{ByteString, Mode};
 use slh_paths::{Cause, Failure, files, random};
-use slh_run::{ByteString, Mode};
 use slh_sets::Set;
 use slh_words::names;
 

@@ -3,9 +3,9 @@ use clap::ArgMatches;
 use slh_arguments::{Claim, check_inputs, own_claim, read_failure, report, required};
 use slh_command::Detail;
 use slh_files::{Outcome, evidence_of};
+use slh_jobs::{ByteString, Error, Evidence, Verdict, push_evidence};
 use slh_paths::{Cause, Failure};
 use slh_readers::{ReadError, check_evidence};
-use slh_run::{ByteString, Error, Evidence, Verdict, push_evidence};
 use slh_words::names;
 
 /// Tells whether the holder of a key made a signature that the key accepts.

@@ -14,7 +14,7 @@ use line_serve::push_hex_line;
 use slh_files::{
     Key, KeyFileError, Kind, digits_of, has_own_root, read_key, set_of_signature, verifying_key,
 };
-use slh_run::ByteString;
+use slh_jobs::ByteString;
 use slh_sets::Set;
 use std::alloc::{AllocError, Global};
 

@@ -3,8 +3,8 @@ ghost use Rattle.std.specs.Prelude.{◌≡◌, IfOk, Ok, OnOk};
 ghost use Rattle.slh_audit.specs.declared.evidence.Verdict.TheVariants.{Genuine};
 ghost use Rattle.slh_files.specs.Jobs.{verdict_by};
 ghost use Rattle.slh_readers.specs.Answers.{IsAnswer};
-ghost use Rattle.slh_run.specs.Judgement.{judgement};
-ghost use Rattle.slh_run.specs.declared.job.Job.TheVariants.{Audit};
+ghost use Rattle.slh_jobs.specs.Judgement.{judgement};
+ghost use Rattle.slh_jobs.specs.declared.job.Job.TheVariants.{Audit};
 ghost use Rattle.slh_sets.specs.Sets.{scheme_for};
 
 use clap::ArgMatches;
@@ -13,10 +13,10 @@ use slh_arguments::{
     signing_key, tell_verdict, verifying_key,
 };
 use slh_files::{Key, Outcome};
+use slh_jobs::{ByteString, Error, Mode, Verdict};
 use slh_paths::files::{self, FromStart, Reader};
 use slh_paths::{Cause, Failure, outputs};
 use slh_readers::{ReadError, sign_digest, sign_twice};
-use slh_run::{ByteString, Error, Mode, Verdict};
 use slh_words::names;
 use std::alloc::Global;
 use std::fs::File;

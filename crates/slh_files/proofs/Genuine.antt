@@ -18,13 +18,13 @@ use Rattle.slh_dsa.specs.Calls.{opt_rand_refusal, sign_input_refusal, signing_ke
 use Rattle.slh_frames.specs.Frames.{mode_frame}
 use Rattle.slh_dsa.specs.declared.error.Error.{Error as KeyError}
 use Rattle.slh_frames.specs.declared.frame.Mode.{Mode}
-use Rattle.slh_run.specs.Judgement.{judgement, refused_or, verdict_answer}
-use Rattle.slh_run.specs.declared.job.Answer.{Answer}
-use Rattle.slh_run.specs.declared.job.Answer.TheVariants.{Accepted, Key, Shown, Signature}
-use Rattle.slh_run.specs.declared.job.Answer.TheVariants.{Verdict as VerdictAnswer}
-use Rattle.slh_run.specs.declared.job.Error.{Error}
-use Rattle.slh_run.specs.declared.job.Error.TheVariants.{KeyMismatch, Memory}
-use Rattle.slh_run.specs.declared.job.Job.TheVariants.{Audit, Sign}
+use Rattle.slh_jobs.specs.Judgement.{judgement, refused_or, verdict_answer}
+use Rattle.slh_jobs.specs.declared.job.Answer.{Answer}
+use Rattle.slh_jobs.specs.declared.job.Answer.TheVariants.{Accepted, Key, Shown, Signature}
+use Rattle.slh_jobs.specs.declared.job.Answer.TheVariants.{Verdict as VerdictAnswer}
+use Rattle.slh_jobs.specs.declared.job.Error.{Error}
+use Rattle.slh_jobs.specs.declared.job.Error.TheVariants.{KeyMismatch, Memory}
+use Rattle.slh_jobs.specs.declared.job.Job.TheVariants.{Audit, Sign}
 use Rattle.slh_internal.proofs.Signatures.{checked_root-signature, length-digest_signature}
 use Rattle.slh_internal.specs.Checking.{checked_root, signature_size}
 use Rattle.slh_internal.specs.Keys.{top_root}

@@ -7,9 +7,9 @@ use Rattle.std.proofs.lemmas.Bool.{and_parts, leb-true}
 use Rattle.std.proofs.lemmas.Bool.Decides.{nat_tests}
 use Rattle.line_serve.proofs.NumbersBack.{AreDigits, decimal_digits}
 use Rattle.line_serve.specs.Fields.{fields, space}
-use Rattle.slh_run.specs.EvidenceNumbers.{HasNumbers}
-use Rattle.slh_run.specs.EvidenceWords.{evidence_in, evidence_text, spaced}
-use Rattle.slh_run.proofs.EvidenceBack.{evidence_back}
+use Rattle.slh_jobs.specs.EvidenceNumbers.{HasNumbers}
+use Rattle.slh_jobs.specs.EvidenceWords.{evidence_in, evidence_text, spaced}
+use Rattle.slh_jobs.proofs.EvidenceBack.{evidence_back}
 use Rattle.slh_files.specs.Lines.{is_blank, words_of}
 use Rattle.slh_evidence.specs.declared.evidence.Evidence.{Evidence}
 use Rattle.slh_evidence.specs.declared.evidence.Evidence.TheVariants.{ForsNode, ForsRoots, ChainStep, Leaf, TreeNode, Early}

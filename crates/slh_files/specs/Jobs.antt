@@ -9,14 +9,14 @@ use Rattle.slh_core.specs.Parameters.{Scheme}
 use Rattle.slh_frames.specs.declared.frame.Mode.{Mode}
 use Rattle.slh_sets.specs.Sets.{scheme_for}
 use Rattle.slh_sets.specs.declared.set.Set.{Set}
-use Rattle.slh_run.specs.Judgement.{judgement}
-use Rattle.slh_run.specs.declared.job.Answer.{Answer}
-use Rattle.slh_run.specs.declared.job.Answer.TheVariants.{Signature, Shown}
-use Rattle.slh_run.specs.declared.job.Answer.TheVariants.{Verdict as VerdictAnswer}
-use Rattle.slh_run.specs.declared.job.Error.{Error}
-use Rattle.slh_run.specs.declared.job.Error.TheVariants.{Invalid, KeyMismatch}
-use Rattle.slh_run.specs.declared.job.Job.{Job}
-use Rattle.slh_run.specs.declared.job.Job.TheVariants.{Audit, Sign}
+use Rattle.slh_jobs.specs.Judgement.{judgement}
+use Rattle.slh_jobs.specs.declared.job.Answer.{Answer}
+use Rattle.slh_jobs.specs.declared.job.Answer.TheVariants.{Signature, Shown}
+use Rattle.slh_jobs.specs.declared.job.Answer.TheVariants.{Verdict as VerdictAnswer}
+use Rattle.slh_jobs.specs.declared.job.Error.{Error}
+use Rattle.slh_jobs.specs.declared.job.Error.TheVariants.{Invalid, KeyMismatch}
+use Rattle.slh_jobs.specs.declared.job.Job.{Job}
+use Rattle.slh_jobs.specs.declared.job.Job.TheVariants.{Audit, Sign}
 use Rattle.slh_internal.specs.Keys.{signing_key_bytes, top_root}
 use Rattle.slh_files.specs.declared.error.KeyFileError.{KeyFileError}
 use Rattle.slh_files.specs.declared.error.KeyFileError.TheVariants.{Root}

@@ -1,10 +1,10 @@
 //! Evidence in words, as audits print it.
 ghost use Rattle.std.specs.Prelude.{◌≡◌, IfOk};
 ghost use Rattle.slh_files.specs.Lines.{words_of};
-ghost use Rattle.slh_run.specs.EvidenceWords.{evidence_in};
+ghost use Rattle.slh_jobs.specs.EvidenceWords.{evidence_in};
 
 use crate::lines::words;
-use slh_run::{Evidence, read_evidence};
+use slh_jobs::{Evidence, read_evidence};
 use std::alloc::{AllocError, Global};
 
 /// The evidence of a text such as `early 0 1`: a kind, and its numbers.

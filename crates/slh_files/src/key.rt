@@ -2,7 +2,7 @@
 ghost use Rattle.std.specs.Prelude.{◌≡◌, ◌≤◌};
 ghost use Rattle.slh_files.specs.Heads.{begin_line, end_line, key_len, label, other_kind};
 
-use slh_run::ByteString;
+use slh_jobs::ByteString;
 use slh_sets::Set;
 
 /// Which of a pair's keys.

@@ -13,8 +13,8 @@ ghost use Rattle.slh_files.specs.Reading.{key_in, key_with, pem_key};
 ghost use Rattle.slh_files.specs.Writing.{key_file};
 ghost use Rattle.slh_files.specs.declared.key.Key.{Key as AnyKey};
 ghost use Rattle.slh_files.specs.declared.key.Kind.{Kind as KeyKind};
-ghost use Rattle.slh_run.specs.EvidenceNumbers.{HasNumbers};
-ghost use Rattle.slh_run.specs.EvidenceWords.{evidence_in, evidence_text};
+ghost use Rattle.slh_jobs.specs.EvidenceNumbers.{HasNumbers};
+ghost use Rattle.slh_jobs.specs.EvidenceWords.{evidence_in, evidence_text};
 ghost use Rattle.slh_sets.specs.Sets.{scheme_for};
 ghost use Rattle.slh_sets.specs.declared.set.Set.{Set as KeySet};
 

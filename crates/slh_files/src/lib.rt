@@ -9,7 +9,7 @@
 //!
 //! ```
 //! use slh_files::{KeyFileError, Kind, encode_key, made_key};
-//! use slh_run::ByteString;
+//! use slh_jobs::ByteString;
 //! use slh_sets::Set;
 //! use std::alloc::Global;
 //!

@@ -10,7 +10,7 @@ ghost use Rattle.slh_files.specs.declared.error.KeyFileError.TheVariants.{Memory
 use crate::error::KeyFileError;
 use crate::key::{Key, Kind};
 use line_serve::hex_field;
-use slh_run::ByteString;
+use slh_jobs::ByteString;
 use slh_sets::Set;
 use std::alloc::{AllocError, Global};
 

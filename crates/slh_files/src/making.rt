@@ -4,13 +4,13 @@ ghost use Rattle.std.specs.Prelude.{IfOk, IfErr};
 ghost use Rattle.std.specs.Str.{bytes_eq};
 ghost use Rattle.slh_files.specs.Heads.{seed_len as spec_seed_len};
 ghost use Rattle.slh_files.specs.Jobs.{made_by, made_of};
-ghost use Rattle.slh_run.specs.declared.job.Error.TheVariants.{Length, Memory};
+ghost use Rattle.slh_jobs.specs.declared.job.Error.TheVariants.{Length, Memory};
 
 use crate::key::Key;
 use hybrid_array::ArraySize;
 use slh_core::params::chain_sizes;
 use slh_dsa::{ParameterSet, SigningKey};
-use slh_run::{ByteString, Error};
+use slh_jobs::{ByteString, Error};
 use slh_sets::{OnSet, Set, SetSuite};
 use std::alloc::{AllocError, Global};
 

@@ -1,7 +1,7 @@
 //! All that a reader gives.
 ghost use Rattle.std.specs.Prelude.{◌≡◌, IfOk, IfSome};
 
-use slh_run::ByteString;
+use slh_jobs::ByteString;
 use std::alloc::Global;
 use std::io::{self, Error, ErrorKind, Read, Write};
 

@@ -20,7 +20,7 @@ use crate::making::has_own_root;
 use crate::places::place_of;
 use base64::DecodeAllocError;
 use base64::engine::general_purpose::STANDARD;
-use slh_run::{ByteString, Error};
+use slh_jobs::{ByteString, Error};
 use slh_sets::Set;
 use std::alloc::{AllocError, Global};
 

@@ -8,7 +8,7 @@ ghost use Rattle.slh_internal.specs.Checking.{signature_size};
 
 use crate::reading::squeeze;
 use line_serve::hex_field;
-use slh_run::ByteString;
+use slh_jobs::ByteString;
 use slh_sets::Set;
 use std::alloc::{AllocError, Global};
 

@@ -9,7 +9,7 @@ use crate::error::KeyFileError;
 use crate::heads::head;
 use crate::key::{Key, Kind};
 use base64::engine::general_purpose::STANDARD;
-use slh_run::ByteString;
+use slh_jobs::ByteString;
 use std::alloc::{AllocError, Global};
 
 // How many symbols a line has.

@@ -10,9 +10,9 @@ use slh_command::{
     seal_batch,
 };
 use slh_files::{Key, Outcome};
+use slh_jobs::ByteString;
 use slh_paths::files::{self, FileId};
 use slh_paths::{Cause, Failure, outputs};
-use slh_run::ByteString;
 use slh_words::names;
 use std::alloc::AllocError;
 

@@ -8,9 +8,9 @@ use slh_arguments::{
 use slh_chain::{ChainError, LinkError};
 use slh_command::{Detail, LinkText, WalkError, last_key, links_of, new_link};
 use slh_files::{Key, Kind, Outcome, digits_of};
+use slh_jobs::ByteString;
 use slh_paths::shown::shown;
 use slh_paths::{Cause, Failure, files, outputs};
-use slh_run::ByteString;
 use slh_sets::Set;
 use slh_words::names;
 use std::alloc::{AllocError, Global};

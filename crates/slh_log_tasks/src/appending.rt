@@ -10,9 +10,9 @@ use log_files::{AppendError, Appending};
 use merkle_tree::{Sha256, TreeHash};
 use slh_arguments::{Randomness, required, required_all, signing_key};
 use slh_files::{Key, KeyFileError, Outcome};
+use slh_jobs::ByteString;
 use slh_log::{Checkpoint, CheckpointError};
 use slh_paths::{Cause, Failure, files};
-use slh_run::ByteString;
 use slh_words::names;
 
 // Why a checkpoint isn't made. The randomizer has as many bytes as its set's have.

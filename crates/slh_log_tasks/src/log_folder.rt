@@ -2,10 +2,10 @@
 use clap::ArgMatches;
 use log_tiles::{Bundle, MAX_ENTRY_LEN, NameError, Tile, TileSource};
 use slh_arguments::required;
+use slh_jobs::ByteString;
 use slh_log::{Checkpoint, read_unverified};
 use slh_paths::files::read_front;
 use slh_paths::{Cause, Failure};
-use slh_run::ByteString;
 use slh_words::names;
 use std::alloc::AllocError;
 use std::fs;

@@ -1,6 +1,6 @@
 //! Why a command failed: each message, once.
 use slh_files::KeyFileError;
-use slh_run::Error;
+use slh_jobs::Error;
 use slh_sets::Set;
 use std::{fmt, io};
 

@@ -4,7 +4,7 @@ use crate::cause::Cause;
 use crate::failure::Failure;
 use crate::progress::Progress;
 use slh_files::gather;
-use slh_run::ByteString;
+use slh_jobs::ByteString;
 use std::alloc::AllocError;
 use std::fs::{self, File, OpenFile};
 use std::io::{self, ErrorKind, Read, Seek, SeekFrom, StdinLock};

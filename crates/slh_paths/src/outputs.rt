@@ -7,7 +7,7 @@ use crate::files::{STANDARD, read_front};
 use crate::randomness::random;
 use crate::secrets::FRONT;
 use crate::whole_outputs::{Fronts, PutError, put_whole};
-use slh_run::ByteString;
+use slh_jobs::ByteString;
 use std::fs::{self, OpenFile, OpenOptions};
 use std::io::{self, ErrorKind, Write};
 use whole_files::{

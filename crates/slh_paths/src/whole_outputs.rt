@@ -8,7 +8,7 @@ ghost use Rattle.whole_files.specs.declared.error.WriteError.TheVariants.{Failed
 ghost use Rattle.whole_files.specs.declared.error.Written.TheVariants.{Settled, Unsettled};
 
 use crate::secrets::holds_secret;
-use slh_run::ByteString;
+use slh_jobs::ByteString;
 use std::alloc::Global;
 use whole_files::{Failed, FileSystem, Kind, WriteError, Written, write_whole};
 

@@ -1,8 +1,8 @@
 //! The example of the page of `slh_readers`.
 use crate::readers::{public, signing};
 use slh_files::Key;
+use slh_jobs::{ByteString, Error, Mode};
 use slh_readers::{ReadError, sign_twice, verify};
-use slh_run::{ByteString, Error, Mode};
 use std::alloc::Global;
 
 fn signed(alloc: Global, key: &Key, file: &[u8]) -> Result<ByteString, ReadError> {

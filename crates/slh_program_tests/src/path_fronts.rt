@@ -1,8 +1,8 @@
 //! The first bytes of files in memory, for outputs of `slh_paths`.
 ghost use Rattle.std.specs.Prelude.{◌≡◌, IfOk, take};
 
+use slh_jobs::ByteString;
 use slh_paths::Fronts;
-use slh_run::ByteString;
 use std::alloc::Global;
 use whole_files::{Failed, MemFiles};
 

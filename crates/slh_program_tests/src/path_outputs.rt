@@ -1,8 +1,8 @@
 //! Outputs of `slh_paths` over files in memory: secrets are kept, and what can't be looked at, and
 //! what is none is replaced.
 use crate::path_fronts::MemFronts;
+use slh_jobs::ByteString;
 use slh_paths::{Fronts, PutError, put_whole};
-use slh_run::ByteString;
 use std::alloc::{AllocError, Global};
 use whole_files::{Failed, Kind, MemFiles, Mode, WriteError, Written};
 

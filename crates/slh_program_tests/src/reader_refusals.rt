@@ -1,7 +1,7 @@
 //! What `slh_readers` refuses, and faults of readers.
 use crate::readers::{Broken, is_broken, is_refused, public, signing};
+use slh_jobs::{Error, Mode};
 use slh_readers::{sign_digest, sign_twice, verify};
-use slh_run::{Error, Mode};
 use std::alloc::Global;
 use std::io::Read;
 

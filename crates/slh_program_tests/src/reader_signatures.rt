@@ -3,8 +3,8 @@
 use crate::readers::{is_changed, public, signing, slowly};
 use hmac_sha256::Hash;
 use slh_files::{Key, evidence_of};
+use slh_jobs::{ByteString, Error, Mode, Verdict};
 use slh_readers::{ReadError, audit, check_evidence, sign_digest, sign_twice, verify};
-use slh_run::{ByteString, Error, Mode, Verdict};
 use std::alloc::Global;
 
 // The numbers from 0 on, which are a randomizer.

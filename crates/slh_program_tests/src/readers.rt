@@ -1,7 +1,7 @@
 //! Readers in memory, and a key.
 use slh_files::{Key, made_key, verifying_key};
+use slh_jobs::Error;
 use slh_readers::ReadError;
-use slh_run::Error;
 use slh_sets::Set;
 use std::alloc::Global;
 use std::io::{self, ErrorKind, Read};

@@ -6,8 +6,8 @@ use Rattle.slh_readers.specs.Reading.{AbsorbsAll, GoesOn, IsAll}
 use Rattle.slh_readers.specs.Terms.{Terms}
 use Rattle.slh_readers.specs.declared.error.ReadError.{ReadError}
 use Rattle.slh_readers.specs.declared.error.ReadError.TheVariants.{Read, Refused, Changed}
-use Rattle.slh_run.specs.declared.job.Error.{Error}
-use Rattle.slh_run.specs.declared.job.Error.TheVariants.{MessageTooLong}
+use Rattle.slh_jobs.specs.declared.job.Error.{Error}
+use Rattle.slh_jobs.specs.declared.job.Error.TheVariants.{MessageTooLong}
 use Rattle.slh_trees.specs.Refusals.{message_refusal}
 
 -- some bytes are all that is left

@@ -26,12 +26,12 @@ use Rattle.slh_readers.specs.Reading.{AbsorbsAll}
 use Rattle.slh_readers.specs.Terms.{Terms}
 use Rattle.slh_readers.specs.declared.error.ReadError.{ReadError}
 use Rattle.slh_readers.specs.declared.error.ReadError.TheVariants.{Read, Refused, Changed}
-use Rattle.slh_run.specs.Errors.{audit_error_of, error_of}
-use Rattle.slh_run.specs.Judgement.{audit_refusal, judgement, refused_or, verdict_answer}
-use Rattle.slh_run.specs.declared.job.Answer.{Answer}
-use Rattle.slh_run.specs.declared.job.Error.{Error}
-use Rattle.slh_run.specs.declared.job.Error.TheVariants as job
-use Rattle.slh_run.specs.declared.job.Job.TheVariants.{Audit, Check}
+use Rattle.slh_jobs.specs.Errors.{audit_error_of, error_of}
+use Rattle.slh_jobs.specs.Judgement.{audit_refusal, judgement, refused_or, verdict_answer}
+use Rattle.slh_jobs.specs.declared.job.Answer.{Answer}
+use Rattle.slh_jobs.specs.declared.job.Error.{Error}
+use Rattle.slh_jobs.specs.declared.job.Error.TheVariants as job
+use Rattle.slh_jobs.specs.declared.job.Job.TheVariants.{Audit, Check}
 use Rattle.slh_stream.specs.Verifying.{message_digest}
 use Rattle.slh_trees.proofs.Refusals.{first_none, no_cause, none_first, passed}
 use Rattle.slh_internal.specs.Checking.{signature_size}

@@ -4,12 +4,12 @@ use Rattle.std.specs.Prelude.{nat_lt, is_ok}
 use Rattle.slh_dsa.specs.declared.error.Error.{Error as KeyError}
 use Rattle.slh_dsa.specs.declared.error.Error.TheVariants as key
 use Rattle.slh_files.specs.Jobs.{accepted_by, signature_by}
-use Rattle.slh_run.specs.Errors.{error_of}
-use Rattle.slh_run.specs.Judgement.{refused_or}
-use Rattle.slh_run.specs.declared.job.Answer.{Answer}
-use Rattle.slh_run.specs.declared.job.Answer.TheVariants.{Accepted, Signature}
-use Rattle.slh_run.specs.declared.job.Error.{Error}
-use Rattle.slh_run.specs.declared.job.Error.TheVariants as job
+use Rattle.slh_jobs.specs.Errors.{error_of}
+use Rattle.slh_jobs.specs.Judgement.{refused_or}
+use Rattle.slh_jobs.specs.declared.job.Answer.{Answer}
+use Rattle.slh_jobs.specs.declared.job.Answer.TheVariants.{Accepted, Signature}
+use Rattle.slh_jobs.specs.declared.job.Error.{Error}
+use Rattle.slh_jobs.specs.declared.job.Error.TheVariants as job
 use Rattle.std.specs.Bool.{◌==◌}
 use Rattle.slh_trees.specs.Refusals.{RefusedExactly, context_refusal, first_refusal, length_refusal, message_refusal}
 

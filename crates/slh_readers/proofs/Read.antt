@@ -6,7 +6,7 @@ use Rattle.std.specs.Io.KnownBytes.{Consumes}
 use Rattle.slh_stream.proofs.Refused.{longer}
 use Rattle.slh_readers.specs.Reading.{Absorbs, AbsorbsAll, IsAll}
 use Rattle.slh_readers.specs.Terms.{Terms}
-use Rattle.slh_run.specs.declared.job.Error.TheVariants.{MessageTooLong}
+use Rattle.slh_jobs.specs.declared.job.Error.TheVariants.{MessageTooLong}
 use Rattle.slh_readers.specs.declared.error.ReadError.{ReadError}
 use Rattle.slh_readers.specs.declared.error.ReadError.TheVariants.{Read, Refused, Changed}
 

@@ -13,15 +13,15 @@ use Rattle.slh_stream.specs.Passes.{randomizer_for}
 use Rattle.slh_readers.proofs.Answered.{left_is_all}
 use Rattle.slh_readers.proofs.Causes.{begun, decided, fits, input_refused, key_cause, signature_is, signing_refused, too_long}
 use Rattle.slh_readers.specs.Answers.{EndsPass, IsSigned, IsSignedTwice, digest_answer, signing_answer}
-use Rattle.slh_run.specs.Errors.{error_of}
-use Rattle.slh_run.specs.Judgement.{answer_to}
+use Rattle.slh_jobs.specs.Errors.{error_of}
+use Rattle.slh_jobs.specs.Judgement.{answer_to}
 use Rattle.slh_readers.specs.Reading.{AbsorbsAll, IsAll}
 use Rattle.slh_readers.specs.Terms.{Terms}
 use Rattle.slh_readers.specs.declared.error.ReadError.{ReadError}
 use Rattle.slh_readers.specs.declared.error.ReadError.TheVariants.{Read, Refused, Changed}
-use Rattle.slh_run.specs.declared.job.Error.{Error}
-use Rattle.slh_run.specs.declared.job.Error.TheVariants as job
-use Rattle.slh_run.specs.declared.job.Job.TheVariants.{Sign}
+use Rattle.slh_jobs.specs.declared.job.Error.{Error}
+use Rattle.slh_jobs.specs.declared.job.Error.TheVariants as job
+use Rattle.slh_jobs.specs.declared.job.Job.TheVariants.{Sign}
 use Rattle.slh_trees.specs.Refusals.{context_refusal, first_refusal, message_refusal}
 use Rattle.slh_internal.specs.Signing.{signature_of}
 

@@ -7,11 +7,11 @@ use Rattle.slh_dsa.specs.declared.error.Error.{Error as KeyError}
 use Rattle.slh_dsa.specs.declared.error.Error.TheVariants as key
 use Rattle.slh_frames.specs.declared.frame.Mode.{Mode}
 use Rattle.slh_files.specs.Jobs.{accepted_by}
-use Rattle.slh_run.specs.Errors.{error_of}
-use Rattle.slh_run.specs.Judgement.{answer_to, judgement}
-use Rattle.slh_run.specs.declared.job.Error.{Error}
-use Rattle.slh_run.specs.declared.job.Error.TheVariants as job
-use Rattle.slh_run.specs.declared.job.Job.TheVariants.{Verify}
+use Rattle.slh_jobs.specs.Errors.{error_of}
+use Rattle.slh_jobs.specs.Judgement.{answer_to, judgement}
+use Rattle.slh_jobs.specs.declared.job.Error.{Error}
+use Rattle.slh_jobs.specs.declared.job.Error.TheVariants as job
+use Rattle.slh_jobs.specs.declared.job.Job.TheVariants.{Verify}
 use Rattle.slh_readers.proofs.Causes.{begun, decided, fits, key_cause, key_refused, size_cause, size_refused, too_long, verdict_is}
 use Rattle.slh_internal.specs.Checking.{signature_size}
 use Rattle.slh_trees.specs.Refusals.{RefusedExactly, context_refusal, message_refusal}

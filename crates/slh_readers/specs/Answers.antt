@@ -8,10 +8,10 @@ use Rattle.slh_frames.specs.declared.frame.Mode.TheVariants.{Pure, Sha256, Sha51
 use Rattle.slh_readers.specs.Reading.{IsAll}
 use Rattle.slh_readers.specs.declared.error.ReadError.{ReadError}
 use Rattle.slh_readers.specs.declared.error.ReadError.TheVariants.{Read, Refused, Changed}
-use Rattle.slh_run.specs.Judgement.{judgement}
-use Rattle.slh_run.specs.declared.job.Error.{Error}
-use Rattle.slh_run.specs.declared.job.Error.TheVariants.{Length, Memory}
-use Rattle.slh_run.specs.declared.job.Job.TheVariants.{Sign}
+use Rattle.slh_jobs.specs.Judgement.{judgement}
+use Rattle.slh_jobs.specs.declared.job.Error.{Error}
+use Rattle.slh_jobs.specs.declared.job.Error.TheVariants.{Length, Memory}
+use Rattle.slh_jobs.specs.declared.job.Job.TheVariants.{Sign}
 use Rattle.slh_stream.specs.Passes.{randomizer_for}
 use Rattle.slh_internal.specs.Signing.{signature_of}
 

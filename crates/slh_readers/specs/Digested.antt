@@ -8,8 +8,8 @@ use Rattle.slh_frames.specs.declared.frame.Mode.{Mode}
 use Rattle.slh_readers.specs.Reading.{IsAll}
 use Rattle.slh_readers.specs.declared.error.ReadError.{ReadError}
 use Rattle.slh_readers.specs.declared.error.ReadError.TheVariants.{Read, Refused, Changed}
-use Rattle.slh_run.specs.Errors.{error_of}
-use Rattle.slh_run.specs.Judgement.{audit_refusal}
+use Rattle.slh_jobs.specs.Errors.{error_of}
+use Rattle.slh_jobs.specs.Judgement.{audit_refusal}
 
 -- The digest of some bytes is written, which are all that the reader had, where that is known, and
 -- which no size refuses; or they are refused for the first size that does. Of a fault of the reader

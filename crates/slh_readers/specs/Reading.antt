@@ -5,8 +5,8 @@ use Rattle.std.specs.Io.KnownBytes.{Consumes, IsAtEnd}
 use Rattle.slh_readers.specs.Terms.{Terms}
 use Rattle.slh_readers.specs.declared.error.ReadError.{ReadError}
 use Rattle.slh_readers.specs.declared.error.ReadError.TheVariants.{Read, Refused, Changed}
-use Rattle.slh_run.specs.declared.job.Error.{Error}
-use Rattle.slh_run.specs.declared.job.Error.TheVariants.{MessageTooLong}
+use Rattle.slh_jobs.specs.declared.job.Error.{Error}
+use Rattle.slh_jobs.specs.declared.job.Error.TheVariants.{MessageTooLong}
 use Rattle.slh_trees.specs.Refusals.{message_refusal}
 
 -- bytes are all that was left, where that is known

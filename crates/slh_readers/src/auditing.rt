@@ -3,8 +3,8 @@ ghost use Rattle.std.specs.Prelude.{◌≡◌, length};
 ghost use Rattle.slh_files.specs.Jobs.{shown_by, verdict_by};
 ghost use Rattle.slh_readers.specs.Answers.{IsAnswer};
 ghost use Rattle.slh_readers.specs.Digested.{IsDigested};
-ghost use Rattle.slh_run.specs.Judgement.{judgement};
-ghost use Rattle.slh_run.specs.declared.job.Job.TheVariants.{Audit, Check};
+ghost use Rattle.slh_jobs.specs.Judgement.{judgement};
+ghost use Rattle.slh_jobs.specs.declared.job.Job.TheVariants.{Audit, Check};
 ghost use Rattle.slh_sets.specs.Sets.{scheme_for};
 
 use crate::error::ReadError;

@@ -1,11 +1,11 @@
 //! Why what a reader gives isn't signed, verified or audited.
 ghost use Rattle.std.specs.Prelude.{◌≡◌};
 ghost use Rattle.slh_readers.specs.declared.error.ReadError.TheVariants.{Read, Refused};
-ghost use Rattle.slh_run.specs.Errors.{audit_error_of, error_of};
-ghost use Rattle.slh_run.specs.declared.job.Error.TheVariants.{Memory};
+ghost use Rattle.slh_jobs.specs.Errors.{audit_error_of, error_of};
+ghost use Rattle.slh_jobs.specs.declared.job.Error.TheVariants.{Memory};
 
 use slh_audit::AuditError;
-use slh_run::Error;
+use slh_jobs::Error;
 use std::alloc::AllocError;
 use std::io;
 
@@ -14,7 +14,7 @@ use std::io;
 pub enum ReadError {
     /// The reader failed.
     Read(io::Error),
-    /// The job was refused, for the first cause in the order of `slh_run::Error`.
+    /// The job was refused, for the first cause in the order of `slh_jobs::Error`.
     Refused(Error),
     /// The second reader gave other bytes than the first.
     Changed,

@@ -4,12 +4,12 @@
 //! [`check_evidence`] read them once.
 //! [`sign_twice`], for the mode in which the message itself is signed, reads them twice, by two
 //! readers, and signs what the second one gives; where that isn't what the first one gave, it is
-//! refused as changed. What is answered is what `slh_run` answers to the job with these bytes:
+//! refused as changed. What is answered is what `slh_jobs` answers to the job with these bytes:
 //!
 //! ```
 //! use slh_files::Key;
 //! use slh_readers::{ReadError, sign_twice, verify};
-//! use slh_run::{ByteString, Mode};
+//! use slh_jobs::{ByteString, Mode};
 //! use std::alloc::Global;
 //!
 //! fn signed(alloc: Global, key: &Key, file: &[u8]) -> Result<ByteString, ReadError> {

@@ -5,7 +5,7 @@ ghost use Rattle.slh_frames.specs.Frames.{mode_frame};
 ghost use Rattle.slh_frames.specs.declared.frame.Mode.{Mode as SigningMode};
 ghost use Rattle.slh_readers.specs.Answers.{EndsPass, IsSigned, IsSignedTwice, digest_answer};
 ghost use Rattle.slh_readers.specs.declared.error.ReadError.TheVariants.{Refused};
-ghost use Rattle.slh_run.specs.declared.job.Error.TheVariants.{Memory};
+ghost use Rattle.slh_jobs.specs.declared.job.Error.TheVariants.{Memory};
 ghost use Rattle.slh_sets.specs.Sets.{scheme_for};
 ghost use Rattle.slh_internal.specs.Signing.{signature_of};
 
@@ -14,7 +14,7 @@ use crate::reading::absorb_all;
 use hybrid_array::ArraySize;
 use slh_dsa::{Mode, SigningKey};
 use slh_files::Key;
-use slh_run::ByteString;
+use slh_jobs::ByteString;
 use slh_sets::{OnSet, SetSuite};
 use slh_stream::{DigestSigner, Digesting, FirstPass, PassError, Passing, SecondPass};
 use std::alloc::Global;

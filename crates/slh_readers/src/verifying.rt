@@ -2,8 +2,8 @@
 ghost use Rattle.std.specs.Prelude.{◌≡◌};
 ghost use Rattle.slh_files.specs.Jobs.{accepted_by};
 ghost use Rattle.slh_readers.specs.Answers.{IsAnswer};
-ghost use Rattle.slh_run.specs.Judgement.{judgement};
-ghost use Rattle.slh_run.specs.declared.job.Job.TheVariants.{Verify};
+ghost use Rattle.slh_jobs.specs.Judgement.{judgement};
+ghost use Rattle.slh_jobs.specs.declared.job.Job.TheVariants.{Verify};
 ghost use Rattle.slh_sets.specs.Sets.{scheme_for};
 
 use crate::error::ReadError;

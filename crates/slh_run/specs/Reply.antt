@@ -6,14 +6,14 @@ use Rattle.slh_audit.specs.declared.evidence.Verdict.{Verdict}
 use Rattle.slh_audit.specs.declared.evidence.Verdict.TheVariants.{Genuine, Foreign}
 use Rattle.slh_line.specs.Readings.{and_then}
 use Rattle.slh_line.specs.Replies.{Answers, reply_by}
-use Rattle.slh_run.specs.EvidenceWords.{evidence_text}
-use Rattle.slh_run.specs.Judgement.{judgement}
+use Rattle.slh_jobs.specs.EvidenceWords.{evidence_text}
+use Rattle.slh_jobs.specs.Judgement.{judgement}
 use Rattle.slh_run.specs.Requests.{job_at}
-use Rattle.slh_run.specs.declared.job.Answer.{Answer}
-use Rattle.slh_run.specs.declared.job.Answer.TheVariants.{Key, Signature, Accepted, Shown}
-use Rattle.slh_run.specs.declared.job.Answer.TheVariants.{Verdict as VerdictAnswer}
-use Rattle.slh_run.specs.declared.job.Error.{Error}
-use Rattle.slh_run.specs.declared.job.Error.TheVariants as error
+use Rattle.slh_jobs.specs.declared.job.Answer.{Answer}
+use Rattle.slh_jobs.specs.declared.job.Answer.TheVariants.{Key, Signature, Accepted, Shown}
+use Rattle.slh_jobs.specs.declared.job.Answer.TheVariants.{Verdict as VerdictAnswer}
+use Rattle.slh_jobs.specs.declared.job.Error.{Error}
+use Rattle.slh_jobs.specs.declared.job.Error.TheVariants as error
 
 -- the verifying key is the last half of a signing key
 abbrev pub key_text : List ℕ → List ℕ

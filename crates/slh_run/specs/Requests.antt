@@ -7,9 +7,9 @@ use Rattle.slh_frames.specs.declared.frame.Mode.TheVariants.{Pure, Sha256, Sha51
 use Rattle.slh_line.specs.Readings.{and_then, bytes_at, randomizer_at, some_or_fields}
 use Rattle.slh_line.specs.declared.line_error.LineError.{LineError}
 use Rattle.slh_line.specs.declared.line_error.LineError.TheVariants as line_error
-use Rattle.slh_run.specs.EvidenceWords.{evidence_in}
-use Rattle.slh_run.specs.declared.job.Job.{Job}
-use Rattle.slh_run.specs.declared.job.Job.TheVariants as job
+use Rattle.slh_jobs.specs.EvidenceWords.{evidence_in}
+use Rattle.slh_jobs.specs.declared.job.Job.{Job}
+use Rattle.slh_jobs.specs.declared.job.Job.TheVariants as job
 use Rattle.slh_run.specs.declared.request.Command.{Command}
 use Rattle.slh_run.specs.declared.request.Command.TheVariants.{Keygen, Sign, Verify, Audit, Check}
 use Rattle.slh_run.specs.declared.request.KeyedMessage.{KeyedMessage}

@@ -1,7 +1,8 @@
-//! Jobs of SLH-DSA, and the program that answers them line by line (docs/LINES.md).
+//! The program that answers jobs of SLH-DSA line by line (docs/LINES.md).
 //!
-//! [`run`] answers one [`Job`], and [`serve`] the job lines of a whole source. The ends of the
-//! program and the engine for lines are those of `line_serve`, handed on by name.
+//! [`serve`] answers the job lines of a whole source. What a [`Job`] is and how [`run`] answers it
+//! stands in `slh_jobs`; that, and the ends and the engine for lines of `line_serve`, are handed on
+//! by name.
 //!
 //! The status of a run over some lines, and the replies. The test `example_of_the_page_of_lines` of
 //! `slh_tests` runs this on a line that asks for a key, `SLH-DSA-SHA2-128f keygen` and three
@@ -22,23 +23,13 @@
 //!
 //! The second argument of `MemSource::new` and `MemSink::new` lists the calls that are to fail;
 //! here none. A line that isn't answered has a reply of `error` and the cause, and the run goes on.
-//! The status is 0 where each line has its reply; [`serve`] has the others. A [`Job`] is refused
-//! for the first cause in the order of [`Error`].
+//! The status is 0 where each line has its reply; [`serve`] has the others.
 #![tactic(auto)]
 
-mod bench;
-pub mod clones;
-mod evidence;
-mod job;
-mod judge;
-pub mod laws;
 mod program;
 mod reply;
 mod request;
 
-pub use evidence::{push_evidence, read_evidence};
-pub use job::{Answer, Error, Job};
-pub use judge::run;
 pub use line_serve::{
     ByteString, Failed, MemSink, MemSource, NullSink, QuietSource, Replier, Sink, Source, Words,
     count_fields, cut_fields, field, hex_field, serve_lines, write_all,
@@ -46,4 +37,5 @@ pub use line_serve::{
 pub use program::serve;
 pub use slh_audit::{Evidence, Verdict};
 pub use slh_dsa::Mode;
+pub use slh_jobs::{Answer, Error, Job, push_evidence, read_evidence, run};
 pub use slh_sets::Set;

@@ -1,18 +1,16 @@
 //! The replies to job lines.
 ghost use Rattle.std.specs.Prelude.{◌≡◌, ◌⊎◌, Ok, Err, IfOk};
 ghost use Rattle.slh_line.specs.declared.line_error.LineError.TheVariants.{Memory};
-ghost use Rattle.slh_run.specs.Judgement.{judgement};
+ghost use Rattle.slh_jobs.specs.Judgement.{judgement};
 ghost use Rattle.slh_run.specs.Reply.{answer_text, error_text, job_answers, key_text};
 ghost use Rattle.slh_run.specs.Reply.{signature_text, verdict_text};
 ghost use Rattle.slh_audit.specs.declared.evidence.Verdict.TheVariants.{Foreign};
 
-use crate::evidence::push_evidence;
-use crate::job::{Answer, Error, Job};
-use crate::judge::run_set;
 use crate::request::read_job;
 use line_serve::{ByteString, push_hex, push_hex_line};
 use slh_audit::{Evidence, Verdict};
 use slh_dsa::ParameterSet;
+use slh_jobs::{Answer, Error, Job, push_evidence, run_set};
 use slh_line::{Commands, LineError};
 use std::alloc::{AllocError, Global};
 
@@ -50,20 +48,18 @@ fn foreign_line(alloc: Global, evidence: Evidence) -> Result<ByteString, AllocEr
     Ok(text)
 }
 
-impl Error {
-    // The reply that names the refusal. `Memory` has none: it ends a run.
-    fn text(self) -> &'static [u8]
-        ensures { result.now ≡ error_text self }
-    {
-        match self {
-            Error::Length => b"error length\n",
-            Error::ContextTooLong => b"error context\n",
-            Error::RandomizerLength => b"error randomizer\n",
-            Error::MessageTooLong => b"error message\n",
-            Error::KeyMismatch => b"error key\n",
-            Error::Invalid => b"error invalid\n",
-            Error::Memory => b"",
-        }
+// The reply that names a refusal. `Memory` has none: it ends a run.
+fn refusal_line(error: Error) -> &'static [u8]
+    ensures { result.now ≡ error_text error }
+{
+    match error {
+        Error::Length => b"error length\n",
+        Error::ContextTooLong => b"error context\n",
+        Error::RandomizerLength => b"error randomizer\n",
+        Error::MessageTooLong => b"error message\n",
+        Error::KeyMismatch => b"error key\n",
+        Error::Invalid => b"error invalid\n",
+        Error::Memory => b"",
     }
 }
 
@@ -88,7 +84,7 @@ fn job_line<P: ParameterSet>(alloc: Global, job: &Job) -> Result<ByteString, Lin
     match run_set::<P>(alloc, job) {
         Ok(answer) => Ok(answer_line(alloc, answer)?),
         Err(Error::Memory) => Err(LineError::Memory),
-        Err(refusal) => Ok(ByteString::from_slice(alloc, refusal.text())?),
+        Err(refusal) => Ok(ByteString::from_slice(alloc, refusal_line(refusal))?),
     }
 }
 

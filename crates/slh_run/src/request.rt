@@ -2,16 +2,15 @@
 ghost use Rattle.std.specs.Prelude.{◌≡◌, ◌⊎◌, Err, drop};
 ghost use Rattle.line_serve.specs.Fields.{contents};
 ghost use Rattle.slh_line.specs.declared.line_error.LineError.TheVariants.{Memory};
-ghost use Rattle.slh_run.specs.EvidenceWords.{evidence_in};
+ghost use Rattle.slh_jobs.specs.EvidenceWords.{evidence_in};
 ghost use Rattle.slh_run.specs.Requests.{command_named, job_at, job_of, keyed_message_of};
 ghost use Rattle.slh_run.specs.declared.request.Command.TheVariants.{Keygen, Sign, Verify, Audit};
 ghost use Rattle.slh_run.specs.declared.request.Command.TheVariants.{Check};
 
-use crate::evidence::read_evidence;
-use crate::job::Job;
 use line_serve::{ByteString, field_at};
 use slh_audit::Evidence;
 use slh_dsa::Mode;
+use slh_jobs::{Job, read_evidence};
 use slh_line::{LineError, bytes_at, randomizer_at};
 use std::alloc::Global;
 

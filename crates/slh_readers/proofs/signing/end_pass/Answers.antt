@@ -2,7 +2,7 @@ use Rattle.std.proofs.Common.{◌≡◌, length, rules}
 use Rattle.slh_readers.proofs.Passed.{other_rand, same_rand}
 use Rattle.slh_readers.proofs.signing.end_pass.Goals as goal
 use Rattle.slh_readers.specs.Answers.{EndsPass}
-use Rattle.slh_run.proofs.Signed.{written}
+use Rattle.slh_jobs.proofs.Signed.{written}
 use Rattle.slh_internal.specs.Checking.{signature_size}
 
 pub returns-in-Ok : goal.returns-in-Ok

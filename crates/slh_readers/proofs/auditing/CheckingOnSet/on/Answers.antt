@@ -2,8 +2,8 @@ use Rattle.std.proofs.Common.{[], refl}
 use Rattle.slh_files.specs.Jobs.{shown_by}
 use Rattle.slh_readers.proofs.Audits.{checked, not_checked, undigested}
 use Rattle.slh_readers.proofs.auditing.CheckingOnSet.on.Goals as goal
-use Rattle.slh_run.specs.Judgement.{answer_to}
-use Rattle.slh_run.specs.declared.job.Job.TheVariants.{Check}
+use Rattle.slh_jobs.specs.Judgement.{answer_to}
+use Rattle.slh_jobs.specs.declared.job.Job.TheVariants.{Check}
 
 pub returns-in_err-digest_read : goal.returns-in_err-digest_read
 returns-in_err-digest_read g c =

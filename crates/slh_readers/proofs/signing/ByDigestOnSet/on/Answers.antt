@@ -5,7 +5,7 @@ use Rattle.slh_readers.proofs.Answered.{absorbed, refused_before, refused_within
 use Rattle.slh_readers.proofs.Handing.{if_ok}
 use Rattle.slh_readers.proofs.Signatures.{digest_ended, long_digest, no_digest, no_digest_key}
 use Rattle.slh_readers.proofs.signing.ByDigestOnSet.on.Goals as goal
-use Rattle.slh_run.specs.Errors.{error_of}
+use Rattle.slh_jobs.specs.Errors.{error_of}
 use Rattle.slh_readers.specs.Terms.{Terms}
 use Rattle.slh_internal.specs.Signing.{signature_of}
 

@@ -6,7 +6,7 @@ use Rattle.slh_readers.proofs.Answered.{absorbed}
 use Rattle.slh_readers.proofs.Signatures.{no_key, not_begun, not_ended, pass_ended, pass_refused, twice_refused}
 use Rattle.slh_readers.proofs.signing.ByPassesOnSet.on.Goals as goal
 use Rattle.slh_readers.specs.Answers.{IsSignedTwice}
-use Rattle.slh_run.specs.Errors.{error_of}
+use Rattle.slh_jobs.specs.Errors.{error_of}
 use Rattle.slh_readers.specs.Terms.{Terms}
 
 pub returns-in_err-key : goal.returns-in_err-key

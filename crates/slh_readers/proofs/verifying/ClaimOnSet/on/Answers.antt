@@ -3,7 +3,7 @@ use Rattle.slh_dsa.specs.Calls.{hash_verify_error}
 use Rattle.slh_readers.proofs.Answered.{absorbed, refused_before, refused_within}
 use Rattle.slh_readers.proofs.Verdicts.{ended, no_key, not_begun, not_ended}
 use Rattle.slh_readers.proofs.verifying.ClaimOnSet.on.Goals as goal
-use Rattle.slh_run.specs.Errors.{error_of}
+use Rattle.slh_jobs.specs.Errors.{error_of}
 use Rattle.slh_readers.specs.Terms.{Terms}
 use Rattle.slh_trees.specs.Refusals.{RefusedExactly}
 

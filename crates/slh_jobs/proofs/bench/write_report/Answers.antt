@@ -1,8 +1,8 @@
 use Rattle.std.proofs.Common.{refl}
 use Rattle.std.proofs.lemmas.Result.{err_from_is_err_and}
 use Rattle.line_serve.proofs.Runs.{takes_after}
-use Rattle.slh_run.proofs.Reports.{front_taken}
-use Rattle.slh_run.proofs.bench.write_report.Goals as goal
+use Rattle.slh_jobs.proofs.Reports.{front_taken}
+use Rattle.slh_jobs.proofs.bench.write_report.Goals as goal
 
 pub returns-in_err-write_head-clause-bytes : goal.returns-in_err-write_head-clause-bytes
 returns-in_err-write_head-clause-bytes g c =

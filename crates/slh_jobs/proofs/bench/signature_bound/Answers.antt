@@ -1,5 +1,5 @@
-use Rattle.slh_run.proofs.Signing.{signature_small}
-use Rattle.slh_run.proofs.bench.signature_bound.Goals as goal
+use Rattle.slh_jobs.proofs.Signing.{signature_small}
+use Rattle.slh_jobs.proofs.bench.signature_bound.Goals as goal
 
 pub returns : goal.returns
 returns g c =

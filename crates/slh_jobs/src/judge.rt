@@ -1,9 +1,9 @@
 //! Answers single jobs.
 ghost use Rattle.std.specs.Prelude.{◌≡◌};
-ghost use Rattle.slh_run.specs.Errors.{audit_error_of, error_of};
-ghost use Rattle.slh_run.specs.Judgement.{IsJudged, NeedsMemory, judgement};
+ghost use Rattle.slh_jobs.specs.Errors.{audit_error_of, error_of};
+ghost use Rattle.slh_jobs.specs.Judgement.{IsJudged, NeedsMemory, judgement};
 ghost use Rattle.slh_sets.specs.Sets.{scheme_for};
-ghost use Rattle.slh_run.specs.declared.job.Job.TheVariants.{Keygen, Sign, Verify, Audit, Check};
+ghost use Rattle.slh_jobs.specs.declared.job.Job.TheVariants.{Keygen, Sign, Verify, Audit, Check};
 
 use crate::job::{Answer, Error, Job};
 use hybrid_array::ArraySize;
@@ -45,7 +45,7 @@ impl From<AuditError> for Error {
 }
 
 impl From<AllocError> for Error {
-    ghost use Rattle.slh_run.specs.declared.job.Error.TheVariants.{Memory};
+    ghost use Rattle.slh_jobs.specs.declared.job.Error.TheVariants.{Memory};
 
     ghost from_gives = { λ _ e. e ≡ Memory };
 
@@ -174,8 +174,8 @@ fn judge<P: ParameterSet>(job: &Job) -> Result<Answer, Error>
     }
 }
 
-/// Answers a job in a parameter set.
-pub(crate) fn run_set<P: ParameterSet>(alloc: Global, job: &Job) -> Result<Answer, Error>
+/// Answers a job in a parameter set: what [`run`] answers in that which it is given.
+pub fn run_set<P: ParameterSet>(alloc: Global, job: &Job) -> Result<Answer, Error>
     ensures { IsJudged P.scheme job.now result }
 {
     match job {

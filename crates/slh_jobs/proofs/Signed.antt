@@ -5,9 +5,9 @@ use Rattle.slh_core.specs.Parameters.{Scheme}
 use Rattle.slh_dsa.specs.Calls.{sign_input_refusal, signing_key_refusal}
 use Rattle.slh_frames.specs.Frames.{mode_frame}
 use Rattle.slh_frames.specs.declared.frame.Mode.{Mode}
-use Rattle.slh_run.specs.Judgement.{IsJudged}
-use Rattle.slh_run.specs.declared.job.Answer.TheVariants.{Signature}
-use Rattle.slh_run.specs.declared.job.Job.TheVariants.{Sign}
+use Rattle.slh_jobs.specs.Judgement.{IsJudged}
+use Rattle.slh_jobs.specs.declared.job.Answer.TheVariants.{Signature}
+use Rattle.slh_jobs.specs.declared.job.Job.TheVariants.{Sign}
 use Rattle.slh_internal.specs.Signing.{signature_of}
 
 -- bytes that are written over whole are those that were written

@@ -3,8 +3,8 @@ ghost use Rattle.std.specs.Prelude.{◌≡◌, ◌++◌, length, OnOk};
 ghost use Rattle.line_serve.specs.Fields.{contents};
 ghost use Rattle.slh_evidence.specs.declared.evidence.Evidence.TheVariants.{ForsNode, ChainStep};
 ghost use Rattle.slh_evidence.specs.declared.evidence.Evidence.TheVariants.{Leaf, TreeNode, Early};
-ghost use Rattle.slh_run.specs.EvidenceWords.{evidence_in, evidence_text, spaced};
-ghost use Rattle.slh_run.specs.EvidenceWords.{one_number, two_numbers, three_numbers};
+ghost use Rattle.slh_jobs.specs.EvidenceWords.{evidence_in, evidence_text, spaced};
+ghost use Rattle.slh_jobs.specs.EvidenceWords.{one_number, two_numbers, three_numbers};
 
 use line_serve::{ByteString, field_at, number_at, push_number};
 use slh_audit::Evidence;

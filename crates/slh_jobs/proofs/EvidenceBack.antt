@@ -12,8 +12,8 @@ use Rattle.std.proofs.lemmas.List.Splits.{slice_split_at, slice_split_none}
 use Rattle.line_serve.proofs.NumbersBack.{AreDigits, decimal_digits, number_back}
 use Rattle.line_serve.specs.Decimals.{is_digit, number_value, read_digits}
 use Rattle.line_serve.specs.Fields.{fields, space}
-use Rattle.slh_run.specs.EvidenceNumbers.{HasNumbers}
-use Rattle.slh_run.specs.EvidenceWords.{evidence_in, evidence_text, spaced}
+use Rattle.slh_jobs.specs.EvidenceNumbers.{HasNumbers}
+use Rattle.slh_jobs.specs.EvidenceWords.{evidence_in, evidence_text, spaced}
 use Rattle.slh_evidence.specs.declared.evidence.Evidence.{Evidence}
 use Rattle.slh_evidence.specs.declared.evidence.Evidence.TheVariants.{ForsNode, ForsRoots, ChainStep, Leaf, TreeNode, Early}
 

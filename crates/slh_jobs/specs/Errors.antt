@@ -3,8 +3,8 @@ use Rattle.slh_audit.specs.declared.evidence.AuditError.{AuditError}
 use Rattle.slh_audit.specs.declared.evidence.AuditError.TheVariants as audit
 use Rattle.slh_dsa.specs.declared.error.Error.{Error as KeyError}
 use Rattle.slh_dsa.specs.declared.error.Error.TheVariants as key
-use Rattle.slh_run.specs.declared.job.Error.{Error}
-use Rattle.slh_run.specs.declared.job.Error.TheVariants as job
+use Rattle.slh_jobs.specs.declared.job.Error.{Error}
+use Rattle.slh_jobs.specs.declared.job.Error.TheVariants as job
 
 abbrev pub error_of : KeyError → Error
 error_of key.Length = job.Length

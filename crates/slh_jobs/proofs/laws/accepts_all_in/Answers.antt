@@ -1,7 +1,7 @@
 use Rattle.slh_core.specs.Parameters.{scheme_of}
 use Rattle.slh_frames.specs.declared.frame.Mode.TheVariants.{Pure}
-use Rattle.slh_run.proofs.Accepting.{accepts_all}
-use Rattle.slh_run.proofs.laws.accepts_all_in.Goals as goal
+use Rattle.slh_jobs.proofs.Accepting.{accepts_all}
+use Rattle.slh_jobs.proofs.laws.accepts_all_in.Goals as goal
 
 pub returns : goal.returns
 returns g c = λ prk count.

@@ -5,13 +5,13 @@ ghost use Rattle.sha256_lanes.specs.Sha256.{sha256};
 ghost use Rattle.line_serve.specs.Causes.{Rose};
 ghost use Rattle.line_serve.specs.Engine.{Takes};
 ghost use Rattle.line_serve.specs.Fields.{field_at};
-ghost use Rattle.slh_run.specs.Bench.{TellsBench, accepted_count, bench_accepts, bench_count};
-ghost use Rattle.slh_run.specs.Bench.{bench_key as spec_bench_key, bench_message};
-ghost use Rattle.slh_run.specs.Bench.{bench_of, bench_prk as spec_bench_prk, bench_signature};
-ghost use Rattle.slh_run.specs.Bench.{bench_signatures, counts_line, digest_line, head_line};
-ghost use Rattle.slh_run.specs.Bench.{bench_report, message_size, outcome_lines};
+ghost use Rattle.slh_jobs.specs.Bench.{TellsBench, accepted_count, bench_accepts, bench_count};
+ghost use Rattle.slh_jobs.specs.Bench.{bench_key as spec_bench_key, bench_message};
+ghost use Rattle.slh_jobs.specs.Bench.{bench_of, bench_prk as spec_bench_prk, bench_signature};
+ghost use Rattle.slh_jobs.specs.Bench.{bench_signatures, counts_line, digest_line, head_line};
+ghost use Rattle.slh_jobs.specs.Bench.{bench_report, message_size, outcome_lines};
 ghost use Rattle.slh_sets.specs.Sets.{scheme_for};
-ghost use Rattle.slh_run.specs.declared.bench.Stop.TheVariants.{NoMemory, SinkFault};
+ghost use Rattle.slh_jobs.specs.declared.bench.Stop.TheVariants.{NoMemory, SinkFault};
 ghost use Rattle.slh_internal.specs.Checking.{signature_size};
 
 use hmac_sha256::{HKDF, Hash};
@@ -33,10 +33,13 @@ const MAX_SEEDS: usize = 96;
 
 /// What the words of a bench ask for.
 #[derive(Clone, Copy, Debug, PartialEq, Eq)]
-pub(crate) struct Bench {
-    pub(crate) set: Set,
-    pub(crate) number: u64,
-    pub(crate) count: u32,
+pub struct Bench {
+    /// The parameter set.
+    pub set: Set,
+    /// What the key and the messages are derived from.
+    pub number: u64,
+    /// How many messages are signed, 1 to 64 where words ask for them.
+    pub count: u32,
 }
 
 // Why a report wasn't written to its end.
@@ -84,7 +87,7 @@ fn read_count(word: &[u8]) -> Option<u32>
 }
 
 /// What the words ask for, where they are those of a bench.
-pub(crate) fn read_bench(words: &Words) -> Option<Bench>
+pub fn read_bench(words: &Words) -> Option<Bench>
     ensures value { result ≡ bench_of words.now }
     ensures few { IfSome result (λ bench. bench.count ≤ 64) }
 {
@@ -292,7 +295,7 @@ fn write_report<K: Sink>(alloc: Global, bench: Bench, sink: &mut K) -> Result<()
 
 /// Writes the report of a bench, and answers the status of the program: 0 where it was written, 4
 /// where the sink failed, and 6 where there was no memory.
-pub(crate) fn run_bench<K: Sink>(alloc: Global, bench: Bench, sink: &mut K) -> u8
+pub fn run_bench<K: Sink>(alloc: Global, bench: Bench, sink: &mut K) -> u8
     requires few { bench.count ≤ 64 }
     ensures told { TellsBench (K.taken sink.old) (K.taken sink.new) result bench }
     ensures cause { result ≡ 4 → Rose (K.faults sink.old) (K.faults sink.new) }

@@ -1,11 +1,11 @@
 use Rattle.std.proofs.Common.{◌*◌, ◌^◌, ◌≤◌, refl, arith, true, false}
 use Rattle.std.proofs.lemmas.Nat.{mul-le}
 use Rattle.slh_core.specs.Bytes.{joined}
-use Rattle.slh_run.specs.Bench.{accepted_count}
-use Rattle.slh_run.proofs.Signing.{counted_more, hashed_more}
+use Rattle.slh_jobs.specs.Bench.{accepted_count}
+use Rattle.slh_jobs.proofs.Signing.{counted_more, hashed_more}
 use Rattle.slh_internal.specs.Checking.{signature_size}
-use Rattle.slh_run.proofs.bench.sign_all.Goals as goal
-use Rattle.slh_run.proofs.bench.sign_all.Goals.{then-sign_one, else-sign_one}
+use Rattle.slh_jobs.proofs.bench.sign_all.Goals as goal
+use Rattle.slh_jobs.proofs.bench.sign_all.Goals.{then-sign_one, else-sign_one}
 
 pub loop-i-init : goal.loop-i-init
 unfolding joined accepted_count

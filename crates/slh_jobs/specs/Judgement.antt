@@ -13,14 +13,14 @@ use Rattle.slh_audit.specs.Verdicts.{message_audit}
 use Rattle.slh_audit.specs.declared.evidence.AuditError.{AuditError}
 use Rattle.slh_audit.specs.declared.evidence.Verdict.{Verdict}
 use Rattle.slh_dsa.specs.declared.error.Error.{Error as KeyError}
-use Rattle.slh_run.specs.Errors.{audit_error_of, error_of}
-use Rattle.slh_run.specs.declared.job.Job.{Job}
-use Rattle.slh_run.specs.declared.job.Job.TheVariants.{Keygen, Sign, Verify, Audit, Check}
-use Rattle.slh_run.specs.declared.job.Answer.{Answer}
-use Rattle.slh_run.specs.declared.job.Answer.TheVariants.{Key, Signature, Accepted, Shown}
-use Rattle.slh_run.specs.declared.job.Answer.TheVariants.{Verdict as VerdictAnswer}
-use Rattle.slh_run.specs.declared.job.Error.{Error}
-use Rattle.slh_run.specs.declared.job.Error.TheVariants.{Invalid, Memory}
+use Rattle.slh_jobs.specs.Errors.{audit_error_of, error_of}
+use Rattle.slh_jobs.specs.declared.job.Job.{Job}
+use Rattle.slh_jobs.specs.declared.job.Job.TheVariants.{Keygen, Sign, Verify, Audit, Check}
+use Rattle.slh_jobs.specs.declared.job.Answer.{Answer}
+use Rattle.slh_jobs.specs.declared.job.Answer.TheVariants.{Key, Signature, Accepted, Shown}
+use Rattle.slh_jobs.specs.declared.job.Answer.TheVariants.{Verdict as VerdictAnswer}
+use Rattle.slh_jobs.specs.declared.job.Error.{Error}
+use Rattle.slh_jobs.specs.declared.job.Error.TheVariants.{Invalid, Memory}
 
 -- the first refusal that the sizes of what is audited or checked give
 abbrev pub audit_refusal : Scheme → List ℕ → List ℕ → List ℕ → List ℕ → Option KeyError

@@ -1,6 +1,6 @@
 use Rattle.std.proofs.Common.{◌≡◌, length, rules}
-use Rattle.slh_run.proofs.Signed.{signed_is_judged, written}
-use Rattle.slh_run.proofs.judge.sign.Goals as goal
+use Rattle.slh_jobs.proofs.Signed.{signed_is_judged, written}
+use Rattle.slh_jobs.proofs.judge.sign.Goals as goal
 
 pub returns : goal.returns
 returns g c =

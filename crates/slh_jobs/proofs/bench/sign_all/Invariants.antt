@@ -1,8 +1,8 @@
 use Rattle.std.proofs.Common.{◌≡◌, ◌*◌, ◌≤◌}
 use Rattle.hmac_sha256.specs.Hash.{StandsFor, absorbed_bytes}
-use Rattle.slh_run.specs.Bench.{accepted_count, bench_signatures}
+use Rattle.slh_jobs.specs.Bench.{accepted_count, bench_signatures}
 use Rattle.slh_internal.specs.Checking.{signature_size}
-use Rattle.slh_run.proofs.bench.sign_all.Given as goal
+use Rattle.slh_jobs.proofs.bench.sign_all.Given as goal
 
 -- the signatures so far are hashed, and those that are accepted are counted
 abbrev pub invariant-loop-i : goal.invariant-loop-i

@@ -2,9 +2,9 @@
 ghost use Rattle.std.specs.Prelude.{◌≡◌, ℕ, List, Some};
 ghost use Rattle.line_serve.specs.Fields.{fields};
 ghost use Rattle.slh_evidence.specs.declared.evidence.Evidence.{Evidence};
-ghost use Rattle.slh_run.specs.Bench.{accepted_count};
-ghost use Rattle.slh_run.specs.EvidenceNumbers.{HasNumbers};
-ghost use Rattle.slh_run.specs.EvidenceWords.{evidence_in, evidence_text};
+ghost use Rattle.slh_jobs.specs.Bench.{accepted_count};
+ghost use Rattle.slh_jobs.specs.EvidenceNumbers.{HasNumbers};
+ghost use Rattle.slh_jobs.specs.EvidenceWords.{evidence_in, evidence_text};
 ghost use Rattle.slh_sets.specs.Sets.{scheme_for};
 
 use slh_dsa::ParameterSet;

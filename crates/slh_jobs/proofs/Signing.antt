@@ -8,7 +8,7 @@ use Rattle.slh_core.specs.Bytes.{joined}
 use Rattle.slh_core.specs.Parameters.{Scheme, chain_count}
 use Rattle.slh_trees.specs.Checking.{forest_size}
 use Rattle.slh_trees.specs.Hypertree.{layer_size}
-use Rattle.slh_run.specs.Bench.{accepted_count, bench_accepts, bench_signature, bench_signatures}
+use Rattle.slh_jobs.specs.Bench.{accepted_count, bench_accepts, bench_signature, bench_signatures}
 
 -- no signature has more bytes
 pub signature_small : (n hp d a k : ℕ) → n ≤ 32 → hp ≤ 31 → d ≤ 65 → a ≤ 16 → k ≤ 64 → n + forest_size n k a + d * layer_size n hp ≤ 2 ^ 18

@@ -18,7 +18,7 @@ use Rattle.slh_internal.specs.Signing.{signature_of}
 use Rattle.slh_dsa.specs.Calls.{is_valid}
 use Rattle.slh_frames.specs.declared.frame.Mode.TheVariants.{Pure}
 use Rattle.slh_sets.specs.Sets.{name_of, scheme_for, set_named}
-use Rattle.slh_run.specs.declared.bench.Bench.{Bench}
+use Rattle.slh_jobs.specs.declared.bench.Bench.{Bench}
 
 -- NUMBER is 1 to 20 decimal digits with a value below 2^64
 abbrev pub bench_number : List ℕ → Option ℕ

@@ -19,7 +19,7 @@ use Rattle.slh_trees.specs.Xmss.{tree_place}
 use Rattle.slh_dsa.specs.Calls.{verify_error}
 use Rattle.slh_dsa.specs.declared.error.Error.{Error}
 use Rattle.slh_dsa.specs.declared.error.Error.TheVariants.{Invalid}
-use Rattle.slh_run.specs.Bench.{accepted_count, bench_accepts, bench_key, bench_message, bench_seeds, message_size}
+use Rattle.slh_jobs.specs.Bench.{accepted_count, bench_accepts, bench_key, bench_message, bench_seeds, message_size}
 
 -- where nothing is refused the root is right
 right_root : (refusal : Option Error) (valid : Bool) → first_refusal (refusal ∷ (if valid then None else Some Invalid) ∷ []) ≡ None → valid ≡ true

@@ -1,0 +1,5 @@
+pub mod Judgement
+pub mod Errors
+pub mod EvidenceWords
+pub mod Bench
+pub mod EvidenceNumbers
