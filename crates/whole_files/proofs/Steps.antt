@@ -11,8 +11,8 @@ use Rattle.whole_files.specs.declared.error.Written.{Written}
 use Rattle.whole_files.specs.declared.error.WriteError.{WriteError}
 use Rattle.whole_files.specs.declared.error.WriteError.TheVariants.{NotRegular, Taken, Failed as NothingLeft, Left}
 use Rattle.whole_files.specs.Files.{Files, Node, Same, Puts, Makes, Changes, Appends, Syncs, longer, settled, new_node}
-use Rattle.whole_files.specs.Files.{Moves, Renames, Removes}
-use Rattle.whole_files.specs.Whole.{HasWhole, HasBegun, IsPlacing, IsPlaced, Fills, IsFilling, IsWriting, mode_of}
+use Rattle.whole_files.specs.Files.{Moves, Renames, Removes, Creates}
+use Rattle.whole_files.specs.Whole.{HasWhole, HasBegun, IsPlacing, IsPlaced, Fills, IsFilling, IsWriting, Places, mode_of}
 use Rattle.whole_files.specs.Whole.{TakesAway, Writes, IsWritten, IsWritable, IsMaking, IsMade, MakesNew}
 use Rattle.whole_files.specs.Files.{Links, Names}
 
@@ -158,6 +158,35 @@ torn_is_placing m a n path mode bytes makes torn =
         others = (made_then_changed m a n path mode (longer (take some.0 bytes)) makes some.1).others;
       }
     ]
+
+-- what the call that makes a file leaves
+pub create_is_placing : (m n : Files) (path : List ℕ) (mode : Mode) (bytes : List ℕ) (r : Result Bool Failed)
+    → Creates m path mode r n → IsPlacing m path mode bytes n
+create_is_placing m n path mode bytes (Ok true) makes = torn_is_placing m n n path mode bytes makes (inl (λ q. refl))
+create_is_placing m n path mode bytes (Ok false) same = record { beside = inl (same.0 path); others = λ q _. same.0 q }
+create_is_placing m n path mode bytes (Err e) same = record { beside = inl (same path); others = λ q _. same q }
+
+-- what the call leaves that takes away a file of which not all was written
+pub torn_removal_is_placing : (m a b n : Files) (path : List ℕ) (mode : Mode) (bytes : List ℕ) (r : Result (Unit {0}) Failed)
+    → Makes m path mode a → Same a b ⊎ ((count : ℕ) × Changes a path (longer (take count bytes)) b)
+    → Removes b path r n → IsPlacing m path mode bytes n
+torn_removal_is_placing m a b n path mode bytes (Ok u) makes torn puts = record {
+  beside = inl (puts.at ∙ sym makes.free);
+  others = λ q ne. puts.others q ne ∙ (torn_is_placing m a b path mode bytes makes torn).others q ne;
+}
+torn_removal_is_placing m a b n path mode bytes (Err e) makes torn same =
+    placing_same m b n path mode bytes (torn_is_placing m a b path mode bytes makes torn) same
+
+-- what is left then
+pub torn_removal_places : (m a b n : Files) (path : List ℕ) (mode : Mode) (bytes : List ℕ) (w : WriteError)
+    → Makes m path mode a → Same a b ⊎ ((count : ℕ) × Changes a path (longer (take count bytes)) b)
+    → TakesAway b path w n → Places m path mode bytes (Err w) n
+torn_removal_places m a b n path mode bytes NothingLeft makes torn puts =
+    λ q. at_each m n path q (puts.at ∙ sym makes.free) (λ ne. puts.others q ne ∙ (torn_is_placing m a b path mode bytes makes torn).others q ne)
+torn_removal_places m a b n path mode bytes Left makes torn same =
+    placing_same m b n path mode bytes (torn_is_placing m a b path mode bytes makes torn) same
+torn_removal_places m a b n path mode bytes NotRegular makes torn never = absurd never
+torn_removal_places m a b n path mode bytes Taken makes torn never = absurd never
 
 pub filling_is_placing : (m a n : Files) (path : List ℕ) (mode : Mode) (bytes : List ℕ)
     → Makes m path mode a → IsFilling a path bytes n → IsPlacing m path mode bytes n
