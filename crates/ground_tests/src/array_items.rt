@@ -1,5 +1,6 @@
 //! Arrays, on values worked by hand.
 
+use crate::texts::is_text;
 use hybrid_array::sizes::{U0, U2, U3, U4, U6};
 use hybrid_array::{
     Array, ArrayMut, ArrayN, ArraySize, Flatten, IterError, MakeError, SliceError,
@@ -13,8 +14,11 @@ fn array<U: ArraySize>(alloc: Global, items: &[u8]) -> Option<Array<u8, U>> {
     Array::from_vec(items.to_vec(alloc).ok()?).ok()
 }
 
-// Whether there is an array, and holds these items.
-fn holds<T: PartialEq + Drop, U: ArraySize>(made: Option<Array<T, U>>, items: &[T]) -> bool {
+/// Whether there is an array, and holds these items.
+pub(crate) fn holds<T: PartialEq + Drop, U: ArraySize>(
+    made: Option<Array<T, U>>,
+    items: &[T],
+) -> bool {
     match made {
         Some(array) => array.as_slice() == items,
         None => false,
@@ -141,10 +145,7 @@ fn an_iterator_is_asked_up_to_the_first_item_that_is_missing(rt: HostRuntime) {
 }
 
 fn prints(alloc: Global, expected: &str) -> bool {
-    match format!(in alloc; "{}", TryFromIteratorError) {
-        Ok(text) => text.as_str() == expected,
-        Err(_) => false,
-    }
+    is_text(format!(in alloc; "{}", TryFromIteratorError), expected)
 }
 
 #[test]

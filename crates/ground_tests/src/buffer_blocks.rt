@@ -2,6 +2,8 @@
 
 ghost use Rattle.std.specs.Prelude.{◌≡◌, ◌+◌, ◌<◌, ◌≤◌, length};
 
+use crate::array_items::holds;
+use crate::texts::is_text;
 use block_buffer::{
     BlockBuffer, BlockSink, BufferKind, Eager, EagerBuffer, Error, Lazy, LazyBuffer, Refused,
     VecSink,
@@ -103,10 +105,8 @@ fn a_lazy_buffer_keeps_a_full_block_until_more_bytes_come(rt: HostRuntime) {
 fn pads_to<K: BufferKind>(alloc: Global, held: &[u8], block: &[u8]) -> bool
     requires { length held.now < 4 + K.WAITING }
 {
-    match BlockBuffer::<U4, K>::new(held).pad_with_zeros(alloc) {
-        Ok(made) => made.as_slice() == block,
-        Err(_) => false,
-    }
+    let made = BlockBuffer::<U4, K>::new(held).pad_with_zeros(alloc);
+    holds(made.ok(), block)
 }
 
 // Whether a buffer of these bytes is this array.
@@ -114,10 +114,8 @@ fn is_serialized_as<K: BufferKind, S: ArraySize>(alloc: Global, held: &[u8], byt
     requires size { S.USIZE ≡ 4 + K.WAITING }
     requires len { length held.now < S.USIZE }
 {
-    match BlockBuffer::<U4, K>::new(held).serialize::<S>(alloc) {
-        Ok(made) => made.as_slice() == bytes,
-        Err(_) => false,
-    }
+    let made = BlockBuffer::<U4, K>::new(held).serialize::<S>(alloc);
+    holds(made.ok(), bytes)
 }
 
 #[test]
@@ -169,10 +167,7 @@ fn what_a_sink_took_is_whole_blocks_up_to_its_refusal(rt: HostRuntime) {
 }
 
 fn prints(alloc: Global, expected: &str) -> bool {
-    match format!(in alloc; "{Error}") {
-        Ok(text) => text.as_str() == expected,
-        Err(_) => false,
-    }
+    is_text(format!(in alloc; "{Error}"), expected)
 }
 
 #[test]

@@ -1,5 +1,6 @@
 //! Reading the blocks of a generator, on values worked by hand.
 
+use crate::array_items::holds;
 use block_buffer::{BlockGen, ReadBuffer};
 use hybrid_array::ArrayMut;
 use hybrid_array::sizes::U4;
@@ -37,10 +38,7 @@ fn with_two_unread() -> ReadBuffer<U4> {
 }
 
 fn is_serialized_as(alloc: Global, expected: &[u8]) -> bool {
-    match with_two_unread().serialize(alloc) {
-        Ok(bytes) => bytes.as_slice() == expected,
-        Err(_) => false,
-    }
+    holds(with_two_unread().serialize(alloc).ok(), expected)
 }
 
 #[test]

@@ -48,6 +48,8 @@ mod sha512_tails;
 #[cfg(test)]
 mod stdio_ends;
 #[cfg(test)]
+mod texts;
+#[cfg(test)]
 mod tiles_entries;
 #[cfg(test)]
 mod tiles_growing;

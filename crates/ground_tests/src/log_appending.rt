@@ -1,6 +1,7 @@
 //! A log of 255 entries that grows to 257, over files in memory: each call failing in turn, and
 //! everything stopping at each.
-use crate::whole_memory::NEVER;
+use crate::hexadecimal::is_hex;
+use crate::whole_memory::{NEVER, has};
 use log_files::{AppendError, Appending, LogFile, Piece, PublishError, are_separate, publish};
 use log_tiles::GrowingTiles;
 use merkle_tree::{Sha256, TreeHash};
@@ -108,29 +109,20 @@ fn is_settled(written: Result<Written, PublishError>) -> bool {
     written == Ok(Written::Settled)
 }
 
-fn has(files: &MemFiles, piece: &Piece<'_>) -> bool {
-    match files.bytes(piece.path) {
-        Some(found) => found == piece.bytes,
-        None => false,
-    }
-}
-
 fn has_all(files: &MemFiles, log: &[Piece<'_>]) -> bool {
     let mut all = true;
     for piece in log {
-        all = all && has(files, piece);
+        all = all && has(files, piece.path, piece.bytes);
     }
     all
 }
 
 fn is_known(piece: &Piece<'_>, row: &str) -> bool {
-    let mut digest = [0; 32];
     match row.split_once(' ') {
         Some((path, digits)) => {
-            hex::decode_to_slice(digits, &mut digest).is_ok()
-                && piece.path == path
+            piece.path == path
                 && piece.bytes.len() < 65_536
-                && Sha256::leaf(piece.bytes) == digest
+                && is_hex(digits, &Sha256::leaf(piece.bytes))
         }
         None => false,
     }

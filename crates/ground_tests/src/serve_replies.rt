@@ -167,10 +167,13 @@ fn thousand_lines(alloc: Global) -> Result<Vec<u8>, AllocError> {
     Ok(input)
 }
 
-// A source of a thousand lines of which these reads fail.
-fn source_failing(alloc: Global, fails: &[u64]) -> Result<MemSource, AllocError> {
-    let input = thousand_lines(alloc)?;
-    Ok(MemSource::new(input, fails.to_vec(alloc)?))
+// A number that no call has.
+const NEVER: u64 = u64::MAX;
+
+// A source of a thousand lines of which this read fails, and a sink of which this write does.
+fn ends_failing(alloc: Global, read: u64, write: u64) -> Result<(MemSource, MemSink), AllocError> {
+    let source = MemSource::new(thousand_lines(alloc)?, vec![in alloc; read]?);
+    Ok((source, MemSink::new(alloc, vec![in alloc; write]?)))
 }
 
 // Whether a run ends with this status, and has written so much of the whole.
@@ -189,52 +192,35 @@ fn ends_at(
         && whole.starts_with(sink.bytes())
 }
 
-fn ends_by_read(alloc: Global, whole: &[u8], call: u64, status: u8, length: usize) -> bool {
-    let sink = MemSink::new(alloc, Vec::new(alloc));
-    match source_failing(alloc, &[call]) {
-        Ok(source) => ends_at(alloc, source, sink, whole, status, length),
-        Err(_) => false,
-    }
-}
-
-fn ends_by_each_read(alloc: Global, whole: &[u8]) -> bool {
-    ends_by_read(alloc, whole, 0, 3, 0)
-        && ends_by_read(alloc, whole, 1, 3, 1755)
-        && ends_by_read(alloc, whole, 2, 3, 3000)
-        && ends_by_read(alloc, whole, 3, 0, 3000)
-}
-
-// A source of a thousand lines, and a sink of which one write fails.
-fn ends_failing(alloc: Global, call: u64) -> Result<(MemSource, MemSink), AllocError> {
-    let source = source_failing(alloc, &[])?;
-    Ok((source, MemSink::new(alloc, [call].to_vec(alloc)?)))
-}
-
-fn ends_by_write(alloc: Global, whole: &[u8], call: u64, status: u8, length: usize) -> bool {
-    match ends_failing(alloc, call) {
+fn ends_by(alloc: Global, whole: &[u8], read: u64, write: u64, status: u8, length: usize) -> bool {
+    match ends_failing(alloc, read, write) {
         Ok((source, sink)) => ends_at(alloc, source, sink, whole, status, length),
         Err(_) => false,
     }
 }
 
-fn ends_by_each_write(alloc: Global, whole: &[u8]) -> bool {
-    ends_by_write(alloc, whole, 0, 4, 0)
-        && ends_by_write(alloc, whole, 1, 4, 1755)
-        && ends_by_write(alloc, whole, 2, 0, 3000)
+fn ends_by_each(alloc: Global, whole: &[u8]) -> bool {
+    ends_by(alloc, whole, 0, NEVER, 3, 0)
+        && ends_by(alloc, whole, 1, NEVER, 3, 1755)
+        && ends_by(alloc, whole, 2, NEVER, 3, 3000)
+        && ends_by(alloc, whole, 3, NEVER, 0, 3000)
+        && ends_by(alloc, whole, NEVER, 0, 4, 0)
+        && ends_by(alloc, whole, NEVER, 1, 4, 1755)
+        && ends_by(alloc, whole, NEVER, 2, 0, 3000)
 }
 
 // Whether a run is whole where no call fails, and cut by each that does.
-fn is_cut_by_each_fault(alloc: Global, mut source: MemSource) -> bool {
-    let mut whole = MemSink::new(alloc, Vec::new(alloc));
+fn is_cut_by_each_fault(alloc: Global, source: MemSource, whole: MemSink) -> bool {
+    let mut source = source;
+    let mut whole = whole;
     serve_lines(alloc, &First, &mut source, &mut whole) == 0
         && whole.bytes().len() == 3000
-        && ends_by_each_read(alloc, whole.bytes())
-        && ends_by_each_write(alloc, whole.bytes())
+        && ends_by_each(alloc, whole.bytes())
 }
 
 fn is_cut_in_turn(alloc: Global) -> bool {
-    match source_failing(alloc, &[]) {
-        Ok(source) => is_cut_by_each_fault(alloc, source),
+    match ends_failing(alloc, NEVER, NEVER) {
+        Ok((source, whole)) => is_cut_by_each_fault(alloc, source, whole),
         Err(_) => false,
     }
 }

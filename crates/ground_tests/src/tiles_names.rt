@@ -1,3 +1,4 @@
+use crate::texts::is_text;
 use log_tiles::{Bundle, Tile, last_bundle, last_tile};
 use std::alloc::Global;
 
@@ -7,18 +8,11 @@ fn is_tile_at(alloc: Global, level: u32, index: u64, width: u32, path: &str) -> 
         index,
         width,
     };
-    match tile.path(alloc) {
-        Ok(text) => text.as_str() == path,
-        Err(_) => false,
-    }
+    is_text(tile.path(alloc), path)
 }
 
 fn is_bundle_at(alloc: Global, index: u64, width: u32, path: &str) -> bool {
-    let bundle = Bundle { index, width };
-    match bundle.path(alloc) {
-        Ok(text) => text.as_str() == path,
-        Err(_) => false,
-    }
+    is_text(Bundle { index, width }.path(alloc), path)
 }
 
 fn are_tiles_at(alloc: Global) -> bool {
