@@ -59,8 +59,11 @@ impl<P: ParameterSet> SigningKey<P> {
         let sk_seed = drawn::<P, R>(rng);
         let sk_prf = drawn::<P, R>(rng);
         let pk_seed = drawn::<P, R>(rng);
-        SigningKey::slh_keygen_internal(sk_seed.as_slice(), sk_prf.as_slice(), pk_seed.as_slice())
-            .unwrap()
+        SigningKey::slh_keygen_internal(
+            sk_seed.as_slice(),
+            sk_prf.as_slice(),
+            pk_seed.as_slice(),
+        ).unwrap()
     }
 
     // The signature of a message in these bytes, by n random ones, on a counter that is made here.
@@ -80,7 +83,14 @@ impl<P: ParameterSet> SigningKey<P> {
         let opt_rand = drawn::<P, R>(rng);
         let mut steps = Steps::<L>::new(blank);
         let out = bytes.as_mut_slice();
-        self.hash_sign_checked(Mode::Pure, msg, b"", Some(opt_rand.as_slice()), out, &mut steps);
+        self.hash_sign_checked(
+            Mode::Pure,
+            msg,
+            b"",
+            Some(opt_rand.as_slice()),
+            out,
+            &mut steps,
+        );
         Signature::from_array(bytes)
     }
 }

@@ -59,7 +59,10 @@ fn sealed_again(alloc: Global, messages: &[&[u8]]) -> Result<Sealed<Sha2_128f>, 
 // Whether the batch of the numbers up to one has its row, each time that it is sealed.
 fn have_row(alloc: Global, last: usize, row: &str) -> Option<bool> {
     let messages = NUMBERS.get(..=last)?;
-    let (first, again) = (sealed(alloc, messages).ok()?, sealed_again(alloc, messages).ok()?);
+    let (first, again) = (
+        sealed(alloc, messages).ok()?,
+        sealed_again(alloc, messages).ok()?,
+    );
     Some(has_row(alloc, &first, row)? && has_row(alloc, &again, row)?)
 }
 

@@ -50,11 +50,11 @@ mod page_of_keys;
 #[cfg(test)]
 mod page_of_manifests;
 #[cfg(test)]
+mod page_of_pieces;
+#[cfg(test)]
 mod page_of_rings;
 #[cfg(test)]
 mod page_of_runs;
-#[cfg(test)]
-mod page_of_pieces;
 #[cfg(test)]
 mod page_of_trees;
 #[cfg(test)]
