@@ -1,5 +1,5 @@
 //! Messages of a batch in pieces.
-use crate::batch_trees::is_digest;
+use crate::digests::is_digest;
 use slh_batch::{Batch, MessageHasher};
 use std::alloc::Global;
 

@@ -1,6 +1,6 @@
 //! Trees and paths of batches that another program computed.
+use crate::digests::{has_digest, is_digest};
 use crate::page_of_batches::{batch_of, sealed};
-use hmac_sha256::Hash;
 use slh_batch::{BatchError, Sealed};
 use slh_dsa::Sha2_128f;
 use std::alloc::Global;
@@ -23,11 +23,6 @@ e99dfbbaa8e26d67fcb87503fb6ae10d2f26e422e2121ab676f630e0595bbb95 fe0212468454c32
 0a2a2c470619da672e872dc4b634e54df42f25b7b226baae9546db5ddfac09c7 e7ec86ad77dc6ba3bd07c5ee8d6da30fe66832fd581044a88b112bbf68025255
 6e04d937f5bca59055c9230814fe88581fac63a28901f6a19e3657cfc9649ea0 0151dd333a97edbcfe76b333afc99e18efaf0d0c3413d4f7b6d8da757f79a2fe";
 
-pub(crate) fn is_digest(digest: &[u8; 32], expected: &str) -> bool {
-    let mut bytes = [0u8; 32];
-    hex::decode_to_slice(expected, &mut bytes).is_ok() && bytes == *digest
-}
-
 // All receipts without their signatures.
 fn fronts(alloc: Global, batch: &Sealed<Sha2_128f>) -> Option<Vec<u8>> {
     let mut fronts = Vec::new(alloc);
@@ -39,14 +34,10 @@ fn fronts(alloc: Global, batch: &Sealed<Sha2_128f>) -> Option<Vec<u8>> {
     Some(fronts)
 }
 
-fn have_digest(fronts: &[u8], expected: &str) -> bool {
-    fronts.len() < 50_000 && is_digest(&Hash::hash(fronts), expected)
-}
-
 // Whether a batch has its row.
 fn has_row(alloc: Global, batch: &Sealed<Sha2_128f>, row: &str) -> Option<bool> {
     let (root, digest) = row.split_once(' ')?;
-    Some(is_digest(batch.root(), root) && have_digest(&fronts(alloc, batch)?, digest))
+    Some(is_digest(batch.root(), root) && has_digest(&fronts(alloc, batch)?, digest))
 }
 
 // The batch of these messages, sealed by the signature of an earlier seal.

@@ -1,5 +1,5 @@
 //! The example of docs/KEYS.md: names of links that say until when, under which number and for what.
-use crate::keys_128f::key;
+use crate::keys_128f::{key, public};
 use slh_chain::Chain;
 use slh_dsa::ParameterSet;
 use std::alloc::Global;
@@ -44,8 +44,7 @@ const DAYS: [(&str, &[&str], &str, bool); 5] = [
 
 // A chain of one link, which is made from the empty one.
 fn are_judged(alloc: Global) -> Option<bool> {
-    let key = key(7);
-    let root = key.verifying_key();
+    let (key, root) = (key(7), public(7));
     let name = b"2027-06-30/17/firmware";
     let empty = Chain::open(&root, &[]).ok()?;
     let bytes = empty.extend(alloc, &key, name, 0, &root, None).ok()?;

@@ -1,6 +1,7 @@
 // Changes of a signature, a message and a context of SLH-DSA-SHA2-128f, none of which is accepted:
 // the cases of the Rust crate's own tests, with given bytes in place of random ones.
-use slh_dsa::{Error, Mode, Sha2_128f, SigningKey, VerifyingKey};
+use crate::keys_128f::key_of;
+use slh_dsa::{Error, Mode, Sha2_128f, VerifyingKey};
 
 // The root of the key whose secret seed is sixteen bytes 01 and whose public seed is sixteen 03.
 const ROOT: [u8; 16] = [
@@ -13,8 +14,7 @@ const CONTEXT: &[u8] = b"Test context!";
 
 // Each operation on the set stands here once: a call that names a set is dear to prove.
 fn sign(sk_seed: u8, opt_rand: Option<&[u8]>, out: &mut [u8]) -> Result<(), Error> {
-    let key = SigningKey::<Sha2_128f>::slh_keygen_internal(&[sk_seed; 16], &[2; 16], &[3; 16])?;
-    key.sign_into(Mode::Pure, CONTEXT, MESSAGE, opt_rand, out)
+    key_of(sk_seed, 3).sign_into(Mode::Pure, CONTEXT, MESSAGE, opt_rand, out)
 }
 
 fn verify(public: &[u8], message: &[u8], context: &[u8], sig: &[u8]) -> Result<(), Error> {

@@ -26,6 +26,8 @@ mod core_values;
 #[cfg(test)]
 mod counting;
 #[cfg(test)]
+mod digests;
+#[cfg(test)]
 mod hash_l1;
 #[cfg(test)]
 mod hash_l35;

@@ -1,5 +1,5 @@
 //! Entries of a manifest by their digests, and bodies that are signed elsewhere.
-use crate::keys_128f::key;
+use crate::keys_128f::{key, public};
 use crate::page_of_manifests::checked;
 use slh_dsa::Sha2_128f;
 use slh_manifest::{Builder, CONTEXT, MemStore};
@@ -40,7 +40,7 @@ fn is_accepted(alloc: Global) -> Option<bool> {
     let mut body = [0u8; 88];
     hex::decode_to_slice(BODY, &mut body).ok()?;
     let manifest = signed_elsewhere(alloc, &body)?;
-    let answer = checked(&key(3).verifying_key(), &manifest, &mut files(alloc)?);
+    let answer = checked(&public(3), &manifest, &mut files(alloc)?);
     Some(manifest.starts_with(&body) && answer == Ok(()))
 }
 

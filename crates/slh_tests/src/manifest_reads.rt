@@ -1,6 +1,6 @@
 //! How a store is read for a manifest: in pieces, at most one byte further than an entry says, and
 //! not again after a read that failed.
-use crate::keys_128f::key;
+use crate::keys_128f::{key, public};
 use crate::page_of_manifests::{checked, manifest_of};
 use slh_manifest::{
     BuildError, Builder, CheckError, EntryError, Failed, Manifest, MemStore, Store,
@@ -203,7 +203,7 @@ fn checks_ask_for_one_byte_past_an_entry_at_most_and_end_with_a_fault(rt: HostRu
 // Whether a check of a signed manifest of 3 bytes does what the rows of so many say.
 fn signed_asks(alloc: Global, manifest: &[u8], row: &[u64; 8]) -> Option<bool> {
     let mut store = store_for(alloc, row)?;
-    let answer = checked(&key(3).verifying_key(), manifest, &mut store);
+    let answer = checked(&public(3), manifest, &mut store);
     Some(is_wanted(answer, row) && has_seen(&store, row))
 }
 

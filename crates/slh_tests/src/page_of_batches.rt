@@ -1,12 +1,8 @@
 //! The examples of the page of `slh_batch`.
-use crate::keys_128f::key;
+use crate::keys_128f::{key, public};
 use slh_batch::{Batch, BatchError, Head, HeadError, ReceiptError, Sealed, accept, accept_under};
 use slh_dsa::{Sha2_128f, SigningKey, VerifyingKey};
 use std::alloc::Global;
-
-fn public() -> VerifyingKey<Sha2_128f> {
-    key(3).verifying_key()
-}
 
 const MESSAGES: [&[u8]; 2] = [b"an entry", b"another"];
 
@@ -39,7 +35,7 @@ fn is_of_second(key: &VerifyingKey<Sha2_128f>, receipt: &[u8]) -> bool {
 
 fn runs(alloc: Global) -> bool {
     match receipt_of_second(alloc, &key(3), &MESSAGES) {
-        Ok(receipt) => is_of_second(&public(), &receipt),
+        Ok(receipt) => is_of_second(&public(3), &receipt),
         Err(_) => false,
     }
 }
@@ -95,7 +91,7 @@ fn entry_of<'a>(index: u32, message: &'a [u8], path: &'a [[u8; 32]]) -> Entry<'a
 // Whether two entries are accepted under a head, and not the first one twice.
 fn accepts_both(head: &[u8], first: &[[u8; 32]], second: &[[u8; 32]]) -> bool {
     are_accepted(
-        &public(),
+        &public(3),
         head,
         &[
             entry_of(0, b"an entry", first),
@@ -103,7 +99,7 @@ fn accepts_both(head: &[u8], first: &[[u8; 32]], second: &[[u8; 32]]) -> bool {
         ],
     ) == Ok(true)
         && are_accepted(
-            &public(),
+            &public(3),
             head,
             &[
                 entry_of(0, b"an entry", first),

@@ -1,5 +1,5 @@
 //! The example of the page of `slh_chain`.
-use crate::keys_128f::key;
+use crate::keys_128f::{key, public};
 use slh_chain::{ChainError, LinkError, delegate, walk};
 use slh_dsa::{Sha2_128f, SigningKey, VerifyingKey};
 use std::alloc::Global;
@@ -22,10 +22,9 @@ fn release_key(
 
 // Whether the root key leads to the release key, and the release key nowhere.
 fn leads_to_release(alloc: Global) -> Option<bool> {
-    let root = key(3);
-    let release = key(6).verifying_key();
-    let chain = release_link(alloc, &root, &release).ok()?;
-    let is_found = release_key(&root.verifying_key(), &chain).ok()? == release;
+    let release = public(6);
+    let chain = release_link(alloc, &key(3), &release).ok()?;
+    let is_found = release_key(&public(3), &chain).ok()? == release;
     let error = release_key(&release, &chain).err()?;
     Some(is_found && error == ChainError::Invalid(0))
 }

@@ -1,6 +1,6 @@
 //! The example of the page of `slh_manifest`. A call that found no memory is made again, so that it
 //! holds with each allocation failing in turn, too (`rt try --test --fail-alloc`).
-use crate::keys_128f::key;
+use crate::keys_128f::{key, public};
 use slh_dsa::{Sha2_128f, SigningKey, VerifyingKey};
 use slh_manifest::{BuildError, Builder, CheckError, MemStore, Store, check};
 use std::alloc::Global;
@@ -43,7 +43,7 @@ fn manifest_of_two(alloc: Global, files: &mut MemStore) -> Option<Vec<u8>> {
 
 // Whether the manifest of two files is accepted until the second changes.
 fn is_accepted_until(manifest: &[u8], files: &mut MemStore) -> Option<bool> {
-    let key = key(3).verifying_key();
+    let key = public(3);
     let is_accepted = checked(&key, manifest, files) == Ok(());
     put(files, b"image", b"third")?;
     Some(is_accepted && checked(&key, manifest, files) == Err(CheckError::Differs(1)))

@@ -1,4 +1,5 @@
 // The example of the page of `slh_stream`.
+use crate::keys_128f::{key, public};
 use slh_dsa::{Error, Mode, Sha2_128f, SigningKey, VerifyingKey};
 use slh_stream::{FirstPass, MessageVerifier, PassError};
 
@@ -30,15 +31,9 @@ fn verified(
 }
 
 fn is_signed_and_verified() -> Result<bool, Error> {
-    let key = SigningKey::slh_keygen_internal(&[1; 16], &[2; 16], &[3; 16])?;
     let mut sig = [0; 17_088];
-    let answer = signed(&key, b"a first piece, ", b"and a second", &mut sig)?;
-    verified(
-        &key.verifying_key(),
-        &sig,
-        b"a first",
-        b" piece, and a second",
-    )?;
+    let answer = signed(&key(3), b"a first piece, ", b"and a second", &mut sig)?;
+    verified(&public(3), &sig, b"a first", b" piece, and a second")?;
     Ok(answer == Ok(()))
 }
 

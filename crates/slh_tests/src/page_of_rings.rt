@@ -1,5 +1,7 @@
 //! The example of the page of `slh_ring`. A call that found no memory is made again, so that it
 //! holds with each allocation failing in turn, too (`rt try --test --fail-alloc`).
+ghost use Rattle.std.specs.Prelude.{◌^◌, ◌≤◌, length};
+
 use slh_dsa::{Sha2_128f, SigningKey};
 use slh_ring::{Path, RestoreError, Ring, RingError, derive};
 use std::alloc::Global;
@@ -45,10 +47,17 @@ fn key_at_last(
     }
 }
 
+/// Whether a key is the one at a path under a master.
+pub(crate) fn is_derived(key: &SigningKey<Sha2_128f>, master: &[u8], path: &Path) -> bool
+    requires { length master.now ≤ 2 ^ 60 }
+{
+    *key == derive(master, path)
+}
+
 // Whether the second key is that of product 2.
 fn gives_second(alloc: Global, record: &[u8]) -> bool {
     match key_at_last(alloc, &[7; 32], record) {
-        Ok(Some(key)) => key == derive(&[7; 32], &path_of(2)),
+        Ok(Some(key)) => is_derived(&key, &[7; 32], &path_of(2)),
         _ => false,
     }
 }

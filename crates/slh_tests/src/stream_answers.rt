@@ -2,6 +2,7 @@
 //! that of three seeds, which repeat 1, 2 and 3.
 ghost use Rattle.std.specs.Prelude.{◌≤◌};
 
+use crate::digests::has_digest;
 use crate::stream_pieces::{Signing, is_accepted, is_signed, key};
 use hmac_sha256::Hash;
 use hybrid_array::ArraySize;
@@ -19,13 +20,6 @@ const NUMBERS: [u8; 32] = [
 
 // As many bytes as the longest signatures have.
 const MOST: usize = 49_856;
-
-fn has_digest(bytes: &[u8], wanted: &str) -> bool {
-    let mut digest = [0; 32];
-    bytes.len() <= MOST
-        && hex::decode_to_slice(wanted, &mut digest).is_ok()
-        && Hash::hash(bytes) == digest
-}
 
 // Whether the digest of a message gets the wanted signature, and it is accepted.
 fn is_known_by_digest<P: ParameterSet>(
