@@ -17,7 +17,6 @@ ghost use Rattle.slh_frames.specs.Frames.{frame, mode_frame};
 
 use crate::evidence::{AuditError, Verdict};
 use crate::size_checks::{check_lengths, check_sizes};
-use hybrid_array::ArraySize;
 use slh_core::equal_parts::part_of;
 use slh_core::nbytes::NBytes;
 use slh_core::params::{ForsParams, MAX_DIGEST_LEN, MAX_MESSAGE_LEN, forest_sizes};
@@ -55,7 +54,7 @@ fn digest_verdict<P: ForsParams, L: Ledger>(
     sig: &SigView<'_, P>,
     steps: &mut Steps<L>,
 ) -> Verdict
-    requires { length digest.now ≡ P.M.USIZE }
+    requires { length digest.now ≡ P.DIGEST_LEN }
     ensures { result ≡ spec_digest_verdict P.scheme pk_seed.now sk_seed.now digest.now sig.now }
 {
     let dispute = &set_against::<P>(sk_seed, pk_seed, digest, sig);
@@ -76,7 +75,7 @@ fn digest_shows<P: ForsParams, L: Ledger>(
     evidence: Evidence,
     steps: &mut Steps<L>,
 ) -> bool
-    requires { length digest.now ≡ P.M.USIZE }
+    requires { length digest.now ≡ P.DIGEST_LEN }
     ensures { let D = dispute P.scheme pk_seed.now sk_seed.now digest.now sig.now in
         result ≡ shows D evidence }
 {
@@ -93,7 +92,7 @@ fn audit_by_digest<P: ForsParams, L: Ledger>(
 ) -> Result<Verdict, AuditError>
     requires fresh { IsFresh blank L.name L.parts }
     requires key { length key.now ≡ 4 * P.N.USIZE }
-    requires digest { length digest.now ≡ P.M.USIZE }
+    requires digest { length digest.now ≡ P.DIGEST_LEN }
     ensures { result ≡ digest_audit P.scheme key.now digest.now sig.now }
 {
     forest_sizes::<P>();
@@ -122,7 +121,7 @@ fn check_by_digest<P: ForsParams, L: Ledger>(
 ) -> bool
     requires fresh { IsFresh blank L.name L.parts }
     requires key { length key.now ≡ 4 * P.N.USIZE }
-    requires digest { length digest.now ≡ P.M.USIZE }
+    requires digest { length digest.now ≡ P.DIGEST_LEN }
     ensures { result ≡ shows (key_dispute P.scheme key.now digest.now sig.now) evidence }
 {
     forest_sizes::<P>();
@@ -143,7 +142,7 @@ fn write_message_digest<P: ForsParams>(
 )
     requires key { length key.now ≡ 4 * P.N.USIZE }
     requires message { length head.now + length ctx.now + length msg.now ≤ MAX_MESSAGE_LEN }
-    requires room { length out.old ≡ P.M.USIZE }
+    requires room { length out.old ≡ P.DIGEST_LEN }
     ensures { let message = head.now ++ ctx.now ++ msg.now in
         out.new ≡ digest_of P.scheme key.now message sig.now }
 {
@@ -169,7 +168,7 @@ fn audit_message<P: ForsParams, L: Ledger>(
         result ≡ message_audit P.scheme key.now message sig.now }
 {
     let mut store = [0u8; MAX_DIGEST_LEN];
-    let digest = &mut store[..P::M::USIZE];
+    let digest = &mut store[..P::DIGEST_LEN];
     write_message_digest::<P>(key, head, ctx, msg, sig, digest);
     audit_by_digest::<P, L>(key, digest, sig, blank)
 }
@@ -192,7 +191,7 @@ fn check_message<P: ForsParams, L: Ledger>(
         result ≡ shows (dispute_of P.scheme key.now message sig.now) evidence }
 {
     let mut store = [0u8; MAX_DIGEST_LEN];
-    let digest = &mut store[..P::M::USIZE];
+    let digest = &mut store[..P::DIGEST_LEN];
     write_message_digest::<P>(key, head, ctx, msg, sig, digest);
     check_by_digest::<P, L>(key, digest, sig, evidence, blank)
 }
@@ -327,7 +326,7 @@ pub fn audit_for_digest<P: ForsParams>(
     digest: &[u8],
     sig: &[u8],
 ) -> Result<Verdict, AuditError>
-    requires { length digest.now ≡ P.M.USIZE }
+    requires { length digest.now ≡ P.DIGEST_LEN }
     ensures { result ≡ digest_audit_answer P.scheme key.now digest.now sig.now }
 {
     match check_lengths::<P>(key, sig) {
@@ -344,7 +343,7 @@ pub fn check_evidence_for_digest<P: ForsParams>(
     sig: &[u8],
     evidence: &Evidence,
 ) -> Result<bool, AuditError>
-    requires { length digest.now ≡ P.M.USIZE }
+    requires { length digest.now ≡ P.DIGEST_LEN }
     ensures { result ≡ digest_check_answer P.scheme key.now digest.now sig.now evidence.now }
 {
     match check_lengths::<P>(key, sig) {

@@ -13,10 +13,9 @@ ghost use Rattle.slh_batch.specs.declared.error.BatchError.TheVariants.{Memory};
 use crate::checking::{CONTEXT, ROOT_MESSAGE_LEN, root_message};
 use crate::error::BatchError;
 use crate::sealed::Sealed;
-use hybrid_array::ArraySize;
 use merkle_tree::{DIGEST_LEN, Levels, Sha256, TreeHash};
 use slh_core::params::chain_sizes;
-use slh_dsa::{Error, ParameterSet, Signature, SigningKey, check_opt_rand};
+use slh_dsa::{ArrayLengths, Error, Signature, SigningKey, check_opt_rand};
 use slh_frames::MAX_MESSAGE;
 use std::alloc::Global;
 use std::marker::Model;
@@ -116,7 +115,7 @@ impl Batch {
 
     /// Signs the number and the root of the messages. Each node is hashed once. Where no `opt_rand`
     /// is given the public seed stands for it. `Empty`; `Randomizer`; `Memory`.
-    pub fn seal<P: ParameterSet>(
+    pub fn seal<P: ArrayLengths>(
         self,
         alloc: Global,
         key: &SigningKey<P>,
@@ -141,7 +140,7 @@ impl Batch {
     /// Seals the batch again by the signature of an earlier seal of the same digests, without a
     /// key. Each node is hashed once. Whether the signature is one of these digests isn't checked:
     /// who opens [`Sealed::head`] checks it. `Empty`; `Memory`.
-    pub fn with_signature<P: ParameterSet>(
+    pub fn with_signature<P: ArrayLengths>(
         self,
         signature: Signature<P>,
     ) -> Result<Sealed<P>, BatchError>
@@ -171,7 +170,7 @@ impl Batch {
 }
 
 // The signature of a batch's root. `Memory`.
-fn sign_root<P: ParameterSet>(
+fn sign_root<P: ArrayLengths>(
     alloc: Global,
     key: &SigningKey<P>,
     message: &[u8; ROOT_MESSAGE_LEN],

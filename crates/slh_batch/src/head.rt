@@ -12,7 +12,6 @@ use crate::batch::MAX_MESSAGES;
 use crate::checking::{CONTEXT, Place, ROOT_MESSAGE_LEN, root_message};
 use crate::error::{HeadError, ReceiptError};
 use crate::parts::{number_at, parts_of};
-use hybrid_array::ArraySize;
 use merkle_tree::{DIGEST_LEN, Sha256, TreeHash, path_len, path_root};
 use slh_dsa::{Mode, ParameterSet, VerifyingKey};
 use slh_frames::MAX_MESSAGE;
@@ -49,7 +48,7 @@ fn read_head<P: ParameterSet>(bytes: &[u8]) -> Option<Head<'_>>
     }
     let (signed, signature) = bytes.split_at(ROOT_MESSAGE_LEN);
     let count = number_at(signed, 0);
-    if count == 0 || count > MAX_MESSAGES || signature.len() != P::SigLen::USIZE {
+    if count == 0 || count > MAX_MESSAGES || signature.len() != P::SIG_LEN {
         return None;
     }
     let mut root = [0u8; DIGEST_LEN];

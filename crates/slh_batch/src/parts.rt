@@ -6,7 +6,6 @@ ghost use Rattle.slh_batch.specs.Parts.{ArePartsOf};
 ghost use Rattle.slh_batch.specs.Receipts.{has_right_form};
 
 use crate::batch::MAX_MESSAGES;
-use hybrid_array::ArraySize;
 use merkle_tree::{DIGEST_LEN, path_len};
 use slh_dsa::ParameterSet;
 
@@ -49,7 +48,7 @@ pub(crate) fn parts_of<P: ParameterSet>(receipt: &[u8]) -> Option<Parts<'_>>
         return None;
     }
     let (path, sig) = rest.split_at(path_len);
-    if sig.len() != P::SigLen::USIZE {
+    if sig.len() != P::SIG_LEN {
         return None;
     }
     Some(Parts {

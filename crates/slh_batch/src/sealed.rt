@@ -14,18 +14,18 @@ use crate::checking::{ROOT_MESSAGE_LEN, root_message};
 use crate::error::BatchError;
 use crate::parts::NUMBERS_LEN;
 use merkle_tree::{DIGEST_LEN, Levels, Sha256, path_len};
-use slh_dsa::{ParameterSet, Signature};
+use slh_dsa::{ArrayLengths, Signature};
 use std::alloc::{AllocError, Global};
 use std::marker::Model;
 
 /// A signed batch. Clauses see it as the list of its messages' digests and the signature.
 #[derive(Drop)]
-pub struct Sealed<P: ParameterSet> {
+pub struct Sealed<P: ArrayLengths> {
     pub(crate) levels: Levels<Sha256>,
     pub(crate) signature: Signature<P>,
 }
 
-impl<P: ParameterSet> Model for Sealed<P> {
+impl<P: ArrayLengths> Model for Sealed<P> {
     ghost use Rattle.std.specs.Prelude.{◌≤◌, ◌^◌, length};
     ghost use Rattle.slh_batch.specs.Sealing.{SealedBatch};
 
@@ -57,7 +57,7 @@ fn write_receipt(
     Ok(out)
 }
 
-impl<P: ParameterSet> Sealed<P> {
+impl<P: ArrayLengths> Sealed<P> {
     /// How many messages it has.
     pub fn len(&self) -> usize
         ensures value { result ≡ length self.now.leaves }

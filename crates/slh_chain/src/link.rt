@@ -131,7 +131,7 @@ pub fn delegate<P: ParameterSet>(
 {
     link_bound::<P>();
     check_link::<P>(name, depth, opt_rand)?;
-    let size = 2 + name.len() + 2 * P::N::USIZE + P::SigLen::USIZE;
+    let size = 2 + name.len() + 2 * P::N::USIZE + P::SIG_LEN;
     let mut link = vec![in alloc; 0u8; size]?;
     write_link(key, name, depth, subject, opt_rand, link.as_mut_slice());
     Ok(link)
@@ -162,7 +162,7 @@ fn body_len<P: ParameterSet>(bytes: &[u8]) -> Option<usize>
         return None;
     }
     let len = 2 + name_len + 2 * P::N::USIZE;
-    if bytes.len() < len + P::SigLen::USIZE {
+    if bytes.len() < len + P::SIG_LEN {
         return None;
     }
     Some(len)
@@ -188,7 +188,7 @@ pub(crate) fn read_link<P: ParameterSet>(bytes: &[u8]) -> Option<Link<'_>>
     link_bound::<P>();
     let len = body_len::<P>(bytes)?;
     let (body, after) = bytes.split_at(len);
-    let (signature, rest) = after.split_at(P::SigLen::USIZE);
+    let (signature, rest) = after.split_at(P::SIG_LEN);
     Some(Link {
         depth: bytes[0],
         name: &bytes[2..2 + bytes[1] as usize],

@@ -1,11 +1,10 @@
 //! The sizes of a parameter set (FIPS 205, section 11).
-ghost use Rattle.std.specs.Prelude.{◌≡◌, ◌+◌, ◌-◌, ◌*◌, ◌^◌, ◌≤◌, ◌<◌};
+ghost use Rattle.std.specs.Prelude.{◌≡◌, ℕ, ◌+◌, ◌-◌, ◌*◌, ◌^◌, ◌≤◌, ◌<◌};
 ghost use Rattle.slh_core.specs.Parameters.{IsValidWots, IsValidXmss};
 ghost use Rattle.slh_core.specs.Parameters.{IsValidHypertree, IsValidFors};
 ghost use Rattle.slh_core.specs.Parameters.{Scheme, scheme_of, bytes_for, chain_count};
 
 use crate::suite::HashSuite;
-use hybrid_array::ArraySize;
 
 /// The most bytes that a value has: a seed, a hash, or a message that a key pair signs.
 pub const MAX_N: usize = 32;
@@ -36,98 +35,114 @@ pub const MAX_MESSAGE_LEN: usize = (1 << 60) + 512;
 /// The sizes of a WOTS+ key pair.
 pub trait WotsParams: HashSuite {
     /// How many digits a message has.
-    type WotsMsgLen: ArraySize;
+    const WOTS_MSG_LEN: usize;
+
+    ghost WOTS_MSG_LEN: { ℕ };
 
     /// How many chains a key pair has.
-    type WotsSigLen: ArraySize;
+    const WOTS_SIG_LEN: usize;
 
-    ghost valid_wots: { IsValidWots Self.N.USIZE Self.WotsMsgLen.USIZE Self.WotsSigLen.USIZE };
+    ghost WOTS_SIG_LEN: { ℕ };
+
+    ghost valid_wots: { IsValidWots Self.N.USIZE WOTS_MSG_LEN WOTS_SIG_LEN };
 }
 
 /// The size of an XMSS tree.
 pub trait XmssParams: WotsParams {
     /// The height of a tree.
-    type HPrime: ArraySize;
+    const H_PRIME: usize;
 
-    ghost valid_xmss: { IsValidXmss Self.HPrime.USIZE };
+    ghost H_PRIME: { ℕ };
+
+    ghost valid_xmss: { IsValidXmss H_PRIME };
 }
 
 /// The sizes of a hypertree.
 pub trait HypertreeParams: XmssParams {
     /// The number of layers.
-    type D: ArraySize;
+    const D: usize;
+
+    ghost D: { ℕ };
 
     /// The height of all layers together.
-    type H: ArraySize;
+    const H: usize;
 
-    ghost valid_hypertree: { IsValidHypertree Self.HPrime.USIZE Self.D.USIZE Self.H.USIZE };
+    ghost H: { ℕ };
+
+    ghost valid_hypertree: { IsValidHypertree Self.H_PRIME D H };
 }
 
 /// The sizes of a forest, and of the digest that names a leaf in each of its trees.
 pub trait ForsParams: HypertreeParams {
     /// The number of trees.
-    type K: ArraySize;
+    const K: usize;
+
+    ghost K: { ℕ };
 
     /// The height of a tree, in bits of a digit.
-    type A: ArraySize;
+    const A: usize;
+
+    ghost A: { ℕ };
 
     /// How many bytes of the digest hold the digits.
-    type MD: ArraySize;
+    const MD: usize;
+
+    ghost MD: { ℕ };
 
     /// The suite and all sizes.
     ghost scheme: { Scheme };
 
     ghost scheme_is: { scheme ≡ scheme_of Self.suite Self.N.USIZE
-        Self.HPrime.USIZE Self.D.USIZE Self.A.USIZE Self.K.USIZE };
+        Self.H_PRIME Self.D A K };
 
-    ghost valid_fors: { IsValidFors Self.HPrime.USIZE Self.H.USIZE Self.K.USIZE
-        Self.A.USIZE Self.MD.USIZE Self.M.USIZE };
+    ghost valid_fors: { IsValidFors Self.H_PRIME Self.H K
+        A MD Self.DIGEST_LEN };
 }
 
 /// What the law says of the sizes of key pairs.
 pub fn chain_sizes<P: WotsParams>()
     ensures n_low { 1 ≤ P.N.USIZE }
     ensures n_high { P.N.USIZE ≤ 32 }
-    ensures message_len { P.WotsMsgLen.USIZE ≡ 2 * P.N.USIZE }
-    ensures signature_len { P.WotsSigLen.USIZE ≡ chain_count P.N.USIZE }
+    ensures message_len { P.WOTS_MSG_LEN ≡ 2 * P.N.USIZE }
+    ensures signature_len { P.WOTS_SIG_LEN ≡ chain_count P.N.USIZE }
 {}
 
 /// What the law says of the sizes of trees.
 pub fn tree_sizes<P: XmssParams>()
     ensures n_low { 1 ≤ P.N.USIZE }
     ensures n_high { P.N.USIZE ≤ 32 }
-    ensures message_len { P.WotsMsgLen.USIZE ≡ 2 * P.N.USIZE }
-    ensures signature_len { P.WotsSigLen.USIZE ≡ chain_count P.N.USIZE }
-    ensures height_low { 1 ≤ P.HPrime.USIZE }
-    ensures height_high { P.HPrime.USIZE ≤ 31 }
+    ensures message_len { P.WOTS_MSG_LEN ≡ 2 * P.N.USIZE }
+    ensures signature_len { P.WOTS_SIG_LEN ≡ chain_count P.N.USIZE }
+    ensures height_low { 1 ≤ P.H_PRIME }
+    ensures height_high { P.H_PRIME ≤ 31 }
 {}
 
 /// What the law says of the sizes of layers.
 pub fn layer_sizes<P: HypertreeParams>()
     ensures n_low { 1 ≤ P.N.USIZE }
     ensures n_high { P.N.USIZE ≤ 32 }
-    ensures signature_len { P.WotsSigLen.USIZE ≡ chain_count P.N.USIZE }
-    ensures height_low { 1 ≤ P.HPrime.USIZE }
-    ensures height_high { P.HPrime.USIZE ≤ 31 }
-    ensures layers { 1 ≤ P.D.USIZE }
-    ensures few_layers { P.D.USIZE ≤ 65 }
-    ensures height { P.H.USIZE ≡ P.D.USIZE * P.HPrime.USIZE }
-    ensures tree_bits { P.H.USIZE - P.HPrime.USIZE ≤ 64 }
+    ensures signature_len { P.WOTS_SIG_LEN ≡ chain_count P.N.USIZE }
+    ensures height_low { 1 ≤ P.H_PRIME }
+    ensures height_high { P.H_PRIME ≤ 31 }
+    ensures layers { 1 ≤ P.D }
+    ensures few_layers { P.D ≤ 65 }
+    ensures height { P.H ≡ P.D * P.H_PRIME }
+    ensures tree_bits { P.H - P.H_PRIME ≤ 64 }
 {}
 
 /// What the law says of the sizes of a forest and of a digest.
 pub fn forest_sizes<P: ForsParams>()
     ensures n_low { 1 ≤ P.N.USIZE }
     ensures n_high { P.N.USIZE ≤ 32 }
-    ensures bits_low { 1 ≤ P.A.USIZE }
-    ensures bits_high { P.A.USIZE ≤ 16 }
-    ensures trees_low { 1 ≤ P.K.USIZE }
-    ensures trees_high { P.K.USIZE ≤ 64 }
-    ensures leaves { P.K.USIZE * 2 ^ P.A.USIZE < 2 ^ 32 }
-    ensures forest_len { P.MD.USIZE ≡ bytes_for (P.K.USIZE * P.A.USIZE) }
-    ensures digest_len { let tree_bits = P.H.USIZE - P.HPrime.USIZE in
-        P.M.USIZE ≡ P.MD.USIZE + bytes_for tree_bits + bytes_for P.HPrime.USIZE }
-    ensures digest_small { P.M.USIZE ≤ 140 }
-    ensures scheme { let hp = P.HPrime.USIZE in
-        P.scheme ≡ scheme_of P.suite P.N.USIZE hp P.D.USIZE P.A.USIZE P.K.USIZE }
+    ensures bits_low { 1 ≤ P.A }
+    ensures bits_high { P.A ≤ 16 }
+    ensures trees_low { 1 ≤ P.K }
+    ensures trees_high { P.K ≤ 64 }
+    ensures leaves { P.K * 2 ^ P.A < 2 ^ 32 }
+    ensures forest_len { P.MD ≡ bytes_for (P.K * P.A) }
+    ensures digest_len { let tree_bits = P.H - P.H_PRIME in
+        P.DIGEST_LEN ≡ P.MD + bytes_for tree_bits + bytes_for P.H_PRIME }
+    ensures digest_small { P.DIGEST_LEN ≤ 140 }
+    ensures scheme { let hp = P.H_PRIME in
+        P.scheme ≡ scheme_of P.suite P.N.USIZE hp P.D P.A P.K }
 {}

@@ -75,18 +75,18 @@ fn write_ends<P: WotsParams, L: Ledger>(
     out: &mut [u8],
     steps: &mut Steps<L>,
 )
-    requires { length out.old ≡ P.WotsSigLen.USIZE * P.N.USIZE }
+    requires { length out.old ≡ P.WOTS_SIG_LEN * P.N.USIZE }
     ensures value { let K = P.keyed_suite keyed.now in
         let sk = sk_seed.now in
         let a = adrs.now in
         let j = a.layer_adrs in
         let t = a.tree_adrs_low in
-        out.new ≡ joined (λ c. chain_value K sk j t a.key_pair_adrs c 15) P.WotsSigLen.USIZE }
-    ensures cost { steps.new ≡ steps.old + 16 * P.WotsSigLen.USIZE }
+        out.new ≡ joined (λ c. chain_value K sk j t a.key_pair_adrs c 15) P.WOTS_SIG_LEN }
+    ensures cost { steps.new ≡ steps.old + 16 * P.WOTS_SIG_LEN }
 {
     chain_sizes::<P>();
     let all = chain_numbers();
-    let numbers = first_numbers(&all, P::WotsSigLen::USIZE);
+    let numbers = first_numbers(&all, P::WOTS_SIG_LEN);
     P::prf_each(keyed, sk_seed, &adrs.prf_adrs(), numbers, out, steps);
     for q in 0..15 {
         P::f_each(keyed, &adrs.at_step(0, q), numbers, out, steps);
@@ -96,11 +96,11 @@ fn write_ends<P: WotsParams, L: Ledger>(
 /// How many bytes the values of all chains of a key pair have.
 #[inline]
 pub fn ends_len<P: WotsParams>() -> usize
-    ensures value { result ≡ P.WotsSigLen.USIZE * P.N.USIZE }
+    ensures value { result ≡ P.WOTS_SIG_LEN * P.N.USIZE }
     ensures small { result ≤ MAX_ENDS_LEN }
 {
     chain_sizes::<P>();
-    P::WotsSigLen::USIZE * P::N::USIZE
+    P::WOTS_SIG_LEN * P::N::USIZE
 }
 
 /// The public key of a key pair, which is its tree's leaf (FIPS 205, algorithm 6).
@@ -113,7 +113,7 @@ pub fn wots_pk_gen<P: WotsParams, L: Ledger>(
     ensures value { let K = P.keyed_suite keyed.now in
         let a = adrs.now in
         result ≡ wots_pk K sk_seed.now a.layer_adrs a.tree_adrs_low a.key_pair_adrs }
-    ensures cost { steps.new ≡ steps.old + wots_pk_cost P.WotsSigLen.USIZE }
+    ensures cost { steps.new ≡ steps.old + wots_pk_cost P.WOTS_SIG_LEN }
 {
     chain_sizes::<P>();
     let mut store = [0u8; MAX_ENDS_LEN];
@@ -132,17 +132,17 @@ pub fn wots_sign<P: WotsParams, L: Ledger>(
     out: &mut [u8],
     steps: &mut Steps<L>,
 )
-    requires { length out.old ≡ P.WotsSigLen.USIZE * P.N.USIZE }
+    requires { length out.old ≡ P.WOTS_SIG_LEN * P.N.USIZE }
     ensures value { let K = P.keyed_suite keyed.now in
         let a = adrs.now in
         out.new ≡ wots_sig K sk_seed.now a.layer_adrs a.tree_adrs_low a.key_pair_adrs m.now }
     ensures cost { let digits = wots_digits P.N.USIZE m.now in
-        steps.new ≡ steps.old + wots_sign_cost P.WotsSigLen.USIZE digits }
-    ensures bound { steps.new ≤ steps.old + wots_sign_bound P.WotsSigLen.USIZE }
+        steps.new ≡ steps.old + wots_sign_cost P.WOTS_SIG_LEN digits }
+    ensures bound { steps.new ≤ steps.old + wots_sign_bound P.WOTS_SIG_LEN }
 {
     chain_sizes::<P>();
     let all = message_digits(m);
-    let digits = &all[..P::WotsSigLen::USIZE];
+    let digits = &all[..P::WOTS_SIG_LEN];
     write_chains::<P, L>(digits, sk_seed, keyed, adrs, out, steps);
 }
 
@@ -183,17 +183,17 @@ pub fn wots_sign_leaf<P: WotsParams, L: Ledger>(
     out: &mut [u8],
     steps: &mut Steps<L>,
 ) -> NBytes<P::N>
-    requires { length out.old ≡ P.WotsSigLen.USIZE * P.N.USIZE }
+    requires { length out.old ≡ P.WOTS_SIG_LEN * P.N.USIZE }
     ensures leaf { let K = P.keyed_suite keyed.now in
         let a = adrs.now in
         result ≡ wots_pk K sk_seed.now a.layer_adrs a.tree_adrs_low a.key_pair_adrs }
     ensures value { let K = P.keyed_suite keyed.now in
         let a = adrs.now in
         out.new ≡ wots_sig K sk_seed.now a.layer_adrs a.tree_adrs_low a.key_pair_adrs m.now }
-    ensures cost { steps.new ≡ steps.old + wots_pk_cost P.WotsSigLen.USIZE }
+    ensures cost { steps.new ≡ steps.old + wots_pk_cost P.WOTS_SIG_LEN }
 {
     chain_sizes::<P>();
-    let len = P::WotsSigLen::USIZE;
+    let len = P::WOTS_SIG_LEN;
     let all = message_digits(m);
     let mut store = [0u8; MAX_ENDS_LEN];
     let ends = &mut store[..ends_len::<P>()];
@@ -210,17 +210,17 @@ pub fn wots_pk_from_sig<P: WotsParams, L: Ledger>(
     adrs: &WotsHash,
     steps: &mut Steps<L>,
 ) -> NBytes<P::N>
-    requires { length sig.now ≡ P.WotsSigLen.USIZE * P.N.USIZE }
+    requires { length sig.now ≡ P.WOTS_SIG_LEN * P.N.USIZE }
     ensures value { let K = P.keyed_suite keyed.now in
         let a = adrs.now in
         let j = a.layer_adrs in
         result ≡ spec_wots_pk_from_sig K j a.tree_adrs_low a.key_pair_adrs sig.now m.now }
     ensures cost { let digits = wots_digits P.N.USIZE m.now in
-        steps.new ≡ steps.old + wots_pk_from_sig_cost P.WotsSigLen.USIZE digits }
-    ensures bound { steps.new ≤ steps.old + wots_pk_from_sig_bound P.WotsSigLen.USIZE }
+        steps.new ≡ steps.old + wots_pk_from_sig_cost P.WOTS_SIG_LEN digits }
+    ensures bound { steps.new ≤ steps.old + wots_pk_from_sig_bound P.WOTS_SIG_LEN }
 {
     chain_sizes::<P>();
-    let len = P::WotsSigLen::USIZE;
+    let len = P::WOTS_SIG_LEN;
     let all = message_digits(m);
     let mut store = [0u8; MAX_ENDS_LEN];
     let ends = &mut store[..ends_len::<P>()];

@@ -41,7 +41,7 @@ pub(crate) fn check_signature<P: ParameterSet>(len: usize) -> Result<(), Error>
     ensures refusal { RefusedExactly result (signature_refusal P.scheme len) }
     ensures fits { OnOk result (len ≡ signature_size P.scheme) }
 {
-    if len != P::SigLen::USIZE {
+    if len != P::SIG_LEN {
         return Err(Error::Length);
     }
     Ok(())

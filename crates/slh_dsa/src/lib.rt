@@ -44,7 +44,7 @@ mod verifying_key;
 
 pub use checks::check_opt_rand;
 pub use error::Error;
-pub use parameter_set::ParameterSet;
+pub use parameter_set::{ArrayLengths, ParameterSet};
 pub use signature::Signature;
 pub use signing_key::SigningKey;
 pub use slh_frames::{Frame, Mode};

@@ -10,14 +10,10 @@ pub trait ParameterSet: ForsParams {
     /// The name of the set.
     const NAME: &'static str;
 
-    /// How many bytes a signing key has.
-    type SkLen: ArraySize;
-
-    /// How many bytes a verifying key has.
-    type VkLen: ArraySize;
-
     /// How many bytes a signature has.
-    type SigLen: ArraySize;
+    const SIG_LEN: usize;
+
+    ghost SIG_LEN: { ℕ };
 
     ghost set_name: { List ℕ };
 
@@ -27,9 +23,23 @@ pub trait ParameterSet: ForsParams {
 
     ghost name_len: { length set_name ≤ 255 };
 
+    ghost sig_len: { SIG_LEN ≡ signature_size Self.scheme };
+}
+
+/// The sizes of the arrays that keys and signatures are made into.
+pub trait ArrayLengths: ParameterSet {
+    /// How many bytes a signing key has.
+    type SkLen: ArraySize;
+
+    /// How many bytes a verifying key has.
+    type VkLen: ArraySize;
+
+    /// How many bytes a signature has.
+    type SigLen: ArraySize;
+
     ghost sk_len: { Self.SkLen.USIZE ≡ 4 * Self.N.USIZE };
 
     ghost vk_len: { Self.VkLen.USIZE ≡ 2 * Self.N.USIZE };
 
-    ghost sig_len: { Self.SigLen.USIZE ≡ signature_size Self.scheme };
+    ghost array_len: { Self.SigLen.USIZE ≡ signature_size Self.scheme };
 }

@@ -4,7 +4,7 @@ ghost use Rattle.std.specs.Prelude.{codes};
 ghost use Rattle.slh_hash.specs.Sets.{sha2_128s, sha2_128f, sha2_192s, sha2_192f};
 ghost use Rattle.slh_hash.specs.Sets.{sha2_256s, sha2_256f};
 
-use crate::parameter_set::ParameterSet;
+use crate::parameter_set::{ArrayLengths, ParameterSet};
 use hybrid_array::sizes::{
     U2, U4, U21, U32, U48, U64, U96, U128, U7856, U16224, U17088, U29792, U35664, U49856,
 };
@@ -16,11 +16,9 @@ impl ParameterSet for Sha2_128s {
 
     const NAME: &'static str = "SLH-DSA-SHA2-128s";
 
-    type SkLen = U64;
+    const SIG_LEN: usize = 7856;
 
-    type VkLen = U32;
-
-    type SigLen = U7856;
+    ghost SIG_LEN = { 7856 };
 
     ghost set_name = { sha2_128s.name };
 
@@ -30,11 +28,23 @@ impl ParameterSet for Sha2_128s {
 
     ghost name_len = { Prim.search rules };
 
+    ghost sig_len = { refl };
+}
+
+impl ArrayLengths for Sha2_128s {
+    ghost use Rattle.std.proofs.Common.{refl};
+
+    type SkLen = U64;
+
+    type VkLen = U32;
+
+    type SigLen = U7856;
+
     ghost sk_len = { refl };
 
     ghost vk_len = { refl };
 
-    ghost sig_len = { refl };
+    ghost array_len = { refl };
 }
 
 impl ParameterSet for Sha2_128f {
@@ -42,11 +52,9 @@ impl ParameterSet for Sha2_128f {
 
     const NAME: &'static str = "SLH-DSA-SHA2-128f";
 
-    type SkLen = U64;
+    const SIG_LEN: usize = 17088;
 
-    type VkLen = U32;
-
-    type SigLen = U17088;
+    ghost SIG_LEN = { 17088 };
 
     ghost set_name = { sha2_128f.name };
 
@@ -56,11 +64,23 @@ impl ParameterSet for Sha2_128f {
 
     ghost name_len = { Prim.search rules };
 
+    ghost sig_len = { refl };
+}
+
+impl ArrayLengths for Sha2_128f {
+    ghost use Rattle.std.proofs.Common.{refl};
+
+    type SkLen = U64;
+
+    type VkLen = U32;
+
+    type SigLen = U17088;
+
     ghost sk_len = { refl };
 
     ghost vk_len = { refl };
 
-    ghost sig_len = { refl };
+    ghost array_len = { refl };
 }
 
 impl ParameterSet for Sha2_192s {
@@ -68,11 +88,9 @@ impl ParameterSet for Sha2_192s {
 
     const NAME: &'static str = "SLH-DSA-SHA2-192s";
 
-    type SkLen = U96;
+    const SIG_LEN: usize = 16224;
 
-    type VkLen = U48;
-
-    type SigLen = U16224;
+    ghost SIG_LEN = { 16224 };
 
     ghost set_name = { sha2_192s.name };
 
@@ -82,11 +100,23 @@ impl ParameterSet for Sha2_192s {
 
     ghost name_len = { Prim.search rules };
 
+    ghost sig_len = { refl };
+}
+
+impl ArrayLengths for Sha2_192s {
+    ghost use Rattle.std.proofs.Common.{refl};
+
+    type SkLen = U96;
+
+    type VkLen = U48;
+
+    type SigLen = U16224;
+
     ghost sk_len = { refl };
 
     ghost vk_len = { refl };
 
-    ghost sig_len = { refl };
+    ghost array_len = { refl };
 }
 
 impl ParameterSet for Sha2_192f {
@@ -94,11 +124,9 @@ impl ParameterSet for Sha2_192f {
 
     const NAME: &'static str = "SLH-DSA-SHA2-192f";
 
-    type SkLen = U96;
+    const SIG_LEN: usize = 35664;
 
-    type VkLen = U48;
-
-    type SigLen = U35664;
+    ghost SIG_LEN = { 35664 };
 
     ghost set_name = { sha2_192f.name };
 
@@ -108,11 +136,23 @@ impl ParameterSet for Sha2_192f {
 
     ghost name_len = { Prim.search rules };
 
+    ghost sig_len = { refl };
+}
+
+impl ArrayLengths for Sha2_192f {
+    ghost use Rattle.std.proofs.Common.{refl};
+
+    type SkLen = U96;
+
+    type VkLen = U48;
+
+    type SigLen = U35664;
+
     ghost sk_len = { refl };
 
     ghost vk_len = { refl };
 
-    ghost sig_len = { refl };
+    ghost array_len = { refl };
 }
 
 impl ParameterSet for Sha2_256s {
@@ -120,11 +160,9 @@ impl ParameterSet for Sha2_256s {
 
     const NAME: &'static str = "SLH-DSA-SHA2-256s";
 
-    type SkLen = U128;
+    const SIG_LEN: usize = 29792;
 
-    type VkLen = U64;
-
-    type SigLen = U29792;
+    ghost SIG_LEN = { 29792 };
 
     ghost set_name = { sha2_256s.name };
 
@@ -134,11 +172,23 @@ impl ParameterSet for Sha2_256s {
 
     ghost name_len = { Prim.search rules };
 
+    ghost sig_len = { refl };
+}
+
+impl ArrayLengths for Sha2_256s {
+    ghost use Rattle.std.proofs.Common.{refl};
+
+    type SkLen = U128;
+
+    type VkLen = U64;
+
+    type SigLen = U29792;
+
     ghost sk_len = { refl };
 
     ghost vk_len = { refl };
 
-    ghost sig_len = { refl };
+    ghost array_len = { refl };
 }
 
 impl ParameterSet for Sha2_256f {
@@ -146,11 +196,9 @@ impl ParameterSet for Sha2_256f {
 
     const NAME: &'static str = "SLH-DSA-SHA2-256f";
 
-    type SkLen = U128;
+    const SIG_LEN: usize = 49856;
 
-    type VkLen = U64;
-
-    type SigLen = U49856;
+    ghost SIG_LEN = { 49856 };
 
     ghost set_name = { sha2_256f.name };
 
@@ -160,11 +208,23 @@ impl ParameterSet for Sha2_256f {
 
     ghost name_len = { Prim.search rules };
 
+    ghost sig_len = { refl };
+}
+
+impl ArrayLengths for Sha2_256f {
+    ghost use Rattle.std.proofs.Common.{refl};
+
+    type SkLen = U128;
+
+    type VkLen = U64;
+
+    type SigLen = U49856;
+
     ghost sk_len = { refl };
 
     ghost vk_len = { refl };
 
-    ghost sig_len = { refl };
+    ghost array_len = { refl };
 }
 
 impl ParameterSet for Toy {
@@ -172,11 +232,9 @@ impl ParameterSet for Toy {
 
     const NAME: &'static str = "TOY";
 
-    type SkLen = U4;
+    const SIG_LEN: usize = 21;
 
-    type VkLen = U2;
-
-    type SigLen = U21;
+    ghost SIG_LEN = { 21 };
 
     ghost set_name = { codes "TOY" };
 
@@ -186,9 +244,21 @@ impl ParameterSet for Toy {
 
     ghost name_len = { Prim.search rules };
 
+    ghost sig_len = { refl };
+}
+
+impl ArrayLengths for Toy {
+    ghost use Rattle.std.proofs.Common.{refl};
+
+    type SkLen = U4;
+
+    type VkLen = U2;
+
+    type SigLen = U21;
+
     ghost sk_len = { refl };
 
     ghost vk_len = { refl };
 
-    ghost sig_len = { refl };
+    ghost array_len = { refl };
 }

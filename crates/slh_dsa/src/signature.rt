@@ -6,7 +6,7 @@ ghost use Rattle.slh_trees.specs.Refusals.{RefusedOrNoMemory};
 ghost use Rattle.slh_dsa.specs.declared.error.Error.TheVariants.{Memory};
 
 use crate::error::Error;
-use crate::parameter_set::ParameterSet;
+use crate::parameter_set::ArrayLengths;
 use hybrid_array::{Array, ArraySize, SliceError};
 use slh_internal::SigView;
 use std::alloc::{AllocError, Global};
@@ -15,11 +15,11 @@ use std::marker::Model;
 /// A signature: the randomizer, the forest's part and the layers' parts. Clauses see it as its
 /// bytes.
 #[derive(Drop)]
-pub struct Signature<P: ParameterSet> {
+pub struct Signature<P: ArrayLengths> {
     bytes: Array<u8, P::SigLen>,
 }
 
-impl<P: ParameterSet> Model for Signature<P> {
+impl<P: ArrayLengths> Model for Signature<P> {
     ghost use Rattle.std.specs.Prelude.{◌≡◌, ℕ, List, length};
     ghost use Rattle.slh_internal.specs.Checking.{signature_size};
 
@@ -30,7 +30,7 @@ impl<P: ParameterSet> Model for Signature<P> {
     ghost invariant = { λ s. length s.bytes ≡ signature_size P.scheme };
 }
 
-impl<P: ParameterSet> Signature<P> {
+impl<P: ArrayLengths> Signature<P> {
     /// The signature of a slice's bytes. `Length`: they aren't as many as a signature has; `Memory`.
     pub fn try_from(alloc: Global, bytes: &[u8]) -> Result<Self, Error>
         ensures refusal { RefusedOrNoMemory Memory result
@@ -98,11 +98,11 @@ impl<P: ParameterSet> Signature<P> {
     pub fn encoded_len(&self) -> usize
         ensures { result ≡ signature_size P.scheme }
     {
-        P::SigLen::USIZE
+        P::SIG_LEN
     }
 }
 
-impl<P: ParameterSet> PartialEq for Signature<P> {
+impl<P: ArrayLengths> PartialEq for Signature<P> {
     ghost use Rattle.std.specs.Prelude.{◌==◌};
     ghost use Rattle.std.specs.Cmp.Rules.{comparing};
     ghost use Rattle.std.specs.Cmp.Lexicographic.{pointwise};
@@ -117,7 +117,7 @@ impl<P: ParameterSet> PartialEq for Signature<P> {
     }
 }
 
-impl<P: ParameterSet> Eq for Signature<P> {
+impl<P: ArrayLengths> Eq for Signature<P> {
     ghost use Rattle.std.specs.Cmp.Rules.{comparing};
     ghost use Rattle.std.proofs.Common.{rules};
 

@@ -16,7 +16,7 @@ ghost use Rattle.slh_dsa.specs.declared.error.Error.TheVariants.{Memory};
 
 use crate::checks::{check_context, check_message, check_opt_rand, check_signature, zeros};
 use crate::error::Error;
-use crate::parameter_set::ParameterSet;
+use crate::parameter_set::{ArrayLengths, ParameterSet};
 use crate::signature::Signature;
 use crate::verifying_key::{VerifyingKey, both};
 use hybrid_array::{Array, ArraySize};
@@ -308,7 +308,84 @@ impl<P: ParameterSet> SigningKey<P> {
         );
     }
 
-    // The same in new memory, on a counter that is made here. `Memory`.
+    // The bytes of `opt_rand`, or the public seed where none are given (FIPS 205, algorithm 19).
+    fn opt_rand_or_seed(&self, opt_rand: Option<&[u8]>) -> NBytes<P::N>
+        requires { ForSome (option_copied opt_rand) (λ bytes. length bytes ≡ P.N.USIZE) }
+        ensures { result
+            ≡ unwrap_or (option_copied opt_rand.entry) (part P.N.USIZE self.now 2) }
+    {
+        chain_sizes::<P>();
+        match opt_rand {
+            Some(bytes) => NBytes::exact(bytes),
+            None => self.verifying_key.pk_seed.copy(),
+        }
+    }
+
+    /// The key of 4n bytes, whose root isn't computed again. `Length`: there are fewer or more.
+    pub fn try_from(bytes: &[u8]) -> Result<Self, Error>
+        ensures refusal { RefusedExactly result (signing_key_refusal P.scheme bytes.now) }
+        ensures value { IfOk result (λ key. key ≡ bytes.now) }
+    {
+        chain_sizes::<P>();
+        let n = P::N::USIZE;
+        if bytes.len() != 4 * n {
+            return Err(Error::Length);
+        }
+        let (secret, public) = bytes.split_at(2 * n);
+        let (sk_seed, sk_prf) = secret.split_at(n);
+        Ok(SigningKey {
+            sk_seed: NBytes::exact(sk_seed),
+            sk_prf: NBytes::exact(sk_prf),
+            verifying_key: VerifyingKey::try_from(public)?,
+        })
+    }
+
+    /// Writes the key's 4n bytes.
+    pub fn write_to(&self, out: &mut [u8])
+        requires { length out.old ≡ 4 * P.N.USIZE }
+        ensures { out.new ≡ self.now }
+    {
+        let n = P::N::USIZE;
+        let (sk_seed, rest) = out.split_at_mut(n);
+        let (sk_prf, public) = rest.split_at_mut(n);
+        sk_seed.copy_from_slice(self.sk_seed.as_slice());
+        sk_prf.copy_from_slice(self.sk_prf.as_slice());
+        self.verifying_key.write_to(public);
+    }
+
+    /// The key's 4n bytes, as a vector.
+    pub fn to_vec(&self, alloc: Global) -> Result<Vec<u8>, AllocError>
+        ensures { IfOk result (λ bytes. bytes.items ≡ self.now) }
+    {
+        chain_sizes::<P>();
+        let mut bytes = vec![in alloc; 0u8; 4 * P::N::USIZE]?;
+        self.write_to(&mut bytes);
+        Ok(bytes)
+    }
+
+    /// The verifying key: the key's last 2n bytes.
+    pub fn verifying_key(&self) -> VerifyingKey<P>
+        ensures { result ≡ drop (2 * P.N.USIZE) self.now }
+    {
+        self.verifying_key.copy()
+    }
+
+    // The same key again.
+    fn copy(&self) -> Self
+        ensures { result ≡ self.now }
+    {
+        SigningKey {
+            sk_seed: self.sk_seed.copy(),
+            sk_prf: self.sk_prf.copy(),
+            verifying_key: self.verifying_key.copy(),
+        }
+    }
+}
+
+/// Signatures and bytes in new memory.
+impl<P: ArrayLengths> SigningKey<P> {
+    // The signature of the message that the three slices joined are, in new memory, on a counter
+    // that is made here. `Memory`.
     fn sign_new<L: Ledger>(
         &self,
         alloc: Global,
@@ -392,51 +469,6 @@ impl<P: ParameterSet> SigningKey<P> {
         Ok(Signature::from_array(bytes))
     }
 
-    // The bytes of `opt_rand`, or the public seed where none are given (FIPS 205, algorithm 19).
-    fn opt_rand_or_seed(&self, opt_rand: Option<&[u8]>) -> NBytes<P::N>
-        requires { ForSome (option_copied opt_rand) (λ bytes. length bytes ≡ P.N.USIZE) }
-        ensures { result
-            ≡ unwrap_or (option_copied opt_rand.entry) (part P.N.USIZE self.now 2) }
-    {
-        chain_sizes::<P>();
-        match opt_rand {
-            Some(bytes) => NBytes::exact(bytes),
-            None => self.verifying_key.pk_seed.copy(),
-        }
-    }
-
-    /// The key of 4n bytes, whose root isn't computed again. `Length`: there are fewer or more.
-    pub fn try_from(bytes: &[u8]) -> Result<Self, Error>
-        ensures refusal { RefusedExactly result (signing_key_refusal P.scheme bytes.now) }
-        ensures value { IfOk result (λ key. key ≡ bytes.now) }
-    {
-        chain_sizes::<P>();
-        let n = P::N::USIZE;
-        if bytes.len() != 4 * n {
-            return Err(Error::Length);
-        }
-        let (secret, public) = bytes.split_at(2 * n);
-        let (sk_seed, sk_prf) = secret.split_at(n);
-        Ok(SigningKey {
-            sk_seed: NBytes::exact(sk_seed),
-            sk_prf: NBytes::exact(sk_prf),
-            verifying_key: VerifyingKey::try_from(public)?,
-        })
-    }
-
-    /// Writes the key's 4n bytes.
-    pub fn write_to(&self, out: &mut [u8])
-        requires { length out.old ≡ 4 * P.N.USIZE }
-        ensures { out.new ≡ self.now }
-    {
-        let n = P::N::USIZE;
-        let (sk_seed, rest) = out.split_at_mut(n);
-        let (sk_prf, public) = rest.split_at_mut(n);
-        sk_seed.copy_from_slice(self.sk_seed.as_slice());
-        sk_prf.copy_from_slice(self.sk_prf.as_slice());
-        self.verifying_key.write_to(public);
-    }
-
     /// The key's 4n bytes, as an array.
     pub fn to_bytes(&self, alloc: Global) -> Result<Array<u8, P::SkLen>, AllocError>
         ensures { IfOk result (λ bytes. bytes ≡ self.now) }
@@ -444,31 +476,6 @@ impl<P: ParameterSet> SigningKey<P> {
         let mut bytes = zeros::<P::SkLen>(alloc)?;
         self.write_to(bytes.as_mut_slice());
         Ok(bytes)
-    }
-
-    /// The key's 4n bytes, as a vector.
-    pub fn to_vec(&self, alloc: Global) -> Result<Vec<u8>, AllocError>
-        ensures { IfOk result (λ bytes. bytes.items ≡ self.now) }
-    {
-        Ok(self.to_bytes(alloc)?.into_vec())
-    }
-
-    /// The verifying key: the key's last 2n bytes.
-    pub fn verifying_key(&self) -> VerifyingKey<P>
-        ensures { result ≡ drop (2 * P.N.USIZE) self.now }
-    {
-        self.verifying_key.copy()
-    }
-
-    // The same key again.
-    fn copy(&self) -> Self
-        ensures { result ≡ self.now }
-    {
-        SigningKey {
-            sk_seed: self.sk_seed.copy(),
-            sk_prf: self.sk_prf.copy(),
-            verifying_key: self.verifying_key.copy(),
-        }
     }
 }
 

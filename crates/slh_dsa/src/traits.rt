@@ -12,7 +12,7 @@ ghost use Rattle.slh_dsa.specs.declared.error.Error.TheVariants.{Memory, Message
 
 use crate::checks::{check_message, zeros};
 use crate::error::Error;
-use crate::parameter_set::ParameterSet;
+use crate::parameter_set::{ArrayLengths, ParameterSet};
 use crate::signature::Signature;
 use crate::signing_key::SigningKey;
 use crate::verifying_key::VerifyingKey;
@@ -65,7 +65,9 @@ impl<P: ParameterSet> SigningKey<P> {
             pk_seed.as_slice(),
         ).unwrap()
     }
+}
 
+impl<P: ArrayLengths> SigningKey<P> {
     // The signature of a message in these bytes, by n random ones, on a counter that is made here.
     fn sign_drawn<R: Rng, L: Ledger>(
         &self,
@@ -96,7 +98,7 @@ impl<P: ParameterSet> SigningKey<P> {
 }
 
 /// Signs with an empty context, and without random bytes.
-impl<P: ParameterSet> Signer<Signature<P>> for SigningKey<P> {
+impl<P: ArrayLengths> Signer<Signature<P>> for SigningKey<P> {
     type Error = Error;
 
     ghost signs = { λ _ msg. length msg ≤ 2 ^ 60 };
@@ -111,7 +113,7 @@ impl<P: ParameterSet> Signer<Signature<P>> for SigningKey<P> {
 }
 
 /// Signs with an empty context, and with n random bytes.
-impl<P: ParameterSet> RandomizedSigner<Signature<P>> for SigningKey<P> {
+impl<P: ArrayLengths> RandomizedSigner<Signature<P>> for SigningKey<P> {
     type Error = Error;
 
     ghost signs = { λ _ msg. length msg ≤ 2 ^ 60 };
@@ -145,7 +147,7 @@ impl<P: ParameterSet> KeypairRef for SigningKey<P> {
 }
 
 /// Verifies with an empty context.
-impl<P: ParameterSet> Verifier<Signature<P>> for VerifyingKey<P> {
+impl<P: ArrayLengths> Verifier<Signature<P>> for VerifyingKey<P> {
     type Error = Error;
 
     ghost accepts = { λ key msg sig. verify_error P.scheme key [] msg sig ≡ None };
@@ -157,7 +159,7 @@ impl<P: ParameterSet> Verifier<Signature<P>> for VerifyingKey<P> {
     }
 }
 
-impl<P: ParameterSet> SignatureEncoding for Signature<P> {
+impl<P: ArrayLengths> SignatureEncoding for Signature<P> {
     type Size = P::SigLen;
 
     ghost encoding = { λ sig. sig };

@@ -13,7 +13,7 @@ ghost use Rattle.slh_dsa.specs.declared.error.Error.TheVariants.{Invalid};
 
 use crate::checks::{check_context, check_message, check_signature, zeros};
 use crate::error::Error;
-use crate::parameter_set::ParameterSet;
+use crate::parameter_set::{ArrayLengths, ParameterSet};
 use crate::signature::Signature;
 use hybrid_array::{Array, ArraySize};
 use slh_core::nbytes::NBytes;
@@ -139,63 +139,6 @@ impl<P: ParameterSet> VerifyingKey<P> {
         Ok(())
     }
 
-    // The same on a counter that is made here.
-    fn verify_new<L: Ledger>(
-        &self,
-        head: &[u8],
-        ctx: &[u8],
-        msg: &[u8],
-        signature: &Signature<P>,
-        blank: Blank,
-    ) -> Result<(), Error>
-        requires message { length head.now + length ctx.now + length msg.now ≤ MAX_MESSAGE_LEN }
-        requires fresh { IsFresh blank L.name L.parts }
-        ensures { let message = head.now ++ ctx.now ++ msg.now in
-            RefusedExactly result (root_refusal P.scheme self.now message signature.now) }
-    {
-        let mut steps = Steps::<L>::new(blank);
-        self.verify_slices(head, ctx, msg, &signature.view(), &mut steps)
-    }
-
-    /// Verifies a signature of a message as it stands, without a context (FIPS 205, algorithm 20).
-    /// `MessageTooLong`; `Invalid`: the signature doesn't lead to the key's root.
-    pub fn slh_verify_internal(&self, msg: &[u8], signature: &Signature<P>) -> Result<(), Error>
-        ensures { RefusedExactly result
-            (verify_internal_error P.scheme self.now msg.now signature.now) }
-    {
-        check_message(msg)?;
-        self.verify_new::<Brand>(&[], &[], msg, signature, Blank::new(1))
-    }
-
-    /// Verifies a signature of a message with a context (FIPS 205, algorithm 24).
-    /// `ContextTooLong`, `MessageTooLong`; `Invalid`: the signature doesn't lead to the key's root.
-    pub fn try_verify_with_context(
-        &self,
-        msg: &[u8],
-        ctx: &[u8],
-        signature: &Signature<P>,
-    ) -> Result<(), Error>
-        ensures { RefusedExactly result
-            (verify_error P.scheme self.now ctx.now msg.now signature.now) }
-    {
-        self.hash_verify_with_context(Mode::Pure, msg, ctx, signature)
-    }
-
-    /// As `try_verify_with_context`, where the message or its digest was signed, as the mode says
-    /// (FIPS 205, algorithms 24 and 25). The message is the message itself in every mode.
-    pub fn hash_verify_with_context(
-        &self,
-        mode: Mode,
-        msg: &[u8],
-        ctx: &[u8],
-        signature: &Signature<P>,
-    ) -> Result<(), Error>
-        ensures { RefusedExactly result
-            (hash_verify_error P.scheme mode self.now ctx.now msg.now signature.now) }
-    {
-        self.verify_bytes(mode, ctx, msg, signature.as_slice())
-    }
-
     /// As `hash_verify_counted`, without a counter. `Length`: `sig` doesn't have the bytes of a
     /// signature; `ContextTooLong`, `MessageTooLong`; `Invalid`: it doesn't lead to the key's root.
     /// Takes no memory.
@@ -271,6 +214,97 @@ impl<P: ParameterSet> VerifyingKey<P> {
         self.hash_verify_counted(mode, msg, ctx, sig, &mut steps)
     }
 
+    /// Writes the key's 2n bytes.
+    pub fn write_to(&self, out: &mut [u8])
+        requires { length out.old ≡ 2 * P.N.USIZE }
+        ensures { out.new ≡ self.now }
+    {
+        let (seed, root) = out.split_at_mut(P::N::USIZE);
+        seed.copy_from_slice(self.pk_seed.as_slice());
+        root.copy_from_slice(self.pk_root.as_slice());
+    }
+
+    /// The key's 2n bytes, as a vector.
+    pub fn to_vec(&self, alloc: Global) -> Result<Vec<u8>, AllocError>
+        ensures { IfOk result (λ bytes. bytes.items ≡ self.now) }
+    {
+        chain_sizes::<P>();
+        let mut bytes = vec![in alloc; 0u8; 2 * P::N::USIZE]?;
+        self.write_to(&mut bytes);
+        Ok(bytes)
+    }
+
+    /// The same key again.
+    pub(crate) fn copy(&self) -> Self
+        ensures { result ≡ self.now }
+    {
+        VerifyingKey {
+            pk_seed: self.pk_seed.copy(),
+            pk_root: self.pk_root.copy(),
+        }
+    }
+}
+
+/// Verifying what a `Signature` holds, and keys as arrays.
+impl<P: ArrayLengths> VerifyingKey<P> {
+    // Verifies a signature of the message that the three slices joined are, on a counter that is
+    // made here.
+    fn verify_new<L: Ledger>(
+        &self,
+        head: &[u8],
+        ctx: &[u8],
+        msg: &[u8],
+        signature: &Signature<P>,
+        blank: Blank,
+    ) -> Result<(), Error>
+        requires message { length head.now + length ctx.now + length msg.now ≤ MAX_MESSAGE_LEN }
+        requires fresh { IsFresh blank L.name L.parts }
+        ensures { let message = head.now ++ ctx.now ++ msg.now in
+            RefusedExactly result (root_refusal P.scheme self.now message signature.now) }
+    {
+        let mut steps = Steps::<L>::new(blank);
+        self.verify_slices(head, ctx, msg, &signature.view(), &mut steps)
+    }
+
+    /// Verifies a signature of a message as it stands, without a context (FIPS 205, algorithm 20).
+    /// `MessageTooLong`; `Invalid`: the signature doesn't lead to the key's root.
+    pub fn slh_verify_internal(&self, msg: &[u8], signature: &Signature<P>) -> Result<(), Error>
+        ensures { RefusedExactly result
+            (verify_internal_error P.scheme self.now msg.now signature.now) }
+    {
+        check_message(msg)?;
+        self.verify_new::<Brand>(&[], &[], msg, signature, Blank::new(1))
+    }
+
+    /// Verifies a signature of a message with a context (FIPS 205, algorithm 24).
+    /// `ContextTooLong`, `MessageTooLong`; `Invalid`: the signature doesn't lead to the key's root.
+    pub fn try_verify_with_context(
+        &self,
+        msg: &[u8],
+        ctx: &[u8],
+        signature: &Signature<P>,
+    ) -> Result<(), Error>
+        ensures { RefusedExactly result
+            (verify_error P.scheme self.now ctx.now msg.now signature.now) }
+    {
+        self.hash_verify_with_context(Mode::Pure, msg, ctx, signature)
+    }
+
+    /// As `try_verify_with_context`, where the message or its digest was signed, as the mode says
+    /// (FIPS 205, algorithms 24 and 25). The message is the message itself in every mode.
+    pub fn hash_verify_with_context(
+        &self,
+        mode: Mode,
+        msg: &[u8],
+        ctx: &[u8],
+        signature: &Signature<P>,
+    ) -> Result<(), Error>
+        ensures { RefusedExactly result
+            (hash_verify_error P.scheme mode self.now ctx.now msg.now signature.now) }
+    {
+        self.verify_bytes(mode, ctx, msg, signature.as_slice())
+    }
+
     /// The key of the 2n bytes of an array.
     pub fn from_array(bytes: &Array<u8, P::VkLen>) -> Self
         ensures { result ≡ bytes.now }
@@ -288,33 +322,6 @@ impl<P: ParameterSet> VerifyingKey<P> {
         let mut bytes = zeros::<P::VkLen>(alloc)?;
         self.write_to(bytes.as_mut_slice());
         Ok(bytes)
-    }
-
-    /// The key's 2n bytes, as a vector.
-    pub fn to_vec(&self, alloc: Global) -> Result<Vec<u8>, AllocError>
-        ensures { IfOk result (λ bytes. bytes.items ≡ self.now) }
-    {
-        Ok(self.to_bytes(alloc)?.into_vec())
-    }
-
-    /// Writes the key's 2n bytes.
-    pub fn write_to(&self, out: &mut [u8])
-        requires { length out.old ≡ 2 * P.N.USIZE }
-        ensures { out.new ≡ self.now }
-    {
-        let (seed, root) = out.split_at_mut(P::N::USIZE);
-        seed.copy_from_slice(self.pk_seed.as_slice());
-        root.copy_from_slice(self.pk_root.as_slice());
-    }
-
-    /// The same key again.
-    pub(crate) fn copy(&self) -> Self
-        ensures { result ≡ self.now }
-    {
-        VerifyingKey {
-            pk_seed: self.pk_seed.copy(),
-            pk_root: self.pk_root.copy(),
-        }
     }
 }
 

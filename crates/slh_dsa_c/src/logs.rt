@@ -11,7 +11,6 @@ use crate::status::{
     EMPTY, FORM, INVALID, LENGTH, MESSAGE_TOO_LONG, NO_ENTRY, OK, ORIGIN, SMALLER, UNKNOWN_SET,
     UNSIGNED,
 };
-use hybrid_array::ArraySize;
 use slh_dsa::{
     ParameterSet, Sha2_128f, Sha2_128s, Sha2_192f, Sha2_192s, Sha2_256f, Sha2_256s, VerifyingKey,
 };
@@ -102,10 +101,10 @@ fn open_by<P: ParameterSet>(call: Open<'_>, scratch: &mut [u8]) -> Result<CHead,
     let Ok(key) = VerifyingKey::<P>::try_from(call.public) else {
         return Err(LENGTH);
     };
-    if scratch.len() < 4 || scratch.len() - 4 < P::SigLen::USIZE {
+    if scratch.len() < 4 || scratch.len() - 4 < P::SIG_LEN {
         return Err(LENGTH);
     }
-    let signed = &mut scratch[..4 + P::SigLen::USIZE];
+    let signed = &mut scratch[..4 + P::SIG_LEN];
     match open_in(&key, text_of(call.origin), call.checkpoint, signed) {
         Ok(head) => {
             let root = head.root;

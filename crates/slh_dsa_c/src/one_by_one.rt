@@ -22,7 +22,9 @@ pub struct OneByOne<P: ParameterSet + SmallSuite> {
 impl<P: ParameterSet + SmallSuite> HashSuite for OneByOne<P> {
     type N = P::N;
 
-    type M = P::M;
+    const DIGEST_LEN: usize = P::DIGEST_LEN;
+
+    ghost DIGEST_LEN = { P.DIGEST_LEN };
 
     type Keyed = <P as SmallSuite>::Small;
 
@@ -113,33 +115,49 @@ impl<P: ParameterSet + SmallSuite> HashSuite for OneByOne<P> {
 }
 
 impl<P: ParameterSet + SmallSuite> WotsParams for OneByOne<P> {
-    type WotsMsgLen = <P as WotsParams>::WotsMsgLen;
+    const WOTS_MSG_LEN: usize = P::WOTS_MSG_LEN;
 
-    type WotsSigLen = <P as WotsParams>::WotsSigLen;
+    ghost WOTS_MSG_LEN = { P.WOTS_MSG_LEN };
+
+    const WOTS_SIG_LEN: usize = P::WOTS_SIG_LEN;
+
+    ghost WOTS_SIG_LEN = { P.WOTS_SIG_LEN };
 
     ghost valid_wots = { P.valid_wots };
 }
 
 impl<P: ParameterSet + SmallSuite> XmssParams for OneByOne<P> {
-    type HPrime = <P as XmssParams>::HPrime;
+    const H_PRIME: usize = P::H_PRIME;
+
+    ghost H_PRIME = { P.H_PRIME };
 
     ghost valid_xmss = { P.valid_xmss };
 }
 
 impl<P: ParameterSet + SmallSuite> HypertreeParams for OneByOne<P> {
-    type D = <P as HypertreeParams>::D;
+    const D: usize = P::D;
 
-    type H = <P as HypertreeParams>::H;
+    ghost D = { P.D };
+
+    const H: usize = P::H;
+
+    ghost H = { P.H };
 
     ghost valid_hypertree = { P.valid_hypertree };
 }
 
 impl<P: ParameterSet + SmallSuite> ForsParams for OneByOne<P> {
-    type K = <P as ForsParams>::K;
+    const K: usize = P::K;
 
-    type A = <P as ForsParams>::A;
+    ghost K = { P.K };
 
-    type MD = <P as ForsParams>::MD;
+    const A: usize = P::A;
+
+    ghost A = { P.A };
+
+    const MD: usize = P::MD;
+
+    ghost MD = { P.MD };
 
     ghost scheme = { P.scheme };
 
@@ -151,11 +169,9 @@ impl<P: ParameterSet + SmallSuite> ForsParams for OneByOne<P> {
 impl<P: ParameterSet + SmallSuite> ParameterSet for OneByOne<P> {
     const NAME: &'static str = <P as ParameterSet>::NAME;
 
-    type SkLen = <P as ParameterSet>::SkLen;
+    const SIG_LEN: usize = P::SIG_LEN;
 
-    type VkLen = <P as ParameterSet>::VkLen;
-
-    type SigLen = <P as ParameterSet>::SigLen;
+    ghost SIG_LEN = { P.SIG_LEN };
 
     ghost set_name = { P.set_name };
 
@@ -164,10 +180,6 @@ impl<P: ParameterSet + SmallSuite> ParameterSet for OneByOne<P> {
     }
 
     ghost name_len = { P.name_len };
-
-    ghost sk_len = { P.sk_len };
-
-    ghost vk_len = { P.vk_len };
 
     ghost sig_len = { P.sig_len };
 }

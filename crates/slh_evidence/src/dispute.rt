@@ -29,7 +29,7 @@ pub(crate) trait Sizes: ForsParams {
 
 impl<P: ForsParams> Sizes for P {
     ghost scheme_now = { scheme_of P.suite P.N.USIZE
-        P.HPrime.USIZE P.D.USIZE P.A.USIZE P.K.USIZE };
+        P.H_PRIME P.D P.A P.K };
 }
 
 /// The seeds of a key, the places that a message's digest names, and the two parts of a signature.
@@ -64,11 +64,11 @@ impl<'a, P: ForsParams> Model for Dispute<'a, P> {
     } };
 
     ghost invariant = { λ s.
-        (length s.md.now ≡ P.MD.USIZE)
-        × (length s.forest.now ≡ P.K.USIZE * ((1 + P.A.USIZE) * P.N.USIZE))
-        × (length s.layers.now ≡ P.D.USIZE * layer_size P.N.USIZE P.HPrime.USIZE)
-        × (s.tree < 2 ^ (P.H.USIZE - P.HPrime.USIZE))
-        × (s.leaf < 2 ^ P.HPrime.USIZE)
+        (length s.md.now ≡ P.MD)
+        × (length s.forest.now ≡ P.K * ((1 + P.A) * P.N.USIZE))
+        × (length s.layers.now ≡ P.D * layer_size P.N.USIZE P.H_PRIME)
+        × (s.tree < 2 ^ (P.H - P.H_PRIME))
+        × (s.leaf < 2 ^ P.H_PRIME)
         × (P.keyed_suite s.keyed ≡ seeded P.suite P.N.USIZE s.pk_seed) };
 }
 
@@ -79,7 +79,7 @@ pub fn set_against<'a, P: ForsParams>(
     digest: &'a [u8],
     sig: &SigView<'a, P>,
 ) -> Dispute<'a, P>
-    requires { length digest.now ≡ P.M.USIZE }
+    requires { length digest.now ≡ P.DIGEST_LEN }
     ensures whole { length sig.now ≡ signature_size P.scheme }
     ensures value { let parts = spec_split_digest P.scheme digest.now in
         result ≡ record {
@@ -108,9 +108,9 @@ pub fn set_against<'a, P: ForsParams>(
 impl<'a, P: ForsParams> Dispute<'a, P> {
     /// A layer's part of the signature.
     pub(crate) fn layer_sig(&self, layer: usize) -> &[u8]
-        requires { layer < P.D.USIZE }
-        ensures value { result.now ≡ part (layer_size P.N.USIZE P.HPrime.USIZE) self.now.layers layer }
-        ensures len { length result.now ≡ layer_size P.N.USIZE P.HPrime.USIZE }
+        requires { layer < P.D }
+        ensures value { result.now ≡ part (layer_size P.N.USIZE P.H_PRIME) self.now.layers layer }
+        ensures len { length result.now ≡ layer_size P.N.USIZE P.H_PRIME }
     {
         layer_sizes::<P>();
         piece(self.layers, layer_len::<P>(), layer)
@@ -128,18 +128,18 @@ impl<'a, P: ForsParams> Dispute<'a, P> {
 
     /// The address of the key pair of a layer that signs.
     pub(crate) fn adrs_at(&self, layer: u32) -> WotsHash
-        requires { layer < P.D.USIZE }
+        requires { layer < P.D }
         ensures value { result ≡ record {
           layer_adrs = layer;
-          tree_adrs_low = tree_at P.HPrime.USIZE self.now.t layer;
-          key_pair_adrs = leaf_at P.HPrime.USIZE self.now.t self.now.l layer;
+          tree_adrs_low = tree_at P.H_PRIME self.now.t layer;
+          key_pair_adrs = leaf_at P.H_PRIME self.now.t self.now.l layer;
           chain_adrs = 0;
           hash_adrs = 0;
         } }
-        ensures leaf { result.key_pair_adrs < 2 ^ P.HPrime.USIZE }
+        ensures leaf { result.key_pair_adrs < 2 ^ P.H_PRIME }
     {
         layer_sizes::<P>();
-        let height = P::HPrime::USIZE;
+        let height = P::H_PRIME;
         let mut tree = self.tree;
         let mut leaf = self.leaf;
         for _ in 0..layer {
@@ -154,7 +154,7 @@ impl<'a, P: ForsParams> Dispute<'a, P> {
         layer: usize,
         steps: &mut Steps<L>,
     ) -> NBytes<P::N>
-        requires { layer ≤ P.D.USIZE }
+        requires { layer ≤ P.D }
         ensures { let Z = ⟦<P as Sizes>⟧.scheme_now in
             result ≡ checked_at (dispute_on Z self.now) layer }
     {
@@ -171,7 +171,7 @@ impl<'a, P: ForsParams> Dispute<'a, P> {
 
     /// Writes the roots of the key's own forest.
     pub(crate) fn own_roots<L: Ledger>(&self, out: &mut [u8], steps: &mut Steps<L>)
-        requires { length out.old ≡ P.K.USIZE * P.N.USIZE }
+        requires { length out.old ≡ P.K * P.N.USIZE }
         ensures { let Z = ⟦<P as Sizes>⟧.scheme_now in
             let D = dispute_on Z self.now in
             out.new ≡ joined (λ i. spec_fors_node D.K D.sk D.t D.l D.a i) D.k }
@@ -179,8 +179,8 @@ impl<'a, P: ForsParams> Dispute<'a, P> {
         forest_sizes::<P>();
         let adrs = ForsTree::new(self.tree, self.leaf);
         let n = P::N::USIZE;
-        let height = P::A::USIZE;
-        for i in 0..P::K::USIZE {
+        let height = P::A;
+        for i in 0..P::K {
             let index = i as u32;
             let root = fors_node::<P, L>(
                 &self.sk_seed,
@@ -210,7 +210,7 @@ impl<'a, P: ForsParams> Dispute<'a, P> {
 
     /// The message that the key signs on a layer.
     pub(crate) fn own_message<L: Ledger>(&self, layer: usize, steps: &mut Steps<L>) -> NBytes<P::N>
-        requires { layer ≤ P.D.USIZE }
+        requires { layer ≤ P.D }
         ensures { let Z = ⟦<P as Sizes>⟧.scheme_now in
             result ≡ own_at (dispute_on Z self.now) layer }
     {
@@ -219,7 +219,7 @@ impl<'a, P: ForsParams> Dispute<'a, P> {
             return self.own_key::<L>(steps);
         }
         let adrs = self.adrs_at(layer as u32 - 1);
-        let height = P::HPrime::USIZE as u32;
+        let height = P::H_PRIME as u32;
         xmss_node::<P, L>(&self.sk_seed, 0, height, &self.keyed, &adrs, steps)
     }
 }

@@ -24,26 +24,26 @@ use std::sync::ledger::Ledger;
 
 /// The index of the leaf that the digest names in a tree.
 fn named_leaf<P: ForsParams>(md: &[u8], tree: u32) -> u32
-    requires tree { tree < P.K.USIZE }
-    requires digest { length md.now ≡ P.MD.USIZE }
-    ensures value { result ≡ leaf_index P.A.USIZE (digits md.now P.A.USIZE P.K.USIZE) tree }
-    ensures below { result < P.K.USIZE * 2 ^ P.A.USIZE }
+    requires tree { tree < P.K }
+    requires digest { length md.now ≡ P.MD }
+    ensures value { result ≡ leaf_index P.A (digits md.now P.A P.K) tree }
+    ensures below { result < P.K * 2 ^ P.A }
 {
     forest_sizes::<P>();
     let mut store = [0u16; MAX_FORS_TREES];
-    let digits = &mut store[..P::K::USIZE];
-    base_2b(md, P::A::USIZE as u32, digits);
+    let digits = &mut store[..P::K];
+    base_2b(md, P::A as u32, digits);
     index_of::<P>(tree as usize, digits[tree as usize])
 }
 
 /// The secret that is opened in a tree and the siblings, in the forest's part of a signature.
 fn opened_parts<P: ForsParams>(sig: &[u8], tree: usize) -> (&[u8], &[u8])
-    requires tree { tree < P.K.USIZE }
-    requires whole { length sig.now ≡ P.K.USIZE * ((1 + P.A.USIZE) * P.N.USIZE) }
-    ensures secret { result.0.now ≡ take P.N.USIZE (part ((1 + P.A.USIZE) * P.N.USIZE) sig.now tree) }
-    ensures path { result.1.now ≡ drop P.N.USIZE (part ((1 + P.A.USIZE) * P.N.USIZE) sig.now tree) }
+    requires tree { tree < P.K }
+    requires whole { length sig.now ≡ P.K * ((1 + P.A) * P.N.USIZE) }
+    ensures secret { result.0.now ≡ take P.N.USIZE (part ((1 + P.A) * P.N.USIZE) sig.now tree) }
+    ensures path { result.1.now ≡ drop P.N.USIZE (part ((1 + P.A) * P.N.USIZE) sig.now tree) }
     ensures secret_len { length result.0.now ≡ P.N.USIZE }
-    ensures path_len { length result.1.now ≡ P.A.USIZE * P.N.USIZE }
+    ensures path_len { length result.1.now ≡ P.A * P.N.USIZE }
 {
     forest_sizes::<P>();
     piece(sig, opened_len::<P>(), tree).split_at(P::N::USIZE)
@@ -58,7 +58,7 @@ fn own_leaf<P: ForsParams, L: Ledger>(
     y: u32,
     steps: &mut Steps<L>,
 ) -> NBytes<P::N>
-    requires { y < P.K.USIZE * 2 ^ P.A.USIZE }
+    requires { y < P.K * 2 ^ P.A }
     ensures { let K = P.keyed_suite keyed.now in
         let a = adrs.now in
         result ≡ fors_leaf K sk_seed.now a.tree_adrs_low a.key_pair_adrs y }
@@ -75,27 +75,27 @@ fn checked_roots<P: ForsParams, L: Ledger>(
     out: &mut [u8],
     steps: &mut Steps<L>,
 )
-    requires digest { length md.now ≡ P.MD.USIZE }
-    requires whole { length sig.now ≡ P.K.USIZE * ((1 + P.A.USIZE) * P.N.USIZE) }
-    requires room { length out.old ≡ P.K.USIZE * P.N.USIZE }
+    requires digest { length md.now ≡ P.MD }
+    requires whole { length sig.now ≡ P.K * ((1 + P.A) * P.N.USIZE) }
+    requires room { length out.old ≡ P.K * P.N.USIZE }
     ensures { let K = P.keyed_suite keyed.now in
         let t = adrs.now.tree_adrs_low in
         let l = adrs.now.key_pair_adrs in
-        let a = P.A.USIZE in
-        let x = digits md.now a P.K.USIZE in
-        out.new ≡ joined (λ i. checked_fors_node K t l a sig.now x i a) P.K.USIZE }
+        let a = P.A in
+        let x = digits md.now a P.K in
+        out.new ≡ joined (λ i. checked_fors_node K t l a sig.now x i a) P.K }
 {
     forest_sizes::<P>();
     let mut store = [0u16; MAX_FORS_TREES];
-    let digits = &mut store[..P::K::USIZE];
-    base_2b(md, P::A::USIZE as u32, digits);
+    let digits = &mut store[..P::K];
+    base_2b(md, P::A as u32, digits);
     climb_all::<P, L>(digits, sig, keyed, adrs, out, steps);
 }
 
 impl<'a, P: ForsParams> Dispute<'a, P> {
     /// Whether the secret that is opened in a tree of the forest shows.
     fn fors_secret_shows<L: Ledger>(&self, tree: u32, steps: &mut Steps<L>) -> bool
-        requires { tree < P.K.USIZE }
+        requires { tree < P.K }
         ensures { let Z = ⟦<P as Sizes>⟧.scheme_now in
             result ≡ spec_shows (dispute_on Z self.now) (ForsNode tree zero) }
     {
@@ -112,9 +112,9 @@ impl<'a, P: ForsParams> Dispute<'a, P> {
 
     /// Whether the node at a height on the way up in a tree of the forest shows.
     fn fors_node_shows<L: Ledger>(&self, tree: u32, height: u32, steps: &mut Steps<L>) -> bool
-        requires tree { tree < P.K.USIZE }
+        requires tree { tree < P.K }
         requires low { 1 ≤ height }
-        requires high { height ≤ P.A.USIZE }
+        requires high { height ≤ P.A }
         ensures { let Z = ⟦<P as Sizes>⟧.scheme_now in
             result ≡ spec_shows (dispute_on Z self.now) (ForsNode tree height) }
     {
@@ -164,13 +164,13 @@ impl<'a, P: ForsParams> Dispute<'a, P> {
             result ≡ spec_shows (dispute_on Z self.now) (ForsNode tree height) }
     {
         forest_sizes::<P>();
-        if tree >= P::K::USIZE as u32 {
+        if tree >= P::K as u32 {
             return false;
         }
         if height == 0 {
             return self.fors_secret_shows::<L>(tree, steps);
         }
-        if height > P::A::USIZE as u32 {
+        if height > P::A as u32 {
             return false;
         }
         self.fors_node_shows::<L>(tree, height, steps)

@@ -99,14 +99,14 @@ pub(crate) fn nodes_collide<N: ArraySize>(
 
 /// The values of the chains and the siblings, in a layer's part of a signature.
 pub(crate) fn layer_parts<P: XmssParams>(sig: &[u8]) -> (&[u8], &[u8])
-    requires { length sig.now ≡ layer_size P.N.USIZE P.HPrime.USIZE }
+    requires { length sig.now ≡ layer_size P.N.USIZE P.H_PRIME }
     ensures chains { result.0.now ≡ take (chain_count P.N.USIZE * P.N.USIZE) sig.now }
     ensures path { result.1.now ≡ drop (chain_count P.N.USIZE * P.N.USIZE) sig.now }
-    ensures chains_len { length result.0.now ≡ P.WotsSigLen.USIZE * P.N.USIZE }
-    ensures path_len { length result.1.now ≡ P.HPrime.USIZE * P.N.USIZE }
+    ensures chains_len { length result.0.now ≡ P.WOTS_SIG_LEN * P.N.USIZE }
+    ensures path_len { length result.1.now ≡ P.H_PRIME * P.N.USIZE }
 {
     tree_sizes::<P>();
-    sig.split_at(P::WotsSigLen::USIZE * P::N::USIZE)
+    sig.split_at(P::WOTS_SIG_LEN * P::N::USIZE)
 }
 
 /// Writes the ends of the key's own chains.
@@ -118,7 +118,7 @@ fn own_ends<P: WotsParams, L: Ledger>(
     out: &mut [u8],
     steps: &mut Steps<L>,
 )
-    requires { length out.old ≡ P.WotsSigLen.USIZE * P.N.USIZE }
+    requires { length out.old ≡ P.WOTS_SIG_LEN * P.N.USIZE }
     ensures { let K = P.keyed_suite keyed.now in
         let sk = sk_seed.now in
         let a = adrs.now in
@@ -128,7 +128,7 @@ fn own_ends<P: WotsParams, L: Ledger>(
 {
     chain_sizes::<P>();
     let n = P::N::USIZE;
-    for c in 0..P::WotsSigLen::USIZE {
+    for c in 0..P::WOTS_SIG_LEN {
         let end = own_chain::<P, L>(sk_seed, keyed, adrs, c as u32, 15, steps);
         put_part(out, n, c, end.as_slice());
     }
@@ -137,7 +137,7 @@ fn own_ends<P: WotsParams, L: Ledger>(
 /// The digit of a message that belongs to a chain.
 #[tactic(auto, using(slh_core::proofs::DigitSteps::wots_digits_below))]
 fn digit_of<P: WotsParams>(message: &NBytes<P::N>, chain: u32) -> u32
-    requires { chain < P.WotsSigLen.USIZE }
+    requires { chain < P.WOTS_SIG_LEN }
     ensures value { result ≡ slice_index (wots_digits P.N.USIZE message.now) chain }
     ensures below { result < 16 }
 {
@@ -166,23 +166,23 @@ pub(crate) struct LayerCheck<'s, 'a, P: ForsParams> {
     pub(crate) adrs: WotsHash,
     pub(crate) sig: &'s [u8],
     pub(crate) message: NBytes<P::N>,
-    ghost layer: { adrs.layer_adrs < P.D.USIZE },
-    ghost tree: { adrs.tree_adrs_low ≡ tree_at P.HPrime.USIZE dispute.now.t adrs.layer_adrs },
+    ghost layer: { adrs.layer_adrs < P.D },
+    ghost tree: { adrs.tree_adrs_low ≡ tree_at P.H_PRIME dispute.now.t adrs.layer_adrs },
     ghost leaf: { adrs.key_pair_adrs
-        ≡ leaf_at P.HPrime.USIZE dispute.now.t dispute.now.l adrs.layer_adrs },
-    ghost below: { adrs.key_pair_adrs < 2 ^ P.HPrime.USIZE },
+        ≡ leaf_at P.H_PRIME dispute.now.t dispute.now.l adrs.layer_adrs },
+    ghost below: { adrs.key_pair_adrs < 2 ^ P.H_PRIME },
     ghost part: { sig.now
-        ≡ part (layer_size P.N.USIZE P.HPrime.USIZE) dispute.now.layers adrs.layer_adrs },
-    ghost whole: { length sig.now ≡ layer_size P.N.USIZE P.HPrime.USIZE },
-    ghost checked: { message ≡ checked_at (dispute_on (scheme_of P.suite P.N.USIZE P.HPrime.USIZE
-        P.D.USIZE P.A.USIZE P.K.USIZE) dispute.now) adrs.layer_adrs },
+        ≡ part (layer_size P.N.USIZE P.H_PRIME) dispute.now.layers adrs.layer_adrs },
+    ghost whole: { length sig.now ≡ layer_size P.N.USIZE P.H_PRIME },
+    ghost checked: { message ≡ checked_at (dispute_on (scheme_of P.suite P.N.USIZE P.H_PRIME
+        P.D P.A P.K) dispute.now) adrs.layer_adrs },
 }
 
 impl<'s, 'a, P: ForsParams> LayerCheck<'s, 'a, P> {
     /// Whether the node at a height on the way up shows.
     pub(crate) fn tree_node_shows<L: Ledger>(&self, height: u32, steps: &mut Steps<L>) -> bool
         requires low { 1 ≤ height }
-        requires high { height ≤ P.HPrime.USIZE }
+        requires high { height ≤ P.H_PRIME }
         ensures { let Z = ⟦<P as Sizes>⟧.scheme_now in
             let D = dispute_on Z self.now.dispute.now in
             result ≡ spec_shows D (TreeNode self.now.adrs.layer_adrs height) }
@@ -220,7 +220,7 @@ impl<'s, 'a, P: ForsParams> LayerCheck<'s, 'a, P> {
         let sk_seed = &dispute.sk_seed;
         let keyed = &dispute.keyed;
         let adrs = &self.adrs;
-        let len = P::WotsSigLen::USIZE;
+        let len = P::WOTS_SIG_LEN;
         let size = ends_len::<P>();
         let all = message_digits(&self.message);
         let mut store = [0u8; MAX_ENDS_LEN];
@@ -240,7 +240,7 @@ impl<'s, 'a, P: ForsParams> LayerCheck<'s, 'a, P> {
         step: u32,
         steps: &mut Steps<L>,
     ) -> bool
-        requires { chain < P.WotsSigLen.USIZE }
+        requires { chain < P.WOTS_SIG_LEN }
         ensures { let Z = ⟦<P as Sizes>⟧.scheme_now in
             let D = dispute_on Z self.now.dispute.now in
             result ≡ spec_shows D (ChainStep self.now.adrs.layer_adrs chain step) }
@@ -275,7 +275,7 @@ impl<'s, 'a, P: ForsParams> LayerCheck<'s, 'a, P> {
         chain: u32,
         steps: &mut Steps<L>,
     ) -> bool
-        requires chain { chain < P.WotsSigLen.USIZE }
+        requires chain { chain < P.WOTS_SIG_LEN }
         requires own { let Z = ⟦<P as Sizes>⟧.scheme_now in
             own.now ≡ own_at (dispute_on Z self.now.dispute.now) self.now.adrs.layer_adrs }
         ensures { let Z = ⟦<P as Sizes>⟧.scheme_now in

@@ -6,7 +6,6 @@ ghost use Rattle.slh_trees.specs.Fors.{fors_pk, fors_sig};
 
 use crate::dispute::{Dispute, Sizes};
 use crate::layer::same;
-use hybrid_array::ArraySize;
 use slh_core::address::ForsTree;
 use slh_core::nbytes::NBytes;
 use slh_core::params::{ForsParams, MAX_FORS_TREES, MAX_OPENED_LEN, layer_sizes};
@@ -55,7 +54,7 @@ impl<'a, P: ForsParams> Dispute<'a, P> {
         own: &mut NBytes<P::N>,
         steps: &mut Steps<L>,
     ) -> bool
-        requires layer { layer < P.D.USIZE }
+        requires layer { layer < P.D }
         requires checked { let Z = ⟦<P as Sizes>⟧.scheme_now in
             checked.old ≡ checked_at (dispute_on Z self.now) layer }
         requires own { let Z = ⟦<P as Sizes>⟧.scheme_now in
@@ -93,7 +92,7 @@ impl<'a, P: ForsParams> Dispute<'a, P> {
         requires key { let Z = ⟦<P as Sizes>⟧.scheme_now in
             let D = dispute_on Z self.now in
             key.now ≡ fors_pk D.K D.sk D.t D.l D.k D.a }
-        ensures high { result ≤ P.D.USIZE }
+        ensures high { result ≤ P.D }
         ensures own { let Z = ⟦<P as Sizes>⟧.scheme_now in
             IsOwnFrom (dispute_on Z self.now) result }
     {
@@ -101,7 +100,7 @@ impl<'a, P: ForsParams> Dispute<'a, P> {
         let mut checked = self.checked_key::<L>(steps);
         let mut own = key.copy();
         let mut lowest = 0;
-        for layer in 0..P::D::USIZE as u32 {
+        for layer in 0..P::D as u32 {
             if !self.layer_up::<L>(layer, &mut checked, &mut own, steps) {
                 lowest = layer + 1;
             }

@@ -11,7 +11,6 @@ ghost use Rattle.slh_core.specs.Parameters.{chain_count};
 use crate::dispute::{Dispute, Sizes};
 use crate::evidence::Evidence;
 use crate::layer::LayerCheck;
-use hybrid_array::ArraySize;
 use slh_core::nbytes::NBytes;
 use slh_core::params::{ForsParams, forest_sizes, layer_sizes};
 use slh_core::steps::Steps;
@@ -25,7 +24,7 @@ impl<'s, 'a, P: ForsParams> LayerCheck<'s, 'a, P> {
             result ≡ find (spec_shows D) (tree_node_places D.hp self.now.adrs.layer_adrs) }
     {
         layer_sizes::<P>();
-        let top = P::HPrime::USIZE as u32;
+        let top = P::H_PRIME as u32;
         let layer = self.adrs.layer_adrs;
         for down in 0..top {
             let height = top - down;
@@ -44,7 +43,7 @@ impl<'s, 'a, P: ForsParams> LayerCheck<'s, 'a, P> {
         chain: u32,
         steps: &mut Steps<L>,
     ) -> Option<Evidence>
-        requires chain { chain < P.WotsSigLen.USIZE }
+        requires chain { chain < P.WOTS_SIG_LEN }
         requires own { let Z = ⟦<P as Sizes>⟧.scheme_now in
             own.now ≡ own_at (dispute_on Z self.now.dispute.now) self.now.adrs.layer_adrs }
         ensures { let Z = ⟦<P as Sizes>⟧.scheme_now in
@@ -78,7 +77,7 @@ impl<'s, 'a, P: ForsParams> LayerCheck<'s, 'a, P> {
             result ≡ find (spec_shows D) (in_turn (chain_places layer) (chain_count D.K.n)) }
     {
         layer_sizes::<P>();
-        let len = P::WotsSigLen::USIZE as u32;
+        let len = P::WOTS_SIG_LEN as u32;
         for chain in 0..len {
             let found = self.first_in_chain::<L>(own, chain, steps);
             if found.is_some() {
@@ -92,7 +91,7 @@ impl<'s, 'a, P: ForsParams> LayerCheck<'s, 'a, P> {
 impl<'a, P: ForsParams> Dispute<'a, P> {
     /// The first evidence of a layer that shows.
     fn first_in_layer<L: Ledger>(&self, layer: u32, steps: &mut Steps<L>) -> Option<Evidence>
-        requires layer { layer < P.D.USIZE }
+        requires layer { layer < P.D }
         ensures { let Z = ⟦<P as Sizes>⟧.scheme_now in
             let D = dispute_on Z self.now in
             result ≡ find (spec_shows D) (layer_places D.hp (chain_count D.K.n) layer) }
@@ -112,7 +111,7 @@ impl<'a, P: ForsParams> Dispute<'a, P> {
     /// The first evidence of all layers that shows, where the layers from a lowest one on are the
     /// key's own: nothing shows on them.
     fn first_in_layers<L: Ledger>(&self, lowest: u32, steps: &mut Steps<L>) -> Option<Evidence>
-        requires lowest { lowest ≤ P.D.USIZE }
+        requires lowest { lowest ≤ P.D }
         requires own { let Z = ⟦<P as Sizes>⟧.scheme_now in
             IsOwnFrom (dispute_on Z self.now) lowest }
         ensures { let Z = ⟦<P as Sizes>⟧.scheme_now in
@@ -120,7 +119,7 @@ impl<'a, P: ForsParams> Dispute<'a, P> {
             result ≡ find (spec_shows D) (all_layers_places D) }
     {
         layer_sizes::<P>();
-        let count = P::D::USIZE as u32;
+        let count = P::D as u32;
         for down in count - lowest..count {
             let found = self.first_in_layer::<L>(count - 1 - down, steps);
             if found.is_some() {
@@ -132,13 +131,13 @@ impl<'a, P: ForsParams> Dispute<'a, P> {
 
     /// The first evidence of a tree of the forest that shows.
     fn first_in_fors_tree<L: Ledger>(&self, tree: u32, steps: &mut Steps<L>) -> Option<Evidence>
-        requires tree { tree < P.K.USIZE }
+        requires tree { tree < P.K }
         ensures { let Z = ⟦<P as Sizes>⟧.scheme_now in
             let D = dispute_on Z self.now in
             result ≡ find (spec_shows D) (fors_tree_places D.a tree) }
     {
         forest_sizes::<P>();
-        let top = P::A::USIZE as u32;
+        let top = P::A as u32;
         for down in 0..top + 1 {
             let height = top - down;
             if self.any_fors_node_shows::<L>(tree, height, steps) {
@@ -158,7 +157,7 @@ impl<'a, P: ForsParams> Dispute<'a, P> {
         if self.fors_roots_show::<L>(steps) {
             return Some(Evidence::ForsRoots);
         }
-        let count = P::K::USIZE as u32;
+        let count = P::K as u32;
         for tree in 0..count {
             let found = self.first_in_fors_tree::<L>(tree, steps);
             if found.is_some() {
@@ -170,7 +169,7 @@ impl<'a, P: ForsParams> Dispute<'a, P> {
 
     /// The first evidence that shows, where the layers from a lowest one on are the key's own.
     pub fn first_evidence<L: Ledger>(&self, lowest: u32, steps: &mut Steps<L>) -> Option<Evidence>
-        requires lowest { lowest ≤ P.D.USIZE }
+        requires lowest { lowest ≤ P.D }
         requires own { let Z = ⟦<P as Sizes>⟧.scheme_now in
             IsOwnFrom (dispute_on Z self.now) lowest }
         ensures { let Z = ⟦<P as Sizes>⟧.scheme_now in

@@ -7,7 +7,6 @@ ghost use Rattle.slh_evidence.specs.Evidence.{shows as spec_shows, dispute_on};
 use crate::dispute::{Dispute, Sizes};
 use crate::evidence::Evidence;
 use crate::layer::LayerCheck;
-use hybrid_array::ArraySize;
 use slh_core::params::{ForsParams, layer_sizes};
 use slh_core::steps::Steps;
 use std::sync::ledger::Ledger;
@@ -19,7 +18,7 @@ impl<'a, P: ForsParams> Dispute<'a, P> {
         layer: u32,
         steps: &mut Steps<L>,
     ) -> LayerCheck<'_, 'a, P>
-        requires { layer < P.D.USIZE }
+        requires { layer < P.D }
         ensures dispute { result.dispute.now ≡ self.now }
         ensures layer { result.adrs.layer_adrs ≡ layer }
     {
@@ -40,13 +39,13 @@ impl<'a, P: ForsParams> Dispute<'a, P> {
             result ≡ spec_shows (dispute_on Z self.now) (TreeNode layer height) }
     {
         layer_sizes::<P>();
-        if layer >= P::D::USIZE as u32 {
+        if layer >= P::D as u32 {
             return false;
         }
         if height == 0 {
             return false;
         }
-        if height > P::HPrime::USIZE as u32 {
+        if height > P::H_PRIME as u32 {
             return false;
         }
         let check = self.layer_check::<L>(layer, steps);
@@ -59,7 +58,7 @@ impl<'a, P: ForsParams> Dispute<'a, P> {
             result ≡ spec_shows (dispute_on Z self.now) (Leaf layer) }
     {
         layer_sizes::<P>();
-        if layer >= P::D::USIZE as u32 {
+        if layer >= P::D as u32 {
             return false;
         }
         let check = self.layer_check::<L>(layer, steps);
@@ -78,10 +77,10 @@ impl<'a, P: ForsParams> Dispute<'a, P> {
             result ≡ spec_shows (dispute_on Z self.now) (ChainStep layer chain step) }
     {
         layer_sizes::<P>();
-        if layer >= P::D::USIZE as u32 {
+        if layer >= P::D as u32 {
             return false;
         }
-        if chain >= P::WotsSigLen::USIZE as u32 {
+        if chain >= P::WOTS_SIG_LEN as u32 {
             return false;
         }
         let check = self.layer_check::<L>(layer, steps);
@@ -94,10 +93,10 @@ impl<'a, P: ForsParams> Dispute<'a, P> {
             result ≡ spec_shows (dispute_on Z self.now) (Early layer chain) }
     {
         layer_sizes::<P>();
-        if layer >= P::D::USIZE as u32 {
+        if layer >= P::D as u32 {
             return false;
         }
-        if chain >= P::WotsSigLen::USIZE as u32 {
+        if chain >= P::WOTS_SIG_LEN as u32 {
             return false;
         }
         let check = self.layer_check::<L>(layer, steps);

@@ -1,5 +1,6 @@
 mod Grouped
 mod Pieces
+mod Placed
 mod Started
 pub mod PairRows
 mod ChainEnds

@@ -5,7 +5,7 @@ ghost use Rattle.slh_core.specs.Bytes.{joined, part};
 
 use crate::rows_256::ADDRESS_LEN;
 use slh_core::address::{Address, WotsHash};
-use slh_core::equal_parts::put_part;
+use slh_core::equal_parts::{piece, put_part};
 use slh_core::params::{MAX_CHAINS, MAX_ENDS_LEN};
 
 /// The most bytes of one message, without the public seed.
@@ -21,8 +21,7 @@ fn gather(ends: &[u8], n: usize, k: usize, out: &mut [u8], count: usize)
     ensures { out.new ≡ joined (λ c. part n ends.now (8 * c + k)) count }
 {
     for c in 0..count {
-        let i = 8 * c + k;
-        put_part(out, n, c, &ends[i * n..(i + 1) * n]);
+        put_part(out, n, c, piece(ends, n, 8 * c + k));
     }
 }
 

@@ -1,6 +1,6 @@
 //! The SHA-256 hashes of many values at once, whose addresses stand in a row.
 ghost use Rattle.std.specs.Prelude.{◌≡◌, ℕ, ◌+◌, ◌-◌, ◌*◌, ◌≤◌, ◌<◌, List, [], ◌++◌, length, min};
-ghost use Rattle.std.specs.Prelude.{slice_index, slice_index_or, take};
+ghost use Rattle.std.specs.Prelude.{slice_index, slice_index_or, slice_range, take, drop};
 ghost use Rattle.sha256_lanes.specs.Sha256.{sha256};
 ghost use Rattle.slh_core.specs.Address.{compressed_address};
 ghost use Rattle.slh_core.specs.Bytes.{joined, part};
@@ -12,7 +12,7 @@ use crate::tweaked::short_hash;
 use hybrid_array::ArraySize;
 use sha256_lanes::{BLOCK_BYTES, MAX_TAIL};
 use slh_core::address::{Address, RowAddress};
-use slh_core::equal_parts::put_part;
+use slh_core::equal_parts::{piece, put_part};
 use slh_core::nbytes::NBytes;
 use slh_core::steps::Steps;
 use std::sync::ledger::Ledger;
@@ -62,8 +62,7 @@ pub(crate) fn tails_of<A: RowAddress + Drop, const W: usize, const B: usize>(
     let mut tails = [[0u8; B]; W];
     for k in 0..W {
         let i = k.min(last);
-        let input = &inputs[i * width..i * width + width];
-        tails[k] = tail_of(&adrs.at_number(numbers[i]), input);
+        tails[k] = tail_of(&adrs.at_number(numbers[i]), piece(inputs, width, i));
     }
     tails
 }
@@ -124,9 +123,42 @@ pub(crate) fn put_hashes<N: ArraySize, L: Ledger, const W: usize, const D: usize
     }
 }
 
+/// The parts from number `done` to `end`, of parts of `width` bytes.
+#[inline]
+pub(crate) fn parts_between(bytes: &[u8], width: usize, done: usize, end: usize) -> &[u8]
+    requires order { done ≤ end }
+    requires inside { end * width ≤ length bytes.now }
+    ensures value { result.now ≡ slice_range bytes.now (done * width) (end * width) }
+    ensures len { length result.now ≡ (end - done) * width }
+{
+    &bytes[done * width..end * width]
+}
+
+/// `put_hashes` for the parts from number `done` to `end`. What follows stays.
+#[inline]
+pub(crate) fn put_hashes_between<N: ArraySize, L: Ledger, const W: usize, const D: usize>(
+    digests: &[[u8; D]; W],
+    out: &mut [u8],
+    done: usize,
+    end: usize,
+    steps: &mut Steps<L>,
+)
+    requires small { N.USIZE ≤ D }
+    requires order { done ≤ end }
+    requires few { end - done ≤ W }
+    requires room { end * N.USIZE ≤ length out.old }
+    ensures front { let n = N.USIZE in
+        take (end * n) out.new ≡ take (done * n) out.old
+        ++ joined (λ k. take n (slice_index_or digests.now k [])) (end - done) }
+    ensures rest { drop (end * N.USIZE) out.new ≡ drop (end * N.USIZE) out.old }
+    ensures step { steps.new ≡ steps.old + (end - done) }
+{
+    let n = N::USIZE;
+    put_hashes::<N, L, W, D>(digests, end - done, &mut out[done * n..end * n], steps);
+}
+
 /// Hashes values of `N::USIZE` bytes, which stand one after the other, in their places. Their
 /// addresses are those of a row with the numbers.
-#[tactic(auto, unfolding(slh_core::specs::Bytes::joined))]
 pub(crate) fn hash_each<N: ArraySize, A: RowAddress + Drop, L: Ledger>(
     keyed: &Sha2Keyed<N>,
     adrs: &A,
@@ -147,15 +179,14 @@ pub(crate) fn hash_each<N: ArraySize, A: RowAddress + Drop, L: Ledger>(
     while done < numbers.len() {
         let end = numbers.len().min(done + WIDEST);
         let group = &numbers[done..end];
-        let next = &mut values[done * n..end * n];
-        let digests = digests_of(keyed, adrs, group, next, n);
-        put_hashes::<N, L, WIDEST, 32>(&digests, group.len(), next, steps);
+        let inputs = parts_between(values, n, done, end);
+        let digests = digests_of(keyed, adrs, group, inputs, n);
+        put_hashes_between::<N, L, WIDEST, 32>(&digests, values, done, end, steps);
         done = end;
     }
 }
 
 // Pairs that end in one block each.
-#[tactic(auto, unfolding(slh_core::specs::Bytes::joined))]
 fn hash_short_pairs<N: ArraySize, A: RowAddress + Drop, L: Ledger>(
     keyed: &Sha2Keyed<N>,
     adrs: &A,
@@ -174,14 +205,14 @@ fn hash_short_pairs<N: ArraySize, A: RowAddress + Drop, L: Ledger>(
         out.new ≡ joined hash (length numbers.now) }
     ensures step { steps.new ≡ steps.old + length numbers.now }
 {
-    let n = N::USIZE;
+    let width = 2 * N::USIZE;
     let mut done = 0;
     while done < numbers.len() {
         let end = numbers.len().min(done + WIDEST);
         let group = &numbers[done..end];
-        let inputs = &pairs[done * (2 * n)..end * (2 * n)];
-        let digests = digests_of(keyed, adrs, group, inputs, 2 * n);
-        put_hashes::<N, L, WIDEST, 32>(&digests, group.len(), &mut out[done * n..end * n], steps);
+        let inputs = parts_between(pairs, width, done, end);
+        let digests = digests_of(keyed, adrs, group, inputs, width);
+        put_hashes_between::<N, L, WIDEST, 32>(&digests, out, done, end, steps);
         done = end;
     }
 }
@@ -209,8 +240,7 @@ fn hash_long_pairs<N: ArraySize, A: RowAddress + Drop, L: Ledger>(
     let n = N::USIZE;
     for (k, number) in numbers.iter().enumerate() {
         steps.tick();
-        let pair = &pairs[k * (2 * n)..k * (2 * n) + 2 * n];
-        let parent = short_hash(keyed, &adrs.at_number(*number), pair);
+        let parent = short_hash(keyed, &adrs.at_number(*number), piece(pairs, 2 * n, k));
         put_part(out, n, k, parent.as_slice());
     }
 }

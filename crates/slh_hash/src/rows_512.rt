@@ -7,7 +7,7 @@ ghost use Rattle.slh_core.specs.Bytes.{joined, part};
 ghost use Rattle.slh_hash.specs.Sha2.{seed_block, tweaked_hash_512};
 
 use crate::keyed::Sha2Keyed512;
-use crate::rows_256::{ADDRESS_LEN, put_hashes, tails_of};
+use crate::rows_256::{ADDRESS_LEN, parts_between, put_hashes_between, tails_of};
 use hybrid_array::ArraySize;
 use sha512_lanes::{BLOCK_BYTES, MAX_TAIL};
 use slh_core::address::RowAddress;
@@ -49,7 +49,6 @@ fn digests_of_512<N: ArraySize, A: RowAddress + Drop>(
 
 /// Hashes pairs of values of `N::USIZE` bytes, which stand one after the other, each a left and a
 /// right one. Their addresses are those of a row with the numbers.
-#[tactic(auto, unfolding(slh_core::specs::Bytes::joined))]
 pub(crate) fn hash_pairs_512<N: ArraySize, A: RowAddress + Drop, L: Ledger>(
     keyed: &Sha2Keyed512<N>,
     adrs: &A,
@@ -68,15 +67,14 @@ pub(crate) fn hash_pairs_512<N: ArraySize, A: RowAddress + Drop, L: Ledger>(
         out.new ≡ joined hash (length numbers.now) }
     ensures step { steps.new ≡ steps.old + length numbers.now }
 {
-    let n = N::USIZE;
+    let width = 2 * N::USIZE;
     let mut done = 0;
     while done < numbers.len() {
         let end = numbers.len().min(done + WIDEST);
         let group = &numbers[done..end];
-        let inputs = &pairs[done * (2 * n)..end * (2 * n)];
-        let digests = digests_of_512(keyed, adrs, group, inputs, 2 * n);
-        let next = &mut out[done * n..end * n];
-        put_hashes::<N, L, WIDEST, 64>(&digests, group.len(), next, steps);
+        let inputs = parts_between(pairs, width, done, end);
+        let digests = digests_of_512(keyed, adrs, group, inputs, width);
+        put_hashes_between::<N, L, WIDEST, 64>(&digests, out, done, end, steps);
         done = end;
     }
 }

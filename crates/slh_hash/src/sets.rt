@@ -4,10 +4,7 @@ ghost use Rattle.slh_hash.specs.Sets.{sha2_256s, sha2_256f};
 
 use crate::sha2_l1::Sha2L1;
 use crate::sha2_l35::Sha2L35;
-use hybrid_array::sizes::{
-    U3, U4, U6, U7, U8, U9, U12, U14, U16, U17, U21, U22, U24, U25, U30, U32, U33, U34, U35, U39,
-    U40, U42, U47, U48, U49, U51, U63, U64, U66, U67, U68,
-};
+use hybrid_array::sizes::{U16, U24, U30, U32, U34, U39, U42, U47, U49};
 use slh_core::params::{ForsParams, HypertreeParams, WotsParams, XmssParams};
 
 /// SLH-DSA-SHA2-128s: small signatures.
@@ -31,27 +28,37 @@ pub type Sha2_256f = Sha2L35<U32, U49>;
 impl WotsParams for Sha2_128s {
     ghost use Rattle.std.proofs.Common.{rules};
 
-    type WotsMsgLen = U32;
+    const WOTS_MSG_LEN: usize = 32;
 
-    type WotsSigLen = U35;
+    ghost WOTS_MSG_LEN = { 32 };
+
+    const WOTS_SIG_LEN: usize = 35;
+
+    ghost WOTS_SIG_LEN = { 35 };
 
     ghost valid_wots = { Prim.search rules };
 }
 
 impl XmssParams for Sha2_128s {
-    ghost use Rattle.std.proofs.Common.{rules};
+    ghost use Rattle.std.proofs.Common.{lit≤};
 
-    type HPrime = U9;
+    const H_PRIME: usize = 9;
 
-    ghost valid_xmss = { Prim.search rules };
+    ghost H_PRIME = { 9 };
+
+    ghost valid_xmss = { record { height_low = lit≤ tt; height_high = lit≤ tt } };
 }
 
 impl HypertreeParams for Sha2_128s {
     ghost use Rattle.std.proofs.Common.{rules};
 
-    type D = U7;
+    const D: usize = 7;
 
-    type H = U63;
+    ghost D = { 7 };
+
+    const H: usize = 63;
+
+    ghost H = { 63 };
 
     ghost valid_hypertree = { Prim.search rules };
 }
@@ -59,11 +66,17 @@ impl HypertreeParams for Sha2_128s {
 impl ForsParams for Sha2_128s {
     ghost use Rattle.std.proofs.Common.{refl, rules};
 
-    type K = U14;
+    const K: usize = 14;
 
-    type A = U12;
+    ghost K = { 14 };
 
-    type MD = U21;
+    const A: usize = 12;
+
+    ghost A = { 12 };
+
+    const MD: usize = 21;
+
+    ghost MD = { 21 };
 
     ghost scheme = { sha2_128s.scheme };
 
@@ -75,27 +88,37 @@ impl ForsParams for Sha2_128s {
 impl WotsParams for Sha2_128f {
     ghost use Rattle.std.proofs.Common.{rules};
 
-    type WotsMsgLen = U32;
+    const WOTS_MSG_LEN: usize = 32;
 
-    type WotsSigLen = U35;
+    ghost WOTS_MSG_LEN = { 32 };
+
+    const WOTS_SIG_LEN: usize = 35;
+
+    ghost WOTS_SIG_LEN = { 35 };
 
     ghost valid_wots = { Prim.search rules };
 }
 
 impl XmssParams for Sha2_128f {
-    ghost use Rattle.std.proofs.Common.{rules};
+    ghost use Rattle.std.proofs.Common.{lit≤};
 
-    type HPrime = U3;
+    const H_PRIME: usize = 3;
 
-    ghost valid_xmss = { Prim.search rules };
+    ghost H_PRIME = { 3 };
+
+    ghost valid_xmss = { record { height_low = lit≤ tt; height_high = lit≤ tt } };
 }
 
 impl HypertreeParams for Sha2_128f {
     ghost use Rattle.std.proofs.Common.{rules};
 
-    type D = U22;
+    const D: usize = 22;
 
-    type H = U66;
+    ghost D = { 22 };
+
+    const H: usize = 66;
+
+    ghost H = { 66 };
 
     ghost valid_hypertree = { Prim.search rules };
 }
@@ -103,11 +126,17 @@ impl HypertreeParams for Sha2_128f {
 impl ForsParams for Sha2_128f {
     ghost use Rattle.std.proofs.Common.{refl, rules};
 
-    type K = U33;
+    const K: usize = 33;
 
-    type A = U6;
+    ghost K = { 33 };
 
-    type MD = U25;
+    const A: usize = 6;
+
+    ghost A = { 6 };
+
+    const MD: usize = 25;
+
+    ghost MD = { 25 };
 
     ghost scheme = { sha2_128f.scheme };
 
@@ -119,27 +148,37 @@ impl ForsParams for Sha2_128f {
 impl WotsParams for Sha2_192s {
     ghost use Rattle.std.proofs.Common.{rules};
 
-    type WotsMsgLen = U48;
+    const WOTS_MSG_LEN: usize = 48;
 
-    type WotsSigLen = U51;
+    ghost WOTS_MSG_LEN = { 48 };
+
+    const WOTS_SIG_LEN: usize = 51;
+
+    ghost WOTS_SIG_LEN = { 51 };
 
     ghost valid_wots = { Prim.search rules };
 }
 
 impl XmssParams for Sha2_192s {
-    ghost use Rattle.std.proofs.Common.{rules};
+    ghost use Rattle.std.proofs.Common.{lit≤};
 
-    type HPrime = U9;
+    const H_PRIME: usize = 9;
 
-    ghost valid_xmss = { Prim.search rules };
+    ghost H_PRIME = { 9 };
+
+    ghost valid_xmss = { record { height_low = lit≤ tt; height_high = lit≤ tt } };
 }
 
 impl HypertreeParams for Sha2_192s {
     ghost use Rattle.std.proofs.Common.{rules};
 
-    type D = U7;
+    const D: usize = 7;
 
-    type H = U63;
+    ghost D = { 7 };
+
+    const H: usize = 63;
+
+    ghost H = { 63 };
 
     ghost valid_hypertree = { Prim.search rules };
 }
@@ -147,11 +186,17 @@ impl HypertreeParams for Sha2_192s {
 impl ForsParams for Sha2_192s {
     ghost use Rattle.std.proofs.Common.{refl, rules};
 
-    type K = U17;
+    const K: usize = 17;
 
-    type A = U14;
+    ghost K = { 17 };
 
-    type MD = U30;
+    const A: usize = 14;
+
+    ghost A = { 14 };
+
+    const MD: usize = 30;
+
+    ghost MD = { 30 };
 
     ghost scheme = { sha2_192s.scheme };
 
@@ -163,27 +208,37 @@ impl ForsParams for Sha2_192s {
 impl WotsParams for Sha2_192f {
     ghost use Rattle.std.proofs.Common.{rules};
 
-    type WotsMsgLen = U48;
+    const WOTS_MSG_LEN: usize = 48;
 
-    type WotsSigLen = U51;
+    ghost WOTS_MSG_LEN = { 48 };
+
+    const WOTS_SIG_LEN: usize = 51;
+
+    ghost WOTS_SIG_LEN = { 51 };
 
     ghost valid_wots = { Prim.search rules };
 }
 
 impl XmssParams for Sha2_192f {
-    ghost use Rattle.std.proofs.Common.{rules};
+    ghost use Rattle.std.proofs.Common.{lit≤};
 
-    type HPrime = U3;
+    const H_PRIME: usize = 3;
 
-    ghost valid_xmss = { Prim.search rules };
+    ghost H_PRIME = { 3 };
+
+    ghost valid_xmss = { record { height_low = lit≤ tt; height_high = lit≤ tt } };
 }
 
 impl HypertreeParams for Sha2_192f {
     ghost use Rattle.std.proofs.Common.{rules};
 
-    type D = U22;
+    const D: usize = 22;
 
-    type H = U66;
+    ghost D = { 22 };
+
+    const H: usize = 66;
+
+    ghost H = { 66 };
 
     ghost valid_hypertree = { Prim.search rules };
 }
@@ -191,11 +246,17 @@ impl HypertreeParams for Sha2_192f {
 impl ForsParams for Sha2_192f {
     ghost use Rattle.std.proofs.Common.{refl, rules};
 
-    type K = U33;
+    const K: usize = 33;
 
-    type A = U8;
+    ghost K = { 33 };
 
-    type MD = U33;
+    const A: usize = 8;
+
+    ghost A = { 8 };
+
+    const MD: usize = 33;
+
+    ghost MD = { 33 };
 
     ghost scheme = { sha2_192f.scheme };
 
@@ -207,27 +268,37 @@ impl ForsParams for Sha2_192f {
 impl WotsParams for Sha2_256s {
     ghost use Rattle.std.proofs.Common.{rules};
 
-    type WotsMsgLen = U64;
+    const WOTS_MSG_LEN: usize = 64;
 
-    type WotsSigLen = U67;
+    ghost WOTS_MSG_LEN = { 64 };
+
+    const WOTS_SIG_LEN: usize = 67;
+
+    ghost WOTS_SIG_LEN = { 67 };
 
     ghost valid_wots = { Prim.search rules };
 }
 
 impl XmssParams for Sha2_256s {
-    ghost use Rattle.std.proofs.Common.{rules};
+    ghost use Rattle.std.proofs.Common.{lit≤};
 
-    type HPrime = U8;
+    const H_PRIME: usize = 8;
 
-    ghost valid_xmss = { Prim.search rules };
+    ghost H_PRIME = { 8 };
+
+    ghost valid_xmss = { record { height_low = lit≤ tt; height_high = lit≤ tt } };
 }
 
 impl HypertreeParams for Sha2_256s {
     ghost use Rattle.std.proofs.Common.{rules};
 
-    type D = U8;
+    const D: usize = 8;
 
-    type H = U64;
+    ghost D = { 8 };
+
+    const H: usize = 64;
+
+    ghost H = { 64 };
 
     ghost valid_hypertree = { Prim.search rules };
 }
@@ -235,11 +306,17 @@ impl HypertreeParams for Sha2_256s {
 impl ForsParams for Sha2_256s {
     ghost use Rattle.std.proofs.Common.{refl, rules};
 
-    type K = U22;
+    const K: usize = 22;
 
-    type A = U14;
+    ghost K = { 22 };
 
-    type MD = U39;
+    const A: usize = 14;
+
+    ghost A = { 14 };
+
+    const MD: usize = 39;
+
+    ghost MD = { 39 };
 
     ghost scheme = { sha2_256s.scheme };
 
@@ -251,27 +328,37 @@ impl ForsParams for Sha2_256s {
 impl WotsParams for Sha2_256f {
     ghost use Rattle.std.proofs.Common.{rules};
 
-    type WotsMsgLen = U64;
+    const WOTS_MSG_LEN: usize = 64;
 
-    type WotsSigLen = U67;
+    ghost WOTS_MSG_LEN = { 64 };
+
+    const WOTS_SIG_LEN: usize = 67;
+
+    ghost WOTS_SIG_LEN = { 67 };
 
     ghost valid_wots = { Prim.search rules };
 }
 
 impl XmssParams for Sha2_256f {
-    ghost use Rattle.std.proofs.Common.{rules};
+    ghost use Rattle.std.proofs.Common.{lit≤};
 
-    type HPrime = U4;
+    const H_PRIME: usize = 4;
 
-    ghost valid_xmss = { Prim.search rules };
+    ghost H_PRIME = { 4 };
+
+    ghost valid_xmss = { record { height_low = lit≤ tt; height_high = lit≤ tt } };
 }
 
 impl HypertreeParams for Sha2_256f {
     ghost use Rattle.std.proofs.Common.{rules};
 
-    type D = U17;
+    const D: usize = 17;
 
-    type H = U68;
+    ghost D = { 17 };
+
+    const H: usize = 68;
+
+    ghost H = { 68 };
 
     ghost valid_hypertree = { Prim.search rules };
 }
@@ -279,11 +366,17 @@ impl HypertreeParams for Sha2_256f {
 impl ForsParams for Sha2_256f {
     ghost use Rattle.std.proofs.Common.{refl, rules};
 
-    type K = U35;
+    const K: usize = 35;
 
-    type A = U9;
+    ghost K = { 35 };
 
-    type MD = U40;
+    const A: usize = 9;
+
+    ghost A = { 9 };
+
+    const MD: usize = 40;
+
+    ghost MD = { 40 };
 
     ghost scheme = { sha2_256f.scheme };
 

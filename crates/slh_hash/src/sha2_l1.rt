@@ -34,7 +34,9 @@ pub struct Sha2L1<N: ArraySize, M: ArraySize> {
 impl<N: ArraySize, M: ArraySize> HashSuite for Sha2L1<N, M> {
     type N = N;
 
-    type M = M;
+    const DIGEST_LEN: usize = M::USIZE;
+
+    ghost DIGEST_LEN = { M.USIZE };
 
     type Keyed = Sha2Keyed<N>;
 

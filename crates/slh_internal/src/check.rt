@@ -5,7 +5,6 @@ ghost use Rattle.slh_internal.specs.Checking.{checked_root, digest_root};
 
 use crate::digest::split_digest;
 use crate::sig_view::SigView;
-use hybrid_array::ArraySize;
 use slh_core::address::ForsTree;
 use slh_core::nbytes::NBytes;
 use slh_core::params::{ForsParams, MAX_DIGEST_LEN, MAX_MESSAGE_LEN, forest_sizes, layer_sizes};
@@ -21,7 +20,7 @@ pub fn root_for_digest<P: ForsParams, L: Ledger>(
     sig: &SigView<'_, P>,
     steps: &mut Steps<L>,
 ) -> NBytes<P::N>
-    requires { length digest.now ≡ P.M.USIZE }
+    requires { length digest.now ≡ P.DIGEST_LEN }
     ensures value { result ≡ digest_root P.scheme pk_seed.now digest.now sig.now }
     ensures bound { steps.new ≤ steps.old + slh_verify_bound P.scheme }
     ensures rises { steps.old ≤ steps.new }
@@ -47,7 +46,7 @@ pub fn write_digest<P: ForsParams>(
     out: &mut [u8],
 )
     requires message { length head.now + length ctx.now + length msg.now ≤ MAX_MESSAGE_LEN }
-    requires room { length out.old ≡ P.M.USIZE }
+    requires room { length out.old ≡ P.DIGEST_LEN }
     ensures { let message = head.now ++ ctx.now ++ msg.now in
         out.new ≡ P.scheme.suite.h_msg (take P.scheme.n sig.now) pk_seed.now pk_root.now message }
 {
@@ -75,7 +74,7 @@ pub fn check_root<P: ForsParams, L: Ledger>(
 {
     forest_sizes::<P>();
     let mut store = [0u8; MAX_DIGEST_LEN];
-    let digest = &mut store[..P::M::USIZE];
+    let digest = &mut store[..P::DIGEST_LEN];
     write_digest::<P>(pk_seed, pk_root, head, ctx, msg, sig, digest);
     root_for_digest::<P, L>(pk_seed, digest, sig, steps)
 }

@@ -4,7 +4,6 @@ ghost use Rattle.slh_core.specs.Bytes.{number_of};
 ghost use Rattle.slh_core.specs.Parameters.{bytes_for};
 ghost use Rattle.slh_internal.specs.MessageDigest.{digest_number, split_digest as spec_split_digest};
 
-use hybrid_array::ArraySize;
 use slh_core::params::{ForsParams, HypertreeParams, forest_sizes, layer_sizes};
 
 /// The number of a byte string, the highest byte first.
@@ -55,30 +54,30 @@ fn number_at(digest: &[u8], from: usize, bits: usize) -> u64
 /// How many bits of a digest name the tree of the lowest layer.
 #[inline]
 fn tree_bits<P: HypertreeParams>() -> usize
-    ensures value { result ≡ (P.D.USIZE - 1) * P.HPrime.USIZE }
-    ensures rest { result ≡ P.H.USIZE - P.HPrime.USIZE }
+    ensures value { result ≡ (P.D - 1) * P.H_PRIME }
+    ensures rest { result ≡ P.H - P.H_PRIME }
     ensures small { result ≤ 64 }
 {
     layer_sizes::<P>();
-    P::H::USIZE - P::HPrime::USIZE
+    P::H - P::H_PRIME
 }
 
 /// Cuts a digest into the bytes that name a leaf in each tree of the forest, the tree and the leaf
 /// of the lowest layer (FIPS 205, algorithms 19 and 20).
 pub fn split_digest<P: ForsParams>(digest: &[u8]) -> (&[u8], u64, u32)
-    requires { length digest.now ≡ P.M.USIZE }
+    requires { length digest.now ≡ P.DIGEST_LEN }
     ensures md { result.0.now ≡ (spec_split_digest P.scheme digest.now).md }
     ensures tree { result.1 ≡ (spec_split_digest P.scheme digest.now).tree }
     ensures leaf { result.2 ≡ (spec_split_digest P.scheme digest.now).leaf }
-    ensures md_len { length result.0.now ≡ P.MD.USIZE }
-    ensures tree_below { result.1 < 2 ^ (P.H.USIZE - P.HPrime.USIZE) }
-    ensures leaf_below { result.2 < 2 ^ P.HPrime.USIZE }
+    ensures md_len { length result.0.now ≡ P.MD }
+    ensures tree_below { result.1 < 2 ^ (P.H - P.H_PRIME) }
+    ensures leaf_below { result.2 < 2 ^ P.H_PRIME }
 {
     layer_sizes::<P>();
     forest_sizes::<P>();
-    let md = P::MD::USIZE;
+    let md = P::MD;
     let bits = tree_bits::<P>();
     let tree = number_at(digest, md, bits);
-    let leaf = number_at(digest, md + bytes_of(bits), P::HPrime::USIZE);
+    let leaf = number_at(digest, md + bytes_of(bits), P::H_PRIME);
     (&digest[..md], tree, leaf as u32)
 }

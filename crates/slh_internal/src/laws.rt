@@ -5,7 +5,6 @@ ghost use Rattle.slh_internal.specs.Checking.{checked_root, digest_root, signatu
 ghost use Rattle.slh_internal.specs.Keys.{top_root};
 ghost use Rattle.slh_internal.specs.Signing.{digest_signature, signature_with};
 
-use hybrid_array::ArraySize;
 use slh_core::params::ForsParams;
 
 /// The signature of a digest with any randomizer leads to the root of the key's top tree.
@@ -29,7 +28,7 @@ pub fn made_leads_to_top<P: ForsParams>()
 
 /// How many bytes a signature has, as the standard counts them: in values of n bytes.
 pub fn signature_values<P: ForsParams>()
-    ensures { let forest = P.K.USIZE * (1 + P.A.USIZE) in
-        let values = 1 + forest + P.H.USIZE + P.D.USIZE * P.WotsSigLen.USIZE in
+    ensures { let forest = P.K * (1 + P.A) in
+        let values = 1 + forest + P.H + P.D * P.WOTS_SIG_LEN in
         signature_size P.scheme ≡ values * P.N.USIZE }
 {}

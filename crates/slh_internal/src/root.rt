@@ -3,7 +3,6 @@ ghost use Rattle.std.specs.Prelude.{◌≡◌, ◌+◌};
 ghost use Rattle.slh_core.specs.Costs.{slh_keygen_cost};
 ghost use Rattle.slh_internal.specs.Keys.{top_root as spec_top_root};
 
-use hybrid_array::ArraySize;
 use slh_core::address::WotsHash;
 use slh_core::nbytes::NBytes;
 use slh_core::params::{ForsParams, layer_sizes};
@@ -23,8 +22,8 @@ pub fn top_root<P: ForsParams, L: Ledger>(
     layer_sizes::<P>();
     let keyed = P::keyed(pk_seed);
     let top = WotsHash {
-        layer_adrs: P::D::USIZE as u32 - 1,
+        layer_adrs: P::D as u32 - 1,
         ..WotsHash::default()
     };
-    xmss_node::<P, L>(sk_seed, 0, P::HPrime::USIZE as u32, &keyed, &top, steps)
+    xmss_node::<P, L>(sk_seed, 0, P::H_PRIME as u32, &keyed, &top, steps)
 }

@@ -101,7 +101,7 @@ impl<'a, P: ForsParams> SigView<'a, P> {
     pub fn fors(&self) -> &'a [u8]
         ensures whole { length self.now ≡ signature_size P.scheme }
         ensures value { result.now ≡ forest_of P.scheme self.now }
-        ensures len { length result.now ≡ forest_size P.N.USIZE P.K.USIZE P.A.USIZE }
+        ensures len { length result.now ≡ forest_size P.N.USIZE P.K P.A }
     {
         forest_sizes::<P>();
         layer_sizes::<P>();
@@ -113,7 +113,7 @@ impl<'a, P: ForsParams> SigView<'a, P> {
     pub fn layers(&self) -> &'a [u8]
         ensures value { result.now ≡ layers_of P.scheme self.now }
         ensures len { length result.now
-            ≡ P.D.USIZE * layer_size P.N.USIZE P.HPrime.USIZE }
+            ≡ P.D * layer_size P.N.USIZE P.H_PRIME }
     {
         forest_sizes::<P>();
         layer_sizes::<P>();
@@ -122,25 +122,25 @@ impl<'a, P: ForsParams> SigView<'a, P> {
 
     // What is opened in tree `i` of the forest.
     fn opened(&self, i: usize) -> &'a [u8]
-        requires { i < P.K.USIZE }
+        requires { i < P.K }
         ensures value { result.now ≡ opened_of P.scheme self.now i }
-        ensures len { length result.now ≡ (1 + P.A.USIZE) * P.N.USIZE }
+        ensures len { length result.now ≡ (1 + P.A) * P.N.USIZE }
     {
         piece(self.fors(), opened_len::<P>(), i)
     }
 
     // The siblings on the way up from the secret in tree `i`.
     fn fors_siblings(&self, i: usize) -> &'a [u8]
-        requires { i < P.K.USIZE }
+        requires { i < P.K }
         ensures value { result.now ≡ drop P.N.USIZE (opened_of P.scheme self.now i) }
-        ensures len { length result.now ≡ P.A.USIZE * P.N.USIZE }
+        ensures len { length result.now ≡ P.A * P.N.USIZE }
     {
         &self.opened(i)[P::N::USIZE..]
     }
 
     /// The secret that is opened in tree `i` of the forest.
     pub fn fors_secret(&self, i: usize) -> ArrayRef<'a, u8, P::N>
-        requires { i < P.K.USIZE }
+        requires { i < P.K }
         ensures { result ≡ fors_secret_of P.scheme self.now i }
     {
         exact(&self.opened(i)[..P::N::USIZE])
@@ -148,8 +148,8 @@ impl<'a, P: ForsParams> SigView<'a, P> {
 
     /// The sibling at height `z`, from 0 to a - 1, on the way up from the secret in tree `i`.
     pub fn fors_auth(&self, i: usize, z: usize) -> ArrayRef<'a, u8, P::N>
-        requires tree { i < P.K.USIZE }
-        requires height { z < P.A.USIZE }
+        requires tree { i < P.K }
+        requires height { z < P.A }
         ensures { result ≡ fors_sibling_of P.scheme self.now i z }
     {
         value(self.fors_siblings(i), z)
@@ -157,22 +157,22 @@ impl<'a, P: ForsParams> SigView<'a, P> {
 
     /// The part of layer `j`: len chain values and h' siblings.
     pub fn xmss(&self, j: usize) -> &'a [u8]
-        requires { j < P.D.USIZE }
+        requires { j < P.D }
         ensures value { result.now ≡ layer_of P.scheme self.now j }
-        ensures len { length result.now ≡ (P.WotsSigLen.USIZE + P.HPrime.USIZE) * P.N.USIZE }
+        ensures len { length result.now ≡ (P.WOTS_SIG_LEN + P.H_PRIME) * P.N.USIZE }
     {
         piece(self.layers(), layer_len::<P>(), j)
     }
 
     // The chain values of layer `j`, and the siblings on the way up from its leaf.
     fn layer_values(&self, j: usize) -> (&'a [u8], &'a [u8])
-        requires { j < P.D.USIZE }
+        requires { j < P.D }
         ensures chains { let chains = chain_count P.N.USIZE * P.N.USIZE in
             result.0.now ≡ take chains (layer_of P.scheme self.now j) }
         ensures siblings { let chains = chain_count P.N.USIZE * P.N.USIZE in
             result.1.now ≡ drop chains (layer_of P.scheme self.now j) }
-        ensures chains_len { length result.0.now ≡ P.WotsSigLen.USIZE * P.N.USIZE }
-        ensures siblings_len { length result.1.now ≡ P.HPrime.USIZE * P.N.USIZE }
+        ensures chains_len { length result.0.now ≡ P.WOTS_SIG_LEN * P.N.USIZE }
+        ensures siblings_len { length result.1.now ≡ P.H_PRIME * P.N.USIZE }
     {
         layer_sizes::<P>();
         self.xmss(j).split_at(ends_len::<P>())
@@ -180,8 +180,8 @@ impl<'a, P: ForsParams> SigView<'a, P> {
 
     /// The value of chain `c` of layer `j`.
     pub fn chain(&self, j: usize, c: usize) -> ArrayRef<'a, u8, P::N>
-        requires layer { j < P.D.USIZE }
-        requires chain { c < P.WotsSigLen.USIZE }
+        requires layer { j < P.D }
+        requires chain { c < P.WOTS_SIG_LEN }
         ensures { result ≡ chain_value_of P.scheme self.now j c }
     {
         let (chains, _) = self.layer_values(j);
@@ -190,8 +190,8 @@ impl<'a, P: ForsParams> SigView<'a, P> {
 
     /// The sibling at height `z`, from 0 to h' - 1, on the way up from the leaf of layer `j`.
     pub fn auth(&self, j: usize, z: usize) -> ArrayRef<'a, u8, P::N>
-        requires layer { j < P.D.USIZE }
-        requires height { z < P.HPrime.USIZE }
+        requires layer { j < P.D }
+        requires height { z < P.H_PRIME }
         ensures { result ≡ sibling_node_of P.scheme self.now j z }
     {
         let (_, siblings) = self.layer_values(j);

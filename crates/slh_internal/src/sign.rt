@@ -24,7 +24,7 @@ pub fn sign_digest<P: ForsParams, L: Ledger>(
     out: &mut [u8],
     steps: &mut Steps<L>,
 )
-    requires digest { length digest.now ≡ P.M.USIZE }
+    requires digest { length digest.now ≡ P.DIGEST_LEN }
     requires room { length out.old ≡ signature_size P.scheme }
     ensures value { out.new
         ≡ digest_signature P.scheme pk_seed.now sk_seed.now rand.now digest.now }
@@ -68,7 +68,7 @@ pub fn sign_message<P: ForsParams, L: Ledger>(
     forest_sizes::<P>();
     let rand = P::prf_msg(sk_prf, opt_rand, head, ctx, msg);
     let mut store = [0u8; MAX_DIGEST_LEN];
-    let digest = &mut store[..P::M::USIZE];
+    let digest = &mut store[..P::DIGEST_LEN];
     P::h_msg(&rand, pk_seed, pk_root, head, ctx, msg, digest);
     sign_digest::<P, L>(sk_seed, pk_seed, &rand, digest, out, steps);
 }

@@ -13,5 +13,5 @@ pub fn signature_len<P: ForsParams>() -> usize
 {
     layer_sizes::<P>();
     forest_sizes::<P>();
-    P::N::USIZE + forest_len::<P>() + P::D::USIZE * layer_len::<P>()
+    P::N::USIZE + forest_len::<P>() + P::D * layer_len::<P>()
 }

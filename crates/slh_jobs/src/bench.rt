@@ -236,7 +236,7 @@ fn outcome_in<P: ParameterSet>(alloc: Global, bench: Bench) -> Result<ByteString
     ensures { IfOk result (λ text. text
         ≡ outcome_lines P.scheme (spec_bench_prk bench.number) bench.count) }
 {
-    let mut signature = ByteString::zeroed(alloc, P::SigLen::USIZE)?;
+    let mut signature = ByteString::zeroed(alloc, P::SIG_LEN)?;
     let prk = bench_prk(bench.number);
     let outcome = sign_all::<P>(&prk, bench.count, signature.as_mut_slice());
     outcome_text(alloc, bench.count, &outcome)

@@ -85,7 +85,7 @@ fn sign<P: ParameterSet>(
     let (msg, ctx, opt_rand) = (message.as_slice(), context.as_slice(), as_bytes(randomizer));
     let key = SigningKey::<P>::try_from(key.as_slice())?;
     SigningKey::<P>::check_sign(msg, ctx, opt_rand)?;
-    let mut bytes = ByteString::zeroed(alloc, P::SigLen::USIZE)?;
+    let mut bytes = ByteString::zeroed(alloc, P::SIG_LEN)?;
     key.sign_checked_into(mode, ctx, msg, opt_rand, bytes.as_mut_slice());
     Ok(Answer::Signature(bytes))
 }

@@ -13,7 +13,6 @@ use crate::lines::DASH;
 use crate::opening::signature_bound;
 use crate::origin::{ID_LEN, is_origin, key_id};
 use base64::engine::general_purpose::STANDARD;
-use hybrid_array::ArraySize;
 use itoa::Buffer;
 use merkle_tree::DIGEST_LEN;
 use slh_dsa::{Mode, ParameterSet, SigningKey, check_opt_rand};
@@ -73,7 +72,7 @@ fn signed_text<P: ParameterSet>(
         ≡ id.now ++ text_signature P.scheme key.now opt_rand text.now) }
 {
     signature_bound::<P>();
-    let mut signed = vec![in alloc; 0u8; ID_LEN + P::SigLen::USIZE]?;
+    let mut signed = vec![in alloc; 0u8; ID_LEN + P::SIG_LEN]?;
     let (front, sig) = signed.as_mut_slice().split_at_mut(ID_LEN);
     front.copy_from_slice(id);
     key.sign_checked_into(Mode::Pure, CONTEXT, text, opt_rand, sig);

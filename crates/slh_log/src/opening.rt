@@ -14,7 +14,6 @@ use crate::making::CONTEXT;
 use crate::note::{Checkpoint, read_note};
 use crate::origin::{ID_LEN, is_origin, key_id};
 use crate::signed::find_signature;
-use hybrid_array::ArraySize;
 use slh_core::params::{chain_sizes, forest_sizes, layer_sizes};
 use slh_dsa::{Mode, ParameterSet, VerifyingKey};
 
@@ -113,6 +112,6 @@ pub fn open<P: ParameterSet>(
 {
     signature_bound::<P>();
     let mut buffer = blank();
-    let signed = &mut buffer[..ID_LEN + P::SigLen::USIZE];
+    let signed = &mut buffer[..ID_LEN + P::SIG_LEN];
     open_in(vk, origin, bytes, signed)
 }

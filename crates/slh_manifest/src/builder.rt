@@ -23,10 +23,9 @@ use crate::entry::{Entry, MAX_ENTRIES, MAX_LEN, may_follow};
 use crate::error::BuildError;
 use crate::measure::{Found, measure};
 use crate::store::Store;
-use hybrid_array::ArraySize;
 use line_serve::ByteString;
 use slh_core::params::chain_sizes;
-use slh_dsa::{Error, ParameterSet, Signature, SigningKey, check_opt_rand};
+use slh_dsa::{ArrayLengths, Error, Signature, SigningKey, check_opt_rand};
 use std::alloc::{AllocError, Global};
 use std::marker::Model;
 
@@ -138,7 +137,7 @@ impl Builder {
     /// The manifest of the entries and a signature of their body that was made elsewhere, as
     /// [`Builder::body`] says. Whether it is one isn't checked: who opens the manifest checks it.
     /// `Empty`; `Signature`; `Memory`.
-    pub fn with_signature<P: ParameterSet>(
+    pub fn with_signature<P: ArrayLengths>(
         &self,
         alloc: Global,
         signature: &[u8],
@@ -150,7 +149,7 @@ impl Builder {
         ensures form { OnOk result (HasForm self.now) }
     {
         self.check_some()?;
-        if signature.len() != P::SigLen::USIZE {
+        if signature.len() != P::SIG_LEN {
             return Err(BuildError::Signature);
         }
         let mut manifest = body(alloc, &self.entries)?;
@@ -161,7 +160,7 @@ impl Builder {
     /// The manifest of the entries: their body, signed in mode `Pure` (FIPS 205, algorithm 22)
     /// under the context `slh-manifest`. Where no `opt_rand` is given the public seed stands for
     /// it. `Empty`; `Randomizer`; `Memory`.
-    pub fn seal<P: ParameterSet>(
+    pub fn seal<P: ArrayLengths>(
         self,
         alloc: Global,
         key: &SigningKey<P>,
@@ -226,7 +225,7 @@ impl Builder {
 }
 
 // The signature of a body. `Memory`.
-fn sign_body<P: ParameterSet>(
+fn sign_body<P: ArrayLengths>(
     alloc: Global,
     key: &SigningKey<P>,
     body: &[u8],

@@ -6,7 +6,6 @@ ghost use Rattle.slh_manifest.specs.Checking.{body_part, count_of as spec_count_
 ghost use Rattle.slh_manifest.specs.Checking.{has_entries, is_manifest, signature_part};
 
 use crate::entry::{MAX_ENTRIES, skip_entries};
-use hybrid_array::ArraySize;
 use slh_dsa::ParameterSet;
 
 /// The parts of a manifest where they stand.
@@ -71,7 +70,7 @@ pub(crate) fn parts_of<P: ParameterSet>(manifest: &[u8]) -> Option<Parts<'_>>
         (λ parts. length parts.signature.now ≡ signature_size P.scheme) }
 {
     let parts = any_parts_of(manifest)?;
-    if parts.signature.len() != P::SigLen::USIZE {
+    if parts.signature.len() != P::SIG_LEN {
         return None;
     }
     Some(parts)

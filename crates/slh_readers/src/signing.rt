@@ -11,7 +11,6 @@ ghost use Rattle.slh_internal.specs.Signing.{signature_of};
 
 use crate::error::ReadError;
 use crate::reading::absorb_all;
-use hybrid_array::ArraySize;
 use slh_dsa::{Mode, SigningKey};
 use slh_files::Key;
 use slh_jobs::ByteString;
@@ -31,7 +30,7 @@ fn end_digest<'a, P: SetSuite>(
         → signature ≡ signature_of P.scheme key opt_rand (mode_frame mode context m)) }
     ensures memory { IfErr result (λ e. e ≡ Refused Memory) }
 {
-    let mut signature = ByteString::zeroed(alloc, P::SigLen::USIZE)?;
+    let mut signature = ByteString::zeroed(alloc, P::SIG_LEN)?;
     match signer.finish_into(signature.as_mut_slice()) {
         Ok(()) => Ok(signature),
         Err(_) => unreachable!(),
@@ -47,7 +46,7 @@ fn end_pass<'a, P: SetSuite>(
     ensures { EndsPass P.scheme (⟦<SecondPass<'a, P> as Passing>⟧.passes pass.entry)
         pass.entry.rand result }
 {
-    let mut signature = ByteString::zeroed(alloc, P::SigLen::USIZE)?;
+    let mut signature = ByteString::zeroed(alloc, P::SIG_LEN)?;
     match pass.finish_into(signature.as_mut_slice()) {
         Ok(()) => Ok(signature),
         Err(PassError::Changed) => Err(ReadError::Changed),

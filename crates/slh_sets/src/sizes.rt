@@ -32,7 +32,7 @@ impl OnSet for SignatureLen {
     ghost gives = { λ _ Z _ result. result ≡ signature_size Z };
 
     fn on<P: SetSuite>(self) -> usize {
-        P::SigLen::USIZE
+        P::SIG_LEN
     }
 }
 

@@ -5,7 +5,6 @@ ghost use Rattle.slh_stream.specs.Tails.{IsTailOf, StandsAfter, hashed_count, mo
 
 use crate::tail::Tail;
 use hmac_sha256::Hash;
-use hybrid_array::ArraySize;
 use sha512_lanes::Hash512;
 use slh_core::nbytes::NBytes;
 use slh_core::params::MAX_MESSAGE_LEN;

@@ -20,7 +20,6 @@ use crate::digests::MAX_TAIL;
 use crate::hashing::{end_hash, hash_piece, mode_for};
 use crate::key_parts::secret_parts;
 use crate::tail::Tail;
-use hybrid_array::ArraySize;
 use slh_core::nbytes::NBytes;
 use slh_core::params::{chain_sizes, forest_sizes};
 use slh_core::steps::Steps;
@@ -134,7 +133,7 @@ impl<'a, P: ParameterSet> DigestSigner<'a, P> {
             ..
         } = self;
         forest_sizes::<P>();
-        if out.len() != P::SigLen::USIZE {
+        if out.len() != P::SIG_LEN {
             return Err(Error::Length);
         }
         let ctx = ctx.as_slice();

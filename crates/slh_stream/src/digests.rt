@@ -11,7 +11,6 @@ ghost use Rattle.slh_trees.specs.Refusals.{RefusedExactly};
 
 use crate::absorbing::head;
 use crate::key_parts::{public_parts, secret_parts};
-use hybrid_array::ArraySize;
 use slh_core::nbytes::NBytes;
 use slh_core::params::{chain_sizes, forest_sizes};
 use slh_core::steps::Steps;
@@ -79,7 +78,7 @@ pub fn verify_digest_counted<P: ParameterSet, L: Ledger>(
     ensures rises { steps.old ≤ steps.new }
 {
     forest_sizes::<P>();
-    if sig.len() != P::SigLen::USIZE {
+    if sig.len() != P::SIG_LEN {
         return Err(Error::Length);
     }
     check_digest(mode, digest.len())?;
@@ -148,7 +147,7 @@ pub fn sign_digest_counted<P: ParameterSet, L: Ledger>(
     ensures free { OnErr result (steps.new ≡ steps.old) }
 {
     forest_sizes::<P>();
-    if out.len() != P::SigLen::USIZE {
+    if out.len() != P::SIG_LEN {
         return Err(Error::Length);
     }
     check_digest(mode, digest.len())?;

@@ -18,7 +18,6 @@ use crate::absorbing::{begin_front, head};
 use crate::context::Context;
 use crate::key_parts::secret_parts;
 use crate::pass_error::PassError;
-use hybrid_array::ArraySize;
 use slh_core::nbytes::NBytes;
 use slh_core::params::{MAX_DIGEST_LEN, chain_sizes, forest_sizes};
 use slh_core::pieces::MessageSuite;
@@ -223,7 +222,7 @@ impl<'a, P: ParameterSet + MessageSuite> SecondPass<'a, P> {
             ..
         } = self;
         forest_sizes::<P>();
-        if out.len() != P::SigLen::USIZE {
+        if out.len() != P::SIG_LEN {
             return Err(PassError::Length);
         }
         if P::end_mac(mac).as_slice() != rand.as_slice() {
@@ -231,7 +230,7 @@ impl<'a, P: ParameterSet + MessageSuite> SecondPass<'a, P> {
         }
         let parts = secret_parts(key);
         let mut store = [0u8; MAX_DIGEST_LEN];
-        let hashed = &mut store[..P::M::USIZE];
+        let hashed = &mut store[..P::DIGEST_LEN];
         P::end_digest(digest, hashed);
         sign_digest::<P, L>(&parts.sk_seed, &parts.pk_seed, &rand, hashed, out, steps);
         Ok(())

@@ -263,7 +263,7 @@ impl SuspendedVerifier {
         ensures length { length sig.now ≢ signature_size P.scheme → result ≡ Some (Err Length) }
     {
         forest_sizes::<P>();
-        if sig.len() != P::SigLen::USIZE {
+        if sig.len() != P::SIG_LEN {
             return Some(Err(Error::Length));
         }
         let verifier = resume_for::<P>(self, mode, sig)?;

@@ -14,7 +14,6 @@ ghost use Rattle.slh_trees.specs.Refusals.{RefusedExactly, message_refusal};
 use crate::absorbing::{absorb, begin_front, begin_tail, end_tail};
 use crate::key_parts::public_parts;
 use crate::tail::Tail;
-use hybrid_array::ArraySize;
 use slh_core::nbytes::NBytes;
 use slh_core::params::{MAX_DIGEST_LEN, forest_sizes};
 use slh_core::pieces::MessageSuite;
@@ -114,7 +113,7 @@ impl<'a, P: ParameterSet + MessageSuite> MessageVerifier<'a, P> {
         } = self;
         forest_sizes::<P>();
         let mut store = [0u8; MAX_DIGEST_LEN];
-        let hashed = &mut store[..P::M::USIZE];
+        let hashed = &mut store[..P::DIGEST_LEN];
         P::end_digest(end_tail::<P>(digest, tail), hashed);
         let root = root_for_digest::<P, L>(&pk_seed, hashed, &sig, steps);
         if root.as_slice() != pk_root.as_slice() {
@@ -126,7 +125,7 @@ impl<'a, P: ParameterSet + MessageSuite> MessageVerifier<'a, P> {
     /// Writes the digest of what was absorbed, of m bytes: H_msg with the signature's randomizer under
     /// the key, of which an audit goes on.
     pub fn finish_digest(self, out: &mut [u8])
-        requires { length out.old ≡ P.M.USIZE }
+        requires { length out.old ≡ P.DIGEST_LEN }
         ensures { (mode : SigningMode) (key context sig m : List ℕ)
             → ⟦<MessageVerifier<'a, P> as Verifying>⟧.verifies self.entry mode key context sig m
             → out.new ≡ message_digest P.scheme mode key context m sig }

@@ -8,7 +8,7 @@ ghost use Rattle.slh_core.specs.Suite.{seeded};
 ghost use Rattle.slh_core.specs.Steps.{IsFresh};
 ghost use Rattle.slh_trees.specs.ToySuite.{toy, toy_lengths, toy_bytes, toy_digest_length};
 
-use hybrid_array::sizes::{U1, U2, U3, U4, U5};
+use hybrid_array::sizes::U1;
 use slh_core::address::{Address, ForsTree, WotsHash};
 use slh_core::nbytes::NBytes;
 use slh_core::params::{ForsParams, HypertreeParams, WotsParams, XmssParams};
@@ -36,7 +36,9 @@ fn count(keyed: &CountingKeyed) {
 impl HashSuite for Counting {
     type N = U1;
 
-    type M = U3;
+    const DIGEST_LEN: usize = 3;
+
+    ghost DIGEST_LEN = { 3 };
 
     type Keyed = CountingKeyed;
 
@@ -128,27 +130,37 @@ impl HashSuite for Counting {
 impl WotsParams for Counting {
     ghost use Rattle.std.proofs.Common.{rules};
 
-    type WotsMsgLen = U2;
+    const WOTS_MSG_LEN: usize = 2;
 
-    type WotsSigLen = U5;
+    ghost WOTS_MSG_LEN = { 2 };
+
+    const WOTS_SIG_LEN: usize = 5;
+
+    ghost WOTS_SIG_LEN = { 5 };
 
     ghost valid_wots = { Prim.search rules };
 }
 
 impl XmssParams for Counting {
-    ghost use Rattle.std.proofs.Common.{rules};
+    ghost use Rattle.std.proofs.Common.{lit≤};
 
-    type HPrime = U2;
+    const H_PRIME: usize = 2;
 
-    ghost valid_xmss = { Prim.search rules };
+    ghost H_PRIME = { 2 };
+
+    ghost valid_xmss = { record { height_low = lit≤ tt; height_high = lit≤ tt } };
 }
 
 impl HypertreeParams for Counting {
     ghost use Rattle.std.proofs.Common.{rules};
 
-    type D = U2;
+    const D: usize = 2;
 
-    type H = U4;
+    ghost D = { 2 };
+
+    const H: usize = 4;
+
+    ghost H = { 4 };
 
     ghost valid_hypertree = { Prim.search rules };
 }
@@ -156,11 +168,17 @@ impl HypertreeParams for Counting {
 impl ForsParams for Counting {
     ghost use Rattle.std.proofs.Common.{rules};
 
-    type K = U2;
+    const K: usize = 2;
 
-    type A = U2;
+    ghost K = { 2 };
 
-    type MD = U1;
+    const A: usize = 2;
+
+    ghost A = { 2 };
+
+    const MD: usize = 1;
+
+    ghost MD = { 1 };
 
     ghost scheme = { scheme_of toy 1 2 2 2 2 };
 

@@ -112,7 +112,7 @@ fn is_known_by_sha512<P: SetSuite>(key: &SigningKey<P>, wanted: &str, out: &mut 
 
 fn are_known_of<P: SetSuite>(key: &SigningKey<P>, wanted: [&str; 3]) -> bool {
     let mut out = [0; MOST];
-    let (out, _) = out.split_at_mut(P::SigLen::USIZE.min(MOST));
+    let (out, _) = out.split_at_mut(P::SIG_LEN.min(MOST));
     let [whole, by_sha256, by_sha512] = wanted;
     is_whole_known(key, whole, out)
         && is_known_by_sha256(key, by_sha256, out)

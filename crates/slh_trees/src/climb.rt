@@ -3,7 +3,6 @@ ghost use Rattle.std.specs.Prelude.{◌≡◌, ◌+◌, ◌*◌, ◌≤◌, leng
 ghost use Rattle.slh_trees.specs.Merkle.{climb as spec_climb};
 
 use crate::node::{NodeAddress, parent};
-use hybrid_array::ArraySize;
 use slh_core::equal_parts::part_of;
 use slh_core::nbytes::NBytes;
 use slh_core::params::{WotsParams, chain_sizes};

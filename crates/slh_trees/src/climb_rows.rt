@@ -17,12 +17,12 @@ use std::sync::ledger::Ledger;
 
 /// Writes the indices of the leaves that the digits name, one in each tree.
 pub(crate) fn leaf_indices<P: ForsParams>(digits: &[u16], indices: &mut [u32])
-    requires count { length digits.now ≡ P.K.USIZE }
-    requires below { EachIndex digits.now (λ i. slice_index digits.now i < 2 ^ P.A.USIZE) }
-    requires room { length indices.old ≡ P.K.USIZE }
+    requires count { length digits.now ≡ P.K }
+    requires below { EachIndex digits.now (λ i. slice_index digits.now i < 2 ^ P.A) }
+    requires room { length indices.old ≡ P.K }
     ensures { (i : ℕ)
-        → i < P.K.USIZE
-        → slice_index indices.new i ≡ leaf_index P.A.USIZE digits.now i }
+        → i < P.K
+        → slice_index indices.new i ≡ leaf_index P.A digits.now i }
 {
     for (i, digit) in digits.iter().enumerate() {
         indices[i] = index_of::<P>(i, *digit);
@@ -31,16 +31,16 @@ pub(crate) fn leaf_indices<P: ForsParams>(digits: &[u16], indices: &mut [u32])
 
 /// Writes the secrets that are opened, one of each tree.
 pub(crate) fn opened_secrets<P: ForsParams>(sig: &[u8], out: &mut [u8])
-    requires whole { length sig.now ≡ P.K.USIZE * ((1 + P.A.USIZE) * P.N.USIZE) }
-    requires room { length out.old ≡ P.K.USIZE * P.N.USIZE }
+    requires whole { length sig.now ≡ P.K * ((1 + P.A) * P.N.USIZE) }
+    requires room { length out.old ≡ P.K * P.N.USIZE }
     ensures { (i : ℕ)
-        → i < P.K.USIZE
+        → i < P.K
         → part P.N.USIZE out.new i
-        ≡ take P.N.USIZE (part ((1 + P.A.USIZE) * P.N.USIZE) sig.now i) }
+        ≡ take P.N.USIZE (part ((1 + P.A) * P.N.USIZE) sig.now i) }
 {
     let n = P::N::USIZE;
     let size = opened_len::<P>();
-    for i in 0..P::K::USIZE {
+    for i in 0..P::K {
         let opened = piece(sig, size, i);
         put_part(out, n, i, &opened[..n]);
     }
@@ -49,10 +49,10 @@ pub(crate) fn opened_secrets<P: ForsParams>(sig: &[u8], out: &mut [u8])
 /// The sibling at height `z` on the way up in tree `i`.
 #[inline]
 fn sibling_in<P: ForsParams>(sig: &[u8], i: usize, z: usize) -> NBytes<P::N>
-    requires tree { i < P.K.USIZE }
-    requires height { z < P.A.USIZE }
-    requires whole { length sig.now ≡ P.K.USIZE * ((1 + P.A.USIZE) * P.N.USIZE) }
-    ensures { let opened = part ((1 + P.A.USIZE) * P.N.USIZE) sig.now i in
+    requires tree { i < P.K }
+    requires height { z < P.A }
+    requires whole { length sig.now ≡ P.K * ((1 + P.A) * P.N.USIZE) }
+    ensures { let opened = part ((1 + P.A) * P.N.USIZE) sig.now i in
         result ≡ part P.N.USIZE (drop P.N.USIZE opened) z }
 {
     forest_sizes::<P>();
@@ -100,21 +100,21 @@ fn put_in_order<N: ArraySize>(
 
 /// Pairs the nodes of a height, one of each tree, with their siblings.
 fn pair_nodes<P: ForsParams>(indices: &[u32], z: usize, sig: &[u8], nodes: &[u8], pairs: &mut [u8])
-    requires count { length indices.now ≡ P.K.USIZE }
-    requires height { z < P.A.USIZE }
-    requires whole { length sig.now ≡ P.K.USIZE * ((1 + P.A.USIZE) * P.N.USIZE) }
-    requires nodes { length nodes.now ≡ P.K.USIZE * P.N.USIZE }
-    requires room { length pairs.old ≡ P.K.USIZE * (2 * P.N.USIZE) }
+    requires count { length indices.now ≡ P.K }
+    requires height { z < P.A }
+    requires whole { length sig.now ≡ P.K * ((1 + P.A) * P.N.USIZE) }
+    requires nodes { length nodes.now ≡ P.K * P.N.USIZE }
+    requires room { length pairs.old ≡ P.K * (2 * P.N.USIZE) }
     ensures left { (i : ℕ)
-        → i < P.K.USIZE
-        → let opened = part ((1 + P.A.USIZE) * P.N.USIZE) sig.now i in
+        → i < P.K
+        → let opened = part ((1 + P.A) * P.N.USIZE) sig.now i in
         let node = part P.N.USIZE nodes.now i in
         let beside = part P.N.USIZE (drop P.N.USIZE opened) z in
         part P.N.USIZE pairs.new (2 * i)
         ≡ (if slice_index indices.now i % 2 == 0 then node else beside) }
     ensures right { (i : ℕ)
-        → i < P.K.USIZE
-        → let opened = part ((1 + P.A.USIZE) * P.N.USIZE) sig.now i in
+        → i < P.K
+        → let opened = part ((1 + P.A) * P.N.USIZE) sig.now i in
         let node = part P.N.USIZE nodes.now i in
         let beside = part P.N.USIZE (drop P.N.USIZE opened) z in
         part P.N.USIZE pairs.new (2 * i + 1)
@@ -142,7 +142,7 @@ fn halve(indices: &mut [u32])
 /// How many bytes the pairs of a height have, one of each tree.
 #[inline]
 fn pairs_len<P: ForsParams>() -> usize
-    ensures value { result ≡ P.K.USIZE * (2 * P.N.USIZE) }
+    ensures value { result ≡ P.K * (2 * P.N.USIZE) }
     ensures small { result ≤ 2 * MAX_ROOTS_LEN }
 {
     2 * roots_len::<P>()
@@ -158,25 +158,25 @@ pub(crate) fn climb_level<P: ForsParams, L: Ledger>(
     nodes: &mut [u8],
     steps: &mut Steps<L>,
 )
-    requires count { length indices.old ≡ P.K.USIZE }
-    requires height { z < P.A.USIZE }
-    requires whole { length sig.now ≡ P.K.USIZE * ((1 + P.A.USIZE) * P.N.USIZE) }
-    requires room { length nodes.old ≡ P.K.USIZE * P.N.USIZE }
+    requires count { length indices.old ≡ P.K }
+    requires height { z < P.A }
+    requires whole { length sig.now ≡ P.K * ((1 + P.A) * P.N.USIZE) }
+    requires room { length nodes.old ≡ P.K * P.N.USIZE }
     ensures indices { (i : ℕ)
-        → i < P.K.USIZE
+        → i < P.K
         → slice_index indices.new i ≡ slice_index indices.old i / 2 }
     ensures value { let K = P.keyed_suite keyed.now in
         let B = fors_place adrs.now.tree_adrs_low adrs.now.key_pair_adrs in
         let parent : ℕ → List ℕ = λ i.
-        let opened = part ((1 + P.A.USIZE) * P.N.USIZE) sig.now i in
+        let opened = part ((1 + P.A) * P.N.USIZE) sig.now i in
         let node = part P.N.USIZE nodes.old i in
         let beside = part P.N.USIZE (drop P.N.USIZE opened) z in
         let at = node_bytes B (z + 1) (slice_index indices.old i / 2) in
         if slice_index indices.old i % 2 == 0
         then K.suite.h K.seed at node beside
         else K.suite.h K.seed at beside node in
-        nodes.new ≡ joined parent P.K.USIZE }
-    ensures cost { steps.new ≡ steps.old + P.K.USIZE }
+        nodes.new ≡ joined parent P.K }
+    ensures cost { steps.new ≡ steps.old + P.K }
 {
     forest_sizes::<P>();
     let mut store = [0u8; 2 * MAX_ROOTS_LEN];

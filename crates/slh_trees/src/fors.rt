@@ -31,7 +31,7 @@ pub fn fors_sk_gen<P: ForsParams, L: Ledger>(
     idx: u32,
     steps: &mut Steps<L>,
 ) -> NBytes<P::N>
-    requires { idx < P.K.USIZE * 2 ^ P.A.USIZE }
+    requires { idx < P.K * 2 ^ P.A }
     ensures value { let K = P.keyed_suite keyed.now in
         let a = adrs.now in
         result ≡ fors_secret K sk_seed.now a.tree_adrs_low a.key_pair_adrs idx }
@@ -48,9 +48,9 @@ impl<P: ForsParams> Leaves<P> for ForsTree {
     ghost use Rattle.slh_trees.specs.Lengths.{length-fors_leaf};
     ghost use Rattle.std.proofs.Common.{rules};
 
-    ghost trees = { P.K.USIZE };
+    ghost trees = { P.K };
 
-    ghost height = { P.A.USIZE };
+    ghost height = { P.A };
 
     ghost leaf = { λ K sk a. fors_leaf K sk a.tree_adrs_low a.key_pair_adrs };
 
@@ -107,8 +107,8 @@ pub fn fors_node<P: ForsParams, L: Ledger>(
     adrs: &ForsTree,
     steps: &mut Steps<L>,
 ) -> NBytes<P::N>
-    requires height { z ≤ P.A.USIZE }
-    requires node { i < P.K.USIZE * 2 ^ (P.A.USIZE - z) }
+    requires height { z ≤ P.A }
+    requires node { i < P.K * 2 ^ (P.A - z) }
     ensures value { let K = P.keyed_suite keyed.now in
         let a = adrs.now in
         result ≡ spec_fors_node K sk_seed.now a.tree_adrs_low a.key_pair_adrs z i }
@@ -127,47 +127,47 @@ fn open_secret<P: ForsParams, L: Ledger>(
     out: &mut [u8],
     steps: &mut Steps<L>,
 )
-    requires leaf { y < P.K.USIZE * 2 ^ P.A.USIZE }
-    requires room { length out.old ≡ (1 + P.A.USIZE) * P.N.USIZE }
+    requires leaf { y < P.K * 2 ^ P.A }
+    requires room { length out.old ≡ (1 + P.A) * P.N.USIZE }
     ensures value { let K = P.keyed_suite keyed.now in
         let a = adrs.now in
         out.new ≡ fors_secret K sk_seed.now a.tree_adrs_low a.key_pair_adrs y
-        ++ fors_auth_path K sk_seed.now a.tree_adrs_low a.key_pair_adrs y P.A.USIZE }
-    ensures cost { steps.new ≡ steps.old + (1 + auth_path_cost fors_leaf_cost P.A.USIZE) }
+        ++ fors_auth_path K sk_seed.now a.tree_adrs_low a.key_pair_adrs y P.A }
+    ensures cost { steps.new ≡ steps.old + (1 + auth_path_cost fors_leaf_cost P.A) }
 {
     forest_sizes::<P>();
     let (secret, path) = out.split_at_mut(P::N::USIZE);
     secret.copy_from_slice(fors_sk_gen::<P, L>(sk_seed, keyed, adrs, y, steps).as_slice());
-    let height = P::A::USIZE;
+    let height = P::A;
     write_auth_path::<P, ForsTree, L>(sk_seed, y, height, keyed, adrs, path, steps);
 }
 
 /// How many bytes are opened in one tree.
 pub fn opened_len<P: ForsParams>() -> usize
-    ensures value { result ≡ (1 + P.A.USIZE) * P.N.USIZE }
+    ensures value { result ≡ (1 + P.A) * P.N.USIZE }
     ensures small { result ≤ MAX_OPENED_LEN }
 {
     forest_sizes::<P>();
-    (1 + P::A::USIZE) * P::N::USIZE
+    (1 + P::A) * P::N::USIZE
 }
 
 /// How many bytes the forest's part of a signature has.
 #[inline]
 pub fn forest_len<P: ForsParams>() -> usize
-    ensures value { result ≡ forest_size P.N.USIZE P.K.USIZE P.A.USIZE }
+    ensures value { result ≡ forest_size P.N.USIZE P.K P.A }
     ensures small { result ≤ MAX_FORS_TREES * MAX_OPENED_LEN }
 {
     forest_sizes::<P>();
-    P::K::USIZE * opened_len::<P>()
+    P::K * opened_len::<P>()
 }
 
 /// How many bytes the roots of all trees of the forest have.
 pub fn roots_len<P: ForsParams>() -> usize
-    ensures value { result ≡ P.K.USIZE * P.N.USIZE }
+    ensures value { result ≡ P.K * P.N.USIZE }
     ensures small { result ≤ MAX_ROOTS_LEN }
 {
     forest_sizes::<P>();
-    P::K::USIZE * P::N::USIZE
+    P::K * P::N::USIZE
 }
 
 /// Writes the signature of the digest's first part: it opens one secret in each tree, which the
@@ -180,18 +180,18 @@ pub fn fors_sign<P: ForsParams, L: Ledger>(
     out: &mut [u8],
     steps: &mut Steps<L>,
 )
-    requires digest { length md.now ≡ P.MD.USIZE }
-    requires room { length out.old ≡ P.K.USIZE * ((1 + P.A.USIZE) * P.N.USIZE) }
+    requires digest { length md.now ≡ P.MD }
+    requires room { length out.old ≡ P.K * ((1 + P.A) * P.N.USIZE) }
     ensures value { let K = P.keyed_suite keyed.now in
         let t = adrs.now.tree_adrs_low in
         let l = adrs.now.key_pair_adrs in
-        out.new ≡ fors_sig K sk_seed.now t l P.K.USIZE P.A.USIZE md.now }
-    ensures cost { steps.new ≡ steps.old + fors_sign_cost P.K.USIZE P.A.USIZE }
+        out.new ≡ fors_sig K sk_seed.now t l P.K P.A md.now }
+    ensures cost { steps.new ≡ steps.old + fors_sign_cost P.K P.A }
 {
     forest_sizes::<P>();
     let mut store = [0u16; MAX_FORS_TREES];
-    let digits = &mut store[..P::K::USIZE];
-    base_2b(md, P::A::USIZE as u32, digits);
+    let digits = &mut store[..P::K];
+    base_2b(md, P::A as u32, digits);
     open_all::<P, L>(digits, sk_seed, keyed, adrs, out, steps);
 }
 
@@ -204,14 +204,14 @@ fn open_all<P: ForsParams, L: Ledger>(
     out: &mut [u8],
     steps: &mut Steps<L>,
 )
-    requires count { length digits.now ≡ P.K.USIZE }
-    requires below { EachIndex digits.now (λ i. slice_index digits.now i < 2 ^ P.A.USIZE) }
-    requires room { length out.old ≡ P.K.USIZE * ((1 + P.A.USIZE) * P.N.USIZE) }
+    requires count { length digits.now ≡ P.K }
+    requires below { EachIndex digits.now (λ i. slice_index digits.now i < 2 ^ P.A) }
+    requires room { length out.old ≡ P.K * ((1 + P.A) * P.N.USIZE) }
     ensures value { let K = P.keyed_suite keyed.now in
         let t = adrs.now.tree_adrs_low in
         let l = adrs.now.key_pair_adrs in
-        out.new ≡ opened_leaves K sk_seed.now t l P.K.USIZE P.A.USIZE digits.now }
-    ensures cost { steps.new ≡ steps.old + fors_sign_cost P.K.USIZE P.A.USIZE }
+        out.new ≡ opened_leaves K sk_seed.now t l P.K P.A digits.now }
+    ensures cost { steps.new ≡ steps.old + fors_sign_cost P.K P.A }
 {
     forest_sizes::<P>();
     let size = opened_len::<P>();
@@ -224,13 +224,13 @@ fn open_all<P: ForsParams, L: Ledger>(
 
 /// The index of the leaf that a digit names in tree `i`.
 pub fn index_of<P: ForsParams>(i: usize, digit: u16) -> u32
-    requires tree { i < P.K.USIZE }
-    requires digit { digit < 2 ^ P.A.USIZE }
-    ensures value { result ≡ i * 2 ^ P.A.USIZE + digit }
-    ensures below { result < P.K.USIZE * 2 ^ P.A.USIZE }
+    requires tree { i < P.K }
+    requires digit { digit < 2 ^ P.A }
+    ensures value { result ≡ i * 2 ^ P.A + digit }
+    ensures below { result < P.K * 2 ^ P.A }
 {
     forest_sizes::<P>();
-    i as u32 * (1u32 << P::A::USIZE) + u32::from(digit)
+    i as u32 * (1u32 << P::A) + u32::from(digit)
 }
 
 /// The forest's public key that the signature of the digest's first part leads to (FIPS 205,
@@ -242,18 +242,18 @@ pub fn fors_pk_from_sig<P: ForsParams, L: Ledger>(
     adrs: &ForsTree,
     steps: &mut Steps<L>,
 ) -> NBytes<P::N>
-    requires digest { length md.now ≡ P.MD.USIZE }
-    requires whole { length sig.now ≡ P.K.USIZE * ((1 + P.A.USIZE) * P.N.USIZE) }
+    requires digest { length md.now ≡ P.MD }
+    requires whole { length sig.now ≡ P.K * ((1 + P.A) * P.N.USIZE) }
     ensures value { let K = P.keyed_suite keyed.now in
         let t = adrs.now.tree_adrs_low in
         let l = adrs.now.key_pair_adrs in
-        result ≡ spec_fors_pk_from_sig K t l P.K.USIZE P.A.USIZE sig.now md.now }
-    ensures cost { steps.new ≡ steps.old + fors_pk_from_sig_cost P.K.USIZE P.A.USIZE }
+        result ≡ spec_fors_pk_from_sig K t l P.K P.A sig.now md.now }
+    ensures cost { steps.new ≡ steps.old + fors_pk_from_sig_cost P.K P.A }
 {
     forest_sizes::<P>();
     let mut store = [0u16; MAX_FORS_TREES];
-    let digits = &mut store[..P::K::USIZE];
-    base_2b(md, P::A::USIZE as u32, digits);
+    let digits = &mut store[..P::K];
+    base_2b(md, P::A as u32, digits);
     let mut roots_store = [0u8; MAX_ROOTS_LEN];
     let roots = &mut roots_store[..roots_len::<P>()];
     climb_all::<P, L>(digits, sig, keyed, adrs, roots, steps);
@@ -269,24 +269,24 @@ pub fn climb_all<P: ForsParams, L: Ledger>(
     out: &mut [u8],
     steps: &mut Steps<L>,
 )
-    requires count { length digits.now ≡ P.K.USIZE }
-    requires below { EachIndex digits.now (λ i. slice_index digits.now i < 2 ^ P.A.USIZE) }
-    requires whole { length sig.now ≡ P.K.USIZE * ((1 + P.A.USIZE) * P.N.USIZE) }
-    requires room { length out.old ≡ P.K.USIZE * P.N.USIZE }
+    requires count { length digits.now ≡ P.K }
+    requires below { EachIndex digits.now (λ i. slice_index digits.now i < 2 ^ P.A) }
+    requires whole { length sig.now ≡ P.K * ((1 + P.A) * P.N.USIZE) }
+    requires room { length out.old ≡ P.K * P.N.USIZE }
     ensures value { let K = P.keyed_suite keyed.now in
         let t = adrs.now.tree_adrs_low in
         let l = adrs.now.key_pair_adrs in
-        let a = P.A.USIZE in
-        out.new ≡ joined (λ i. checked_fors_node K t l a sig.now digits.now i a) P.K.USIZE }
-    ensures cost { steps.new ≡ steps.old + P.K.USIZE * (1 + P.A.USIZE) }
+        let a = P.A in
+        out.new ≡ joined (λ i. checked_fors_node K t l a sig.now digits.now i a) P.K }
+    ensures cost { steps.new ≡ steps.old + P.K * (1 + P.A) }
 {
     forest_sizes::<P>();
     let mut row = [0u32; MAX_FORS_TREES];
-    let indices = &mut row[..P::K::USIZE];
+    let indices = &mut row[..P::K];
     leaf_indices::<P>(digits, indices);
     opened_secrets::<P>(sig, out);
     P::f_each(keyed, &adrs.at_node(0, 0), indices, out, steps);
-    for z in 0..P::A::USIZE {
+    for z in 0..P::A {
         climb_level::<P, L>(indices, z, sig, keyed, adrs, out, steps);
     }
 }
@@ -302,17 +302,17 @@ pub fn fors_sign_root<P: ForsParams, L: Ledger>(
     out: &mut [u8],
     steps: &mut Steps<L>,
 ) -> NBytes<P::N>
-    requires digest { length md.now ≡ P.MD.USIZE }
-    requires room { length out.old ≡ P.K.USIZE * ((1 + P.A.USIZE) * P.N.USIZE) }
+    requires digest { length md.now ≡ P.MD }
+    requires room { length out.old ≡ P.K * ((1 + P.A) * P.N.USIZE) }
     ensures key { let K = P.keyed_suite keyed.now in
         let t = adrs.now.tree_adrs_low in
         let l = adrs.now.key_pair_adrs in
-        result ≡ fors_pk K sk_seed.now t l P.K.USIZE P.A.USIZE }
+        result ≡ fors_pk K sk_seed.now t l P.K P.A }
     ensures value { let K = P.keyed_suite keyed.now in
         let t = adrs.now.tree_adrs_low in
         let l = adrs.now.key_pair_adrs in
-        out.new ≡ fors_sig K sk_seed.now t l P.K.USIZE P.A.USIZE md.now }
-    ensures cost { steps.new ≡ steps.old + fors_pk_cost P.K.USIZE P.A.USIZE }
+        out.new ≡ fors_sig K sk_seed.now t l P.K P.A md.now }
+    ensures cost { steps.new ≡ steps.old + fors_pk_cost P.K P.A }
 {
     forest_leads_to_key::<P>();
     fors_sign::<P, L>(md, sk_seed, keyed, adrs, out, steps);

@@ -16,11 +16,11 @@ use std::sync::ledger::Ledger;
 
 /// How many bytes a layer's signature has.
 pub fn layer_len<P: XmssParams>() -> usize
-    ensures value { result ≡ layer_size P.N.USIZE P.HPrime.USIZE }
+    ensures value { result ≡ layer_size P.N.USIZE P.H_PRIME }
     ensures small { result ≤ 4096 }
 {
     tree_sizes::<P>();
-    (P::WotsSigLen::USIZE + P::HPrime::USIZE) * P::N::USIZE
+    (P::WOTS_SIG_LEN + P::H_PRIME) * P::N::USIZE
 }
 
 /// The tree and the leaf of the next layer.
@@ -62,22 +62,22 @@ pub fn ht_sign<P: HypertreeParams, L: Ledger>(
     out: &mut [u8],
     steps: &mut Steps<L>,
 )
-    requires tree { idx_tree < 2 ^ (P.H.USIZE - P.HPrime.USIZE) }
-    requires leaf { idx_leaf < 2 ^ P.HPrime.USIZE }
-    requires room { length out.old ≡ P.D.USIZE * layer_size P.N.USIZE P.HPrime.USIZE }
+    requires tree { idx_tree < 2 ^ (P.H - P.H_PRIME) }
+    requires leaf { idx_leaf < 2 ^ P.H_PRIME }
+    requires room { length out.old ≡ P.D * layer_size P.N.USIZE P.H_PRIME }
     ensures value { let K = P.keyed_suite keyed.now in
-        let hp = P.HPrime.USIZE in
-        out.new ≡ ht_sig K hp sk_seed.now idx_tree idx_leaf m.now P.D.USIZE }
-    ensures cost { let hp = P.HPrime.USIZE in
-        steps.new ≡ steps.old + ht_sign_cost P.WotsSigLen.USIZE hp P.D.USIZE }
+        let hp = P.H_PRIME in
+        out.new ≡ ht_sig K hp sk_seed.now idx_tree idx_leaf m.now P.D }
+    ensures cost { let hp = P.H_PRIME in
+        steps.new ≡ steps.old + ht_sign_cost P.WOTS_SIG_LEN hp P.D }
 {
     layer_sizes::<P>();
-    let height = P::HPrime::USIZE;
+    let height = P::H_PRIME;
     let size = layer_len::<P>();
     let mut message = m.copy();
     let mut tree = idx_tree;
     let mut leaf = idx_leaf;
-    for j in 0..P::D::USIZE {
+    for j in 0..P::D {
         let at = tree_adrs_of(j as u32, tree);
         let layer = &mut out[j * size..(j + 1) * size];
         message = xmss_sign_root::<P, L>(&message, sk_seed, keyed, leaf, &at, layer, steps);
@@ -94,23 +94,23 @@ pub fn ht_root<P: HypertreeParams, L: Ledger>(
     idx_leaf: u32,
     steps: &mut Steps<L>,
 ) -> NBytes<P::N>
-    requires tree { idx_tree < 2 ^ (P.H.USIZE - P.HPrime.USIZE) }
-    requires leaf { idx_leaf < 2 ^ P.HPrime.USIZE }
-    requires whole { length sig.now ≡ P.D.USIZE * layer_size P.N.USIZE P.HPrime.USIZE }
+    requires tree { idx_tree < 2 ^ (P.H - P.H_PRIME) }
+    requires leaf { idx_leaf < 2 ^ P.H_PRIME }
+    requires whole { length sig.now ≡ P.D * layer_size P.N.USIZE P.H_PRIME }
     ensures value { let K = P.keyed_suite keyed.now in
-        let hp = P.HPrime.USIZE in
-        result ≡ checked_message K hp idx_tree idx_leaf sig.now m.now P.D.USIZE }
-    ensures bound { let hp = P.HPrime.USIZE in
-        steps.new ≤ steps.old + ht_verify_bound P.WotsSigLen.USIZE hp P.D.USIZE }
+        let hp = P.H_PRIME in
+        result ≡ checked_message K hp idx_tree idx_leaf sig.now m.now P.D }
+    ensures bound { let hp = P.H_PRIME in
+        steps.new ≤ steps.old + ht_verify_bound P.WOTS_SIG_LEN hp P.D }
     ensures rises { steps.old ≤ steps.new }
 {
     layer_sizes::<P>();
-    let height = P::HPrime::USIZE;
+    let height = P::H_PRIME;
     let size = layer_len::<P>();
     let mut message = m.copy();
     let mut tree = idx_tree;
     let mut leaf = idx_leaf;
-    for j in 0..P::D::USIZE {
+    for j in 0..P::D {
         let at = tree_adrs_of(j as u32, tree);
         let layer = piece(sig, size, j);
         message = xmss_pk_from_sig::<P, L>(leaf, layer, &message, keyed, &at, steps);
@@ -129,15 +129,15 @@ pub fn ht_verify<P: HypertreeParams, L: Ledger>(
     pk_root: &NBytes<P::N>,
     steps: &mut Steps<L>,
 ) -> bool
-    requires tree { idx_tree < 2 ^ (P.H.USIZE - P.HPrime.USIZE) }
-    requires leaf { idx_leaf < 2 ^ P.HPrime.USIZE }
-    requires whole { length sig.now ≡ P.D.USIZE * layer_size P.N.USIZE P.HPrime.USIZE }
+    requires tree { idx_tree < 2 ^ (P.H - P.H_PRIME) }
+    requires leaf { idx_leaf < 2 ^ P.H_PRIME }
+    requires whole { length sig.now ≡ P.D * layer_size P.N.USIZE P.H_PRIME }
     ensures value { let K = P.keyed_suite keyed.now in
-        let hp = P.HPrime.USIZE in
-        let root = checked_message K hp idx_tree idx_leaf sig.now m.now P.D.USIZE in
+        let hp = P.H_PRIME in
+        let root = checked_message K hp idx_tree idx_leaf sig.now m.now P.D in
         IsTrue result ↔ (root ≡ pk_root.now) }
-    ensures bound { let hp = P.HPrime.USIZE in
-        steps.new ≤ steps.old + ht_verify_bound P.WotsSigLen.USIZE hp P.D.USIZE }
+    ensures bound { let hp = P.H_PRIME in
+        steps.new ≤ steps.old + ht_verify_bound P.WOTS_SIG_LEN hp P.D }
     ensures rises { steps.old ≤ steps.new }
 {
     let root = ht_root::<P, L>(m, sig, keyed, idx_tree, idx_leaf, steps);

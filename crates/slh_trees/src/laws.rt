@@ -8,16 +8,15 @@ ghost use Rattle.slh_trees.specs.Hypertree.{ht_sig, layer_message};
 ghost use Rattle.slh_trees.specs.Merkle.{climb};
 ghost use Rattle.slh_trees.specs.Xmss.{tree_place, xmss_node, auth_path, xmss_sig};
 
-use hybrid_array::ArraySize;
 pub use slh_core::laws::{chain_continues, digits_are_incomparable, signature_leads_to_leaf};
 use slh_core::params::{ForsParams, HypertreeParams, XmssParams};
 
 /// A leaf of a tree and the siblings on the way up from it lead to the tree's root.
 pub fn path_leads_to_root<P: XmssParams>()
     ensures { (s sk : List ℕ) (j t y : ℕ)
-        → y < 2 ^ P.HPrime.USIZE
+        → y < 2 ^ P.H_PRIME
         → let K = seeded P.suite P.N.USIZE s in
-        let hp = P.HPrime.USIZE in
+        let hp = P.H_PRIME in
         let path = auth_path K sk j t y hp in
         climb K (tree_place j t) (wots_pk K sk j t y) y path hp ≡ xmss_node K sk j t hp 0 }
 {}
@@ -25,9 +24,9 @@ pub fn path_leads_to_root<P: XmssParams>()
 /// The signature of a message under a leaf of a tree leads to the tree's root.
 pub fn signature_leads_to_root<P: XmssParams>()
     ensures { (s sk m : List ℕ) (j t y : ℕ)
-        → y < 2 ^ P.HPrime.USIZE
+        → y < 2 ^ P.H_PRIME
         → let K = seeded P.suite P.N.USIZE s in
-        let hp = P.HPrime.USIZE in
+        let hp = P.H_PRIME in
         checked_node K j t y (xmss_sig K sk j t y m hp) m hp ≡ xmss_node K sk j t hp 0 }
 {}
 
@@ -35,15 +34,15 @@ pub fn signature_leads_to_root<P: XmssParams>()
 /// and that is the root of the tree below.
 pub fn layers_sign_roots<P: HypertreeParams>()
     ensures below { (s sk m : List ℕ) (t l d j : ℕ)
-        → l < 2 ^ P.HPrime.USIZE
+        → l < 2 ^ P.H_PRIME
         → j ≤ d
         → let K = seeded P.suite P.N.USIZE s in
-        let hp = P.HPrime.USIZE in
+        let hp = P.H_PRIME in
         let sig = ht_sig K hp sk t l m d in
         checked_message K hp t l sig m j ≡ layer_message K hp sk t l m j }
     ensures root { (s sk m : List ℕ) (t l j : ℕ)
         → let K = seeded P.suite P.N.USIZE s in
-        let hp = P.HPrime.USIZE in
+        let hp = P.H_PRIME in
         layer_message K hp sk t l m (suc j) ≡ xmss_node K sk j (t / 2 ^ (j * hp)) hp 0 }
 {}
 
@@ -51,8 +50,8 @@ pub fn layers_sign_roots<P: HypertreeParams>()
 pub fn forest_leads_to_key<P: ForsParams>()
     ensures { (s sk md : List ℕ) (t l : ℕ)
         → let K = seeded P.suite P.N.USIZE s in
-        let k = P.K.USIZE in
-        let a = P.A.USIZE in
+        let k = P.K in
+        let a = P.A in
         let sig = fors_sig K sk t l k a md in
         fors_pk_from_sig K t l k a sig md ≡ fors_pk K sk t l k a }
 {}

@@ -4,7 +4,7 @@ ghost use Rattle.slh_core.specs.Parameters.{scheme_of};
 ghost use Rattle.slh_core.specs.Suite.{seeded};
 ghost use Rattle.slh_trees.specs.ToySuite.{toy, toy_lengths, toy_bytes, toy_digest_length};
 
-use hybrid_array::sizes::{U1, U2, U3, U4, U5};
+use hybrid_array::sizes::U1;
 use slh_core::address::Address;
 use slh_core::nbytes::NBytes;
 use slh_core::params::{ForsParams, HypertreeParams, WotsParams, XmssParams};
@@ -52,7 +52,9 @@ fn sum_of_three(head: &[u8], ctx: &[u8], msg: &[u8]) -> u32
 impl HashSuite for Toy {
     type N = U1;
 
-    type M = U3;
+    const DIGEST_LEN: usize = 3;
+
+    ghost DIGEST_LEN = { 3 };
 
     type Keyed = NBytes<U1>;
 
@@ -150,27 +152,37 @@ impl HashSuite for Toy {
 impl WotsParams for Toy {
     ghost use Rattle.std.proofs.Common.{rules};
 
-    type WotsMsgLen = U2;
+    const WOTS_MSG_LEN: usize = 2;
 
-    type WotsSigLen = U5;
+    ghost WOTS_MSG_LEN = { 2 };
+
+    const WOTS_SIG_LEN: usize = 5;
+
+    ghost WOTS_SIG_LEN = { 5 };
 
     ghost valid_wots = { Prim.search rules };
 }
 
 impl XmssParams for Toy {
-    ghost use Rattle.std.proofs.Common.{rules};
+    ghost use Rattle.std.proofs.Common.{lit≤};
 
-    type HPrime = U2;
+    const H_PRIME: usize = 2;
 
-    ghost valid_xmss = { Prim.search rules };
+    ghost H_PRIME = { 2 };
+
+    ghost valid_xmss = { record { height_low = lit≤ tt; height_high = lit≤ tt } };
 }
 
 impl HypertreeParams for Toy {
     ghost use Rattle.std.proofs.Common.{rules};
 
-    type D = U2;
+    const D: usize = 2;
 
-    type H = U4;
+    ghost D = { 2 };
+
+    const H: usize = 4;
+
+    ghost H = { 4 };
 
     ghost valid_hypertree = { Prim.search rules };
 }
@@ -178,11 +190,17 @@ impl HypertreeParams for Toy {
 impl ForsParams for Toy {
     ghost use Rattle.std.proofs.Common.{rules};
 
-    type K = U2;
+    const K: usize = 2;
 
-    type A = U2;
+    ghost K = { 2 };
 
-    type MD = U1;
+    const A: usize = 2;
+
+    ghost A = { 2 };
+
+    const MD: usize = 1;
+
+    ghost MD = { 1 };
 
     ghost scheme = { scheme_of toy 1 2 2 2 2 };
 

@@ -56,7 +56,7 @@ fn leaves_by_eight<P: XmssParams, L: Ledger>(
     steps: &mut Steps<L>,
 )
     requires inside { first + 8 * groups ≤ 2 ^ 32 }
-    requires count { length digits.now ≡ P.WotsSigLen.USIZE }
+    requires count { length digits.now ≡ P.WOTS_SIG_LEN }
     requires whole { length sig.old ≡ length digits.now * P.N.USIZE }
     requires room { length out.old ≡ groups * (8 * P.N.USIZE) }
     ensures leaves { let K = P.keyed_suite keyed.now in
@@ -69,7 +69,7 @@ fn leaves_by_eight<P: XmssParams, L: Ledger>(
         let value = value_or K sk j t (first + signer) sig.old digits.now in
         signer < 8 * groups → sig.new ≡ joined value (length digits.now) }
     ensures kept { 8 * groups ≤ signer → sig.new ≡ sig.old }
-    ensures cost { steps.new ≡ steps.old + 8 * groups * wots_pk_cost P.WotsSigLen.USIZE }
+    ensures cost { steps.new ≡ steps.old + 8 * groups * wots_pk_cost P.WOTS_SIG_LEN }
 {
     tree_sizes::<P>();
     let none = no_digits(digits.len());
@@ -88,11 +88,11 @@ impl<P: XmssParams> Leaves<P> for HashTree {
 
     ghost trees = { 1 };
 
-    ghost height = { P.HPrime.USIZE };
+    ghost height = { P.H_PRIME };
 
     ghost leaf = { λ K sk a. wots_pk K sk a.layer_adrs a.tree_adrs_low };
 
-    ghost leaf_cost = { wots_pk_cost P.WotsSigLen.USIZE };
+    ghost leaf_cost = { wots_pk_cost P.WOTS_SIG_LEN };
 
     fn write_eights<L: Ledger>(
         &self,
@@ -106,7 +106,7 @@ impl<P: XmssParams> Leaves<P> for HashTree {
         tree_sizes::<P>();
         let mut store = [0u8; MAX_ENDS_LEN];
         let sig = &mut store[..ends_len::<P>()];
-        let none = no_digits(P::WotsSigLen::USIZE);
+        let none = no_digits(P::WOTS_SIG_LEN);
         leaves_by_eight::<P, L>(
             sk_seed, first, groups, 0, none, keyed, self, sig, out, steps,
         );
@@ -146,12 +146,12 @@ pub fn xmss_node<P: XmssParams, L: Ledger>(
     adrs: &WotsHash,
     steps: &mut Steps<L>,
 ) -> NBytes<P::N>
-    requires height { height ≤ P.HPrime.USIZE }
-    requires node { node < 2 ^ (P.HPrime.USIZE - height) }
+    requires height { height ≤ P.H_PRIME }
+    requires node { node < 2 ^ (P.H_PRIME - height) }
     ensures value { let K = P.keyed_suite keyed.now in
         let a = adrs.now in
         result ≡ spec_xmss_node K sk_seed.now a.layer_adrs a.tree_adrs_low height node }
-    ensures cost { steps.new ≡ steps.old + xmss_node_cost P.WotsSigLen.USIZE height }
+    ensures cost { steps.new ≡ steps.old + xmss_node_cost P.WOTS_SIG_LEN height }
 {
     treehash::<P, HashTree, L>(sk_seed, node, height, keyed, &adrs.tree_adrs(), steps)
 }
@@ -167,18 +167,18 @@ pub fn xmss_sign<P: XmssParams, L: Ledger>(
     out: &mut [u8],
     steps: &mut Steps<L>,
 )
-    requires idx { idx < 2 ^ P.HPrime.USIZE }
-    requires room { length out.old ≡ (P.WotsSigLen.USIZE + P.HPrime.USIZE) * P.N.USIZE }
+    requires idx { idx < 2 ^ P.H_PRIME }
+    requires room { length out.old ≡ (P.WOTS_SIG_LEN + P.H_PRIME) * P.N.USIZE }
     ensures value { let K = P.keyed_suite keyed.now in
         let a = adrs.now in
-        let hp = P.HPrime.USIZE in
+        let hp = P.H_PRIME in
         out.new ≡ xmss_sig K sk_seed.now a.layer_adrs a.tree_adrs_low idx m.now hp }
     ensures cost { let digits = wots_digits P.N.USIZE m.now in
-        steps.new ≡ steps.old + xmss_sign_cost P.WotsSigLen.USIZE P.HPrime.USIZE digits }
-    ensures bound { steps.new ≤ steps.old + xmss_node_cost P.WotsSigLen.USIZE P.HPrime.USIZE }
+        steps.new ≡ steps.old + xmss_sign_cost P.WOTS_SIG_LEN P.H_PRIME digits }
+    ensures bound { steps.new ≤ steps.old + xmss_node_cost P.WOTS_SIG_LEN P.H_PRIME }
 {
     tree_sizes::<P>();
-    let height = P::HPrime::USIZE;
+    let height = P::H_PRIME;
     let (chains, path) = out.split_at_mut(ends_len::<P>());
     wots_sign::<P, L>(m, sk_seed, keyed, &adrs.at_key_pair(idx), chains, steps);
     let place = adrs.tree_adrs();
@@ -194,19 +194,19 @@ pub fn xmss_pk_from_sig<P: XmssParams, L: Ledger>(
     adrs: &WotsHash,
     steps: &mut Steps<L>,
 ) -> NBytes<P::N>
-    requires idx { idx < 2 ^ P.HPrime.USIZE }
-    requires whole { length sig.now ≡ (P.WotsSigLen.USIZE + P.HPrime.USIZE) * P.N.USIZE }
+    requires idx { idx < 2 ^ P.H_PRIME }
+    requires whole { length sig.now ≡ (P.WOTS_SIG_LEN + P.H_PRIME) * P.N.USIZE }
     ensures value { let K = P.keyed_suite keyed.now in
         let a = adrs.now in
-        let hp = P.HPrime.USIZE in
+        let hp = P.H_PRIME in
         result ≡ checked_node K a.layer_adrs a.tree_adrs_low idx sig.now m.now hp }
     ensures cost { let digits = wots_digits P.N.USIZE m.now in
-        steps.new ≡ steps.old + xmss_pk_from_sig_cost P.WotsSigLen.USIZE P.HPrime.USIZE digits }
-    ensures bound { let len = P.WotsSigLen.USIZE in
-        steps.new ≤ steps.old + xmss_pk_from_sig_bound len P.HPrime.USIZE }
+        steps.new ≡ steps.old + xmss_pk_from_sig_cost P.WOTS_SIG_LEN P.H_PRIME digits }
+    ensures bound { let len = P.WOTS_SIG_LEN in
+        steps.new ≤ steps.old + xmss_pk_from_sig_bound len P.H_PRIME }
 {
     tree_sizes::<P>();
-    let height = P::HPrime::USIZE;
+    let height = P::H_PRIME;
     let (chains, path) = sig.split_at(ends_len::<P>());
     let leaf = wots_pk_from_sig::<P, L>(chains, m, keyed, &adrs.at_key_pair(idx), steps);
     root_from_auth_path::<P, HashTree, L>(&leaf, idx, height, path, keyed, &adrs.tree_adrs(), steps)
@@ -223,22 +223,22 @@ fn sign_in_row<P: XmssParams, L: Ledger>(
     out: &mut [u8],
     steps: &mut Steps<L>,
 ) -> NBytes<P::N>
-    requires eights { 3 ≤ P.HPrime.USIZE }
-    requires low { P.HPrime.USIZE ≤ ROW_HEIGHT }
-    requires idx { idx < 2 ^ P.HPrime.USIZE }
-    requires room { length out.old ≡ (P.WotsSigLen.USIZE + P.HPrime.USIZE) * P.N.USIZE }
+    requires eights { 3 ≤ P.H_PRIME }
+    requires low { P.H_PRIME ≤ ROW_HEIGHT }
+    requires idx { idx < 2 ^ P.H_PRIME }
+    requires room { length out.old ≡ (P.WOTS_SIG_LEN + P.H_PRIME) * P.N.USIZE }
     ensures root { let K = P.keyed_suite keyed.now in
         let a = adrs.now in
-        result ≡ spec_xmss_node K sk_seed.now a.layer_adrs a.tree_adrs_low P.HPrime.USIZE 0 }
+        result ≡ spec_xmss_node K sk_seed.now a.layer_adrs a.tree_adrs_low P.H_PRIME 0 }
     ensures value { let K = P.keyed_suite keyed.now in
         let a = adrs.now in
-        let hp = P.HPrime.USIZE in
+        let hp = P.H_PRIME in
         out.new ≡ xmss_sig K sk_seed.now a.layer_adrs a.tree_adrs_low idx m.now hp }
-    ensures cost { steps.new ≡ steps.old + xmss_node_cost P.WotsSigLen.USIZE P.HPrime.USIZE }
+    ensures cost { steps.new ≡ steps.old + xmss_node_cost P.WOTS_SIG_LEN P.H_PRIME }
 {
     tree_sizes::<P>();
-    let height = P::HPrime::USIZE;
-    let len = P::WotsSigLen::USIZE;
+    let height = P::H_PRIME;
+    let len = P::WOTS_SIG_LEN;
     let (chains, path) = out.split_at_mut(ends_len::<P>());
     let all = message_digits(m);
     let digits = &all[..len];
@@ -274,19 +274,19 @@ pub fn xmss_sign_root<P: XmssParams, L: Ledger>(
     out: &mut [u8],
     steps: &mut Steps<L>,
 ) -> NBytes<P::N>
-    requires idx { idx < 2 ^ P.HPrime.USIZE }
-    requires room { length out.old ≡ (P.WotsSigLen.USIZE + P.HPrime.USIZE) * P.N.USIZE }
+    requires idx { idx < 2 ^ P.H_PRIME }
+    requires room { length out.old ≡ (P.WOTS_SIG_LEN + P.H_PRIME) * P.N.USIZE }
     ensures root { let K = P.keyed_suite keyed.now in
         let a = adrs.now in
-        result ≡ spec_xmss_node K sk_seed.now a.layer_adrs a.tree_adrs_low P.HPrime.USIZE 0 }
+        result ≡ spec_xmss_node K sk_seed.now a.layer_adrs a.tree_adrs_low P.H_PRIME 0 }
     ensures value { let K = P.keyed_suite keyed.now in
         let a = adrs.now in
-        let hp = P.HPrime.USIZE in
+        let hp = P.H_PRIME in
         out.new ≡ xmss_sig K sk_seed.now a.layer_adrs a.tree_adrs_low idx m.now hp }
-    ensures cost { steps.new ≡ steps.old + xmss_node_cost P.WotsSigLen.USIZE P.HPrime.USIZE }
+    ensures cost { steps.new ≡ steps.old + xmss_node_cost P.WOTS_SIG_LEN P.H_PRIME }
 {
     tree_sizes::<P>();
-    let height = P::HPrime::USIZE;
+    let height = P::H_PRIME;
     if 3 <= height && height <= ROW_HEIGHT as usize {
         return sign_in_row::<P, L>(m, sk_seed, keyed, idx, adrs, out, steps);
     }

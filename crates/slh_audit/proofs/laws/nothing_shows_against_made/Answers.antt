@@ -7,12 +7,12 @@ use Rattle.slh_audit.proofs.laws.nothing_shows_against_made.Goals as goal
 
 pub returns : goal.returns
 returns g c =
-    let Z = scheme_of g.P.HashSuite.suite g.P.N.ArraySize.USIZE g.P.HPrime.ArraySize.USIZE g.P.D.ArraySize.USIZE g.P.A.ArraySize.USIZE g.P.K.ArraySize.USIZE in
+    let Z = scheme_of g.P.HashSuite.suite g.P.N.ArraySize.USIZE g.P.XmssParams.H_PRIME g.P.HypertreeParams.D g.P.ForsParams.A g.P.ForsParams.K in
     let wots = g.met.P.WotsParams.valid_wots in
     let law = g.met.P.HashSuite.lengths wots.n_high in
     let bytes = g.met.P.HashSuite.value_bytes in
     let layers = g.met.P.HypertreeParams.valid_hypertree.layers in
-    let low = g.met.P.XmssParams.valid_xmss.height_low in
+    let low = g.P.XmssParams.valid_xmss.height_low in
     rw g.met.P.ForsParams.scheme_is
     (λ key message sig e size made.
     let s = part Z.n key 2 in

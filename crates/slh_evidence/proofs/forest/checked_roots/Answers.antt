@@ -3,6 +3,6 @@ use Rattle.slh_evidence.proofs.forest.checked_roots.Goals as goal
 
 pub returns : goal.returns
 returns g c =
-    let count : length c.base_2b.new.out ≡ g.P.K.ArraySize.USIZE = search rules in
-    let made = rw (c.USIZE-2.ensures, ← c.base_2b.auto.out, count) at c.base_2b.ensures.value in
+    let count : length c.base_2b.new.out ≡ g.P.ForsParams.K = search rules in
+    let made = rw (c.A.ensures, ← c.base_2b.auto.out, count) at c.base_2b.ensures.value in
     rw (c.climb_all.ensures.value, made) refl

@@ -3,4 +3,4 @@ use Rattle.slh_evidence.proofs.forest.opened_parts.Goals as goal
 
 pub piece-requires : goal.piece-requires
 piece-requires g c =
-    part_fits c.args.tree g.P.K.ArraySize.USIZE c.opened_len.result _ c.requires.tree (rw c.opened_len.ensures.value c.requires.whole)
+    part_fits c.args.tree g.P.ForsParams.K c.opened_len.result _ c.requires.tree (rw c.opened_len.ensures.value c.requires.whole)

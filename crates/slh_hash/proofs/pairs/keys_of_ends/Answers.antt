@@ -1,4 +1,5 @@
 use Rattle.std.proofs.Common.{◌≡◌, ◌+◌, ◌∙◌, ℕ, List, ap, arith}
+use Rattle.std.proofs.lemmas.Nat.{mul-le}
 use Rattle.sha256_lanes.specs.Sha256.{sha256}
 use Rattle.slh_core.proofs.Joins.{joined_same}
 use Rattle.slh_hash.specs.Sha2.{seed_block, tweaked_hash_256}
@@ -20,3 +21,15 @@ returns-clause-keys g c =
     (λ k low. rw c.USIZE-n.ensures at (c.finalize_rows-digests.ensures block k keyed.begins low))
     c.put_hashes.ensures.value
     ∙ joined_same (λ k. key (0 + k)) key 8 (λ k low. ap key (none k))
+
+pub overflow_mul-len : goal.overflow_mul-len
+overflow_mul-len g c = omega (arith, mul-le c.args.count c.USIZE-n.result 67 32 (omega (arith, c.requires.few)) (omega (arith, c.USIZE-n.ensures, c.requires.small)))
+
+pub overflow_add-len : goal.overflow_add-len
+overflow_add-len g c = omega (arith, mul-le c.args.count c.USIZE-n.result 67 32 (omega (arith, c.requires.few)) (omega (arith, c.USIZE-n.ensures, c.requires.small)))
+
+pub overflow_mul-store : goal.overflow_mul-store
+overflow_mul-store g c = omega (arith, mul-le c.args.count c.USIZE-n.result 67 32 (omega (arith, c.requires.few)) (omega (arith, c.USIZE-n.ensures, c.requires.small)))
+
+pub slice_bounds-store-end : goal.slice_bounds-store-end
+slice_bounds-store-end g c = omega (arith, mul-le c.args.count c.USIZE-n.result 67 32 (omega (arith, c.requires.few)) (omega (arith, c.USIZE-n.ensures, c.requires.small)))

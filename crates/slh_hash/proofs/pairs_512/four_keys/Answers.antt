@@ -1,3 +1,5 @@
+use Rattle.std.proofs.Common.{arith}
+use Rattle.std.proofs.lemmas.Nat.{mul-le}
 use Rattle.sha2.specs.Sha512.{sha512}
 use Rattle.slh_hash.specs.Sha2.{seed_block, tweaked_hash_512}
 use Rattle.slh_hash.proofs.KeyMessages.{keys_hashed}
@@ -14,3 +16,15 @@ returns-clause-keys g c =
     c.requires.whole c.requires.lanes (rw c.USIZE-n.ensures at c.put_messages.ensures)
     (λ k low. rw c.USIZE-n.ensures at (c.finalize_rows-digests.ensures block k keyed.begins low))
     c.put_hashes.ensures.value
+
+pub overflow_mul-len : goal.overflow_mul-len
+overflow_mul-len g c = omega (arith, mul-le c.args.count c.USIZE-n.result 67 32 (omega (arith, c.requires.few)) (omega (arith, c.USIZE-n.ensures, c.requires.small)))
+
+pub overflow_add-len : goal.overflow_add-len
+overflow_add-len g c = omega (arith, mul-le c.args.count c.USIZE-n.result 67 32 (omega (arith, c.requires.few)) (omega (arith, c.USIZE-n.ensures, c.requires.small)))
+
+pub overflow_mul-store : goal.overflow_mul-store
+overflow_mul-store g c = omega (arith, mul-le c.args.count c.USIZE-n.result 67 32 (omega (arith, c.requires.few)) (omega (arith, c.USIZE-n.ensures, c.requires.small)))
+
+pub slice_bounds-store-end : goal.slice_bounds-store-end
+slice_bounds-store-end g c = omega (arith, mul-le c.args.count c.USIZE-n.result 67 32 (omega (arith, c.requires.few)) (omega (arith, c.USIZE-n.ensures, c.requires.small)))

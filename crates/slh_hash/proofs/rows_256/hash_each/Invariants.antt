@@ -8,8 +8,8 @@ abbrev pub invariant-loop-done : goal.invariant-loop-done
 invariant-loop-done g l =
     let n = g.N.ArraySize.USIZE in
     record {
-      hashes : take (l.done * l.n) l.values ≡ joined (λ i. tweaked_hash_256 n l.keyed.pk_seed (g.A.RowAddress.numbered l.adrs (slice_index l.numbers i)) (part n l.initial.values i)) l.done;
-      rest : drop (l.done * l.n) l.values ≡ drop (l.done * l.n) l.initial.values;
+      hashes : take (l.done * n) l.values ≡ joined (λ i. tweaked_hash_256 n l.keyed.pk_seed (g.A.RowAddress.numbered l.adrs (slice_index l.numbers i)) (part n l.initial.values i)) l.done;
+      rest : drop (l.done * n) l.values ≡ drop (l.done * n) l.initial.values;
       within : l.done ≤ length l.numbers;
       cost : l.steps ≡ l.initial.steps + l.done;
     }

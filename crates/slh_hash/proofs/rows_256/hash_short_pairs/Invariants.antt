@@ -8,7 +8,7 @@ abbrev pub invariant-loop-done : goal.invariant-loop-done
 invariant-loop-done g l =
     let n = g.N.ArraySize.USIZE in
     record {
-      hashes : take (l.done * l.n) l.out ≡ joined (λ i. tweaked_hash_256 n l.keyed.pk_seed (g.A.RowAddress.numbered l.adrs (slice_index l.numbers i)) (part (2 * n) l.pairs i)) l.done;
+      hashes : take (l.done * n) l.out ≡ joined (λ i. tweaked_hash_256 n l.keyed.pk_seed (g.A.RowAddress.numbered l.adrs (slice_index l.numbers i)) (part (2 * n) l.pairs i)) l.done;
       within : l.done ≤ length l.numbers;
       cost : l.steps ≡ l.initial.steps + l.done;
     }

@@ -5,4 +5,4 @@ pub returns : goal.returns
 returns g c =
     let hypertree = g.met.P.HypertreeParams.valid_hypertree in
     rw g.met.P.ForsParams.scheme_is
-    (size_in_values g.P.N.ArraySize.USIZE g.P.K.ArraySize.USIZE g.P.A.ArraySize.USIZE g.P.HPrime.ArraySize.USIZE g.P.D.ArraySize.USIZE g.P.WotsSigLen.ArraySize.USIZE g.P.H.ArraySize.USIZE g.met.P.WotsParams.valid_wots.signature_len hypertree.height)
+    (size_in_values g.P.N.ArraySize.USIZE g.P.ForsParams.K g.P.ForsParams.A g.P.XmssParams.H_PRIME g.P.HypertreeParams.D g.P.WotsParams.WOTS_SIG_LEN g.P.HypertreeParams.H g.met.P.WotsParams.valid_wots.signature_len hypertree.height)

@@ -7,7 +7,7 @@ use Rattle.slh_manifest.proofs.laws.sealed_is_accepted.Goals as goal
 
 pub returns : goal.returns
 returns g c = λ key opt_rand entries files.
-    let Z = scheme_of g.P.HashSuite.suite g.P.N.ArraySize.USIZE g.P.HPrime.ArraySize.USIZE g.P.D.ArraySize.USIZE g.P.A.ArraySize.USIZE g.P.K.ArraySize.USIZE in
+    let Z = scheme_of g.P.HashSuite.suite g.P.N.ArraySize.USIZE g.P.XmssParams.H_PRIME g.P.HypertreeParams.D g.P.ForsParams.A g.P.ForsParams.K in
     let law = g.met.P.HashSuite.lengths g.met.P.WotsParams.valid_wots.n_high in
     let sized : SignatureHasSize Z = λ k r m. signature_len Z k r m law in
     accepted g.P.ForsParams.scheme g.P.N.ArraySize.USIZE key opt_rand entries files

@@ -6,4 +6,4 @@ use Rattle.slh_trees.proofs.climb_rows.leaf_indices.Given as goal
 abbrev pub invariant-loop-i : goal.invariant-loop-i
 invariant-loop-i g l =
     (length l.indices ≡ length l.initial.indices)
-    × ((k : ℕ) → k < l.i → slice_index l.indices k ≡ leaf_index g.P.A.ArraySize.USIZE l.digits k)
+    × ((k : ℕ) → k < l.i → slice_index l.indices k ≡ leaf_index g.P.ForsParams.A l.digits k)

@@ -6,7 +6,7 @@ use Rattle.slh_trees.proofs.climb_rows.opened_secrets.Goals as goal
 
 pub piece-opened-requires : goal.piece-opened-requires
 piece-opened-requires g c =
-    part_fits c.loop-i.i g.P.K.ArraySize.USIZE c.opened_len-size.result _ (omega arith) (rw c.opened_len-size.ensures.value c.requires.whole)
+    part_fits c.loop-i.i g.P.ForsParams.K c.opened_len-size.result _ (omega arith) (rw c.opened_len-size.ensures.value c.requires.whole)
 
 pub slice_bounds-put_part-end : goal.slice_bounds-put_part-end
 slice_bounds-put_part-end g c =
@@ -17,7 +17,7 @@ slice_bounds-put_part-end g c =
 
 pub put_part-requires-clause-fits : goal.put_part-requires-clause-fits
 put_part-requires-clause-fits g c =
-    part_fits c.loop-i.i g.P.K.ArraySize.USIZE c.USIZE-n.result _ (omega arith) (rw c.USIZE-n.ensures (omega (arith, c.requires.room)))
+    part_fits c.loop-i.i g.P.ForsParams.K c.USIZE-n.result _ (omega arith) (rw c.USIZE-n.ensures (omega (arith, c.requires.room)))
 
 pub loop-i-preserved : goal.loop-i-preserved
 loop-i-preserved g c =
@@ -26,7 +26,7 @@ loop-i-preserved g c =
     let opened = c.piece-opened.result.now in
     let room : n ≤ length opened = rw (c.piece-opened.ensures.len, c.opened_len-size.ensures.value, c.USIZE-n.ensures) (omega arith) in
     let size : length (take n opened) ≡ n = length-take-le n opened room in
-    let fits : (i + 1) * n ≤ length c.put_part.new.out = part_fits i g.P.K.ArraySize.USIZE n _ (omega arith) (rw c.USIZE-n.ensures (omega arith)) in
+    let fits : (i + 1) * n ≤ length c.put_part.new.out = part_fits i g.P.ForsParams.K n _ (omega arith) (rw c.USIZE-n.ensures (omega arith)) in
     let inside : i * n ≤ length c.loop-i.out = omega arith in
     below_more _ _
     (λ k low. part_before n i k _ _ _ c.put_part.ensures.front low fits inside ∙ c.loop-i.invariant k low)

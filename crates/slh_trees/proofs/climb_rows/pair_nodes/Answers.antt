@@ -4,11 +4,11 @@ use Rattle.slh_trees.proofs.climb_rows.pair_nodes.Goals as goal
 
 pub part_of-node-requires-clause-fits : goal.part_of-node-requires-clause-fits
 part_of-node-requires-clause-fits g c =
-    part_fits c.loop-i.i g.P.K.ArraySize.USIZE g.P.N.ArraySize.USIZE _ (omega arith) c.requires.nodes
+    part_fits c.loop-i.i g.P.ForsParams.K g.P.N.ArraySize.USIZE _ (omega arith) c.requires.nodes
 
 pub put_in_order-requires-clause-fits : goal.put_in_order-requires-clause-fits
 put_in_order-requires-clause-fits g c =
-    part_fits c.loop-i.i g.P.K.ArraySize.USIZE (2 * g.P.N.ArraySize.USIZE) _ (omega arith) (omega (arith, c.requires.room))
+    part_fits c.loop-i.i g.P.ForsParams.K (2 * g.P.N.ArraySize.USIZE) _ (omega arith) (omega (arith, c.requires.room))
 
 pub loop-i-preserved : goal.loop-i-preserved
 loop-i-preserved g c =

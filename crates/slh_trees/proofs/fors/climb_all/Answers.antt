@@ -13,7 +13,7 @@ unfolding checked_fors_node climb
 loop-z-init g c =
     let K = g.P.HashSuite.keyed_suite c.args.keyed.now in
     let size : K.n ≡ g.P.N.ArraySize.USIZE = ap (λ k. k.n) (g.met.P.HashSuite.keyed_suite_is c.args.keyed.now) in
-    let trees = g.P.K.ArraySize.USIZE in
+    let trees = g.P.ForsParams.K in
     let count : length c.leaf_indices.new.indices ≡ trees = search rules in
     record {
       indices = λ i low. let leaf = c.leaf_indices.ensures i low in omega (arith, leaf);
@@ -29,13 +29,13 @@ loop-z-preserved g c =
     let n = g.P.N.ArraySize.USIZE in
     let size : K.n ≡ n = ap (λ k. k.n) same in
     let law : HasLength K.suite K.n = rw same (g.met.P.HashSuite.lengths c.forest_sizes.ensures.n_high) in
-    let a = g.P.A.ArraySize.USIZE in
+    let a = g.P.ForsParams.A in
     let t = c.args.adrs.now.tree_adrs_low in
     let l = c.args.adrs.now.key_pair_adrs in
     let sig = c.args.sig.now in
     let x = c.args.digits.now in
     let z = c.loop-z.z in
-    let trees = g.P.K.ArraySize.USIZE in
+    let trees = g.P.ForsParams.K in
     let below = c.loop-z.invariant in
     let node : ℕ → List ℕ = λ i. checked_fors_node K t l a sig x i z in
     let sizes : (i : ℕ) → length (node i) ≡ n = λ i. length-checked_fors_node K t l a sig x i z law ∙ size in

@@ -8,8 +8,8 @@ use Rattle.slh_trees.proofs.fors.climb_all.Given as goal
 abbrev pub invariant-loop-z : goal.invariant-loop-z
 invariant-loop-z g l =
     let K = g.P.HashSuite.keyed_suite l.keyed in
-    let trees = g.P.K.ArraySize.USIZE in
-    let a = g.P.A.ArraySize.USIZE in
+    let trees = g.P.ForsParams.K in
+    let a = g.P.ForsParams.A in
     record {
       indices : (i : ℕ) → i < trees → slice_index l.indices i ≡ leaf_index a l.digits i / 2 ^ l.z;
       values : l.out ≡ joined (λ i. checked_fors_node K l.adrs.tree_adrs_low l.adrs.key_pair_adrs a l.sig l.digits i l.z) trees;

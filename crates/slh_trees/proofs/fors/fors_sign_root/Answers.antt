@@ -4,4 +4,4 @@ use Rattle.slh_trees.proofs.fors.fors_sign_root.Goals as goal
 
 pub returns-clause-cost : goal.returns-clause-cost
 returns-clause-cost g c =
-    omega (arith, fors_pk_cost-signed g.P.K.ArraySize.USIZE g.P.A.ArraySize.USIZE, c.fors_sign.ensures.cost, c.fors_pk_from_sig.ensures.cost)
+    omega (arith, fors_pk_cost-signed g.P.ForsParams.K g.P.ForsParams.A, c.fors_sign.ensures.cost, c.fors_pk_from_sig.ensures.cost)

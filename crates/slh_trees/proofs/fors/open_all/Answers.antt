@@ -31,36 +31,36 @@ loop-i-init g c = record {
 
 pub slice_bounds-opened-end : goal.slice_bounds-opened-end
 slice_bounds-opened-end g c =
-    let whole : length c.args.out.now ≡ g.P.K.ArraySize.USIZE * c.opened_len-size.result = rw c.opened_len-size.ensures.value c.requires.room in
-    part_fits c.loop-i.i g.P.K.ArraySize.USIZE c.opened_len-size.result _ (omega arith) (omega (arith, whole))
+    let whole : length c.args.out.now ≡ g.P.ForsParams.K * c.opened_len-size.result = rw c.opened_len-size.ensures.value c.requires.room in
+    part_fits c.loop-i.i g.P.ForsParams.K c.opened_len-size.result _ (omega arith) (omega (arith, whole))
 
 pub open_secret-requires-clause-room : goal.open_secret-requires-clause-room
 open_secret-requires-clause-room g c =
     let size = c.opened_len-size.result in
-    let whole : length c.args.out.now ≡ g.P.K.ArraySize.USIZE * size = rw c.opened_len-size.ensures.value c.requires.room in
-    let fits = part_fits c.loop-i.i g.P.K.ArraySize.USIZE size _ (omega arith) whole in
+    let whole : length c.args.out.now ≡ g.P.ForsParams.K * size = rw c.opened_len-size.ensures.value c.requires.room in
+    let fits = part_fits c.loop-i.i g.P.ForsParams.K size _ (omega arith) whole in
     rw (← c.opened_len-size.ensures.value) (omega (arith, fits, length-take {A = ℕ}, length-drop {A = ℕ}))
 
 pub loop-i-preserved : goal.loop-i-preserved
 unfolding fors_opened
 loop-i-preserved g c =
     let K = g.P.HashSuite.keyed_suite c.args.keyed.now in
-    let opened = fors_opened K c.args.sk_seed.now c.args.adrs.now.tree_adrs_low c.args.adrs.now.key_pair_adrs g.P.A.ArraySize.USIZE c.args.digits.now in
+    let opened = fors_opened K c.args.sk_seed.now c.args.adrs.now.tree_adrs_low c.args.adrs.now.key_pair_adrs g.P.ForsParams.A c.args.digits.now in
     let i = c.loop-i.invariant in
     let size = c.opened_len-size.result in
-    let whole : length c.args.out.now ≡ g.P.K.ArraySize.USIZE * size = rw c.opened_len-size.ensures.value c.requires.room in
-    let fits : (c.loop-i.i + 1) * size ≤ length c.args.out.now = part_fits c.loop-i.i g.P.K.ArraySize.USIZE size (length c.args.out.now) (omega arith) whole in
+    let whole : length c.args.out.now ≡ g.P.ForsParams.K * size = rw c.opened_len-size.ensures.value c.requires.room in
+    let fits : (c.loop-i.i + 1) * size ≤ length c.args.out.now = part_fits c.loop-i.i g.P.ForsParams.K size (length c.args.out.now) (omega arith) whole in
     let next : (c.loop-i.i + 1) * size ≡ c.loop-i.i * size + length c.open_secret.new.out = omega arith in
     record {
       values = rw (take-put_mid (c.loop-i.i * size) ((c.loop-i.i + 1) * size - c.loop-i.i * size) c.loop-i.out c.open_secret.new.out ((c.loop-i.i + 1) * size) next (omega arith), i.values, joined_more, c.open_secret.ensures.value, c.index_of-y.ensures.value)
           (refl {a = joined opened c.loop-i.i ++ opened c.loop-i.i});
-      cost = omega (arith, one_more c.loop-i.i (1 + auth_path_cost fors_leaf_cost g.P.A.ArraySize.USIZE), i.cost, c.open_secret.ensures.cost);
+      cost = omega (arith, one_more c.loop-i.i (1 + auth_path_cost fors_leaf_cost g.P.ForsParams.A), i.cost, c.open_secret.ensures.cost);
     }
 
 pub returns-clause-value : goal.returns-clause-value
 unfolding opened_leaves
 returns-clause-value g c =
-    let k = g.P.K.ArraySize.USIZE in
+    let k = g.P.ForsParams.K in
     let size = c.opened_len-size.result in
     let last : c.loop-i.i ≡ k = omega arith in
     let whole : length c.loop-i.out ≡ k * size = rw c.opened_len-size.ensures.value (omega (arith, c.requires.room)) in

@@ -8,7 +8,7 @@ use Rattle.slh_trees.proofs.fors.open_all.Given as goal
 abbrev pub invariant-loop-i : goal.invariant-loop-i
 invariant-loop-i g l =
     let K = g.P.HashSuite.keyed_suite l.keyed in
-    let a = g.P.A.ArraySize.USIZE in
+    let a = g.P.ForsParams.A in
     record {
       values : take (l.i * l.size) l.out
           ≡ joined (fors_opened K l.sk_seed l.adrs.tree_adrs_low l.adrs.key_pair_adrs a l.digits) l.i;

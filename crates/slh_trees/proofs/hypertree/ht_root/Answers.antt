@@ -19,7 +19,7 @@ loop-j-init g c =
 
 pub piece-layer-requires : goal.piece-layer-requires
 piece-layer-requires g c =
-    part_fits c.loop-j.j g.P.D.ArraySize.USIZE c.layer_len-size.result _ (omega arith) (rw c.layer_len-size.ensures.value c.requires.whole)
+    part_fits c.loop-j.j g.P.HypertreeParams.D c.layer_len-size.result _ (omega arith) (rw c.layer_len-size.ensures.value c.requires.whole)
 
 pub xmss_pk_from_sig-message-requires-clause-whole : goal.xmss_pk_from_sig-message-requires-clause-whole
 xmss_pk_from_sig-message-requires-clause-whole g c =
@@ -28,14 +28,14 @@ xmss_pk_from_sig-message-requires-clause-whole g c =
 pub loop-j-preserved : goal.loop-j-preserved
 loop-j-preserved g c =
     let K = g.P.HashSuite.keyed_suite c.args.keyed.now in
-    let hp = g.P.HPrime.ArraySize.USIZE in
+    let hp = g.P.XmssParams.H_PRIME in
     let size : K.n ≡ g.P.N.ArraySize.USIZE = ap (λ k. k.n) (g.met.P.HashSuite.keyed_suite_is c.args.keyed.now) in
     let i = c.loop-j.invariant in
     record {
-      tree = rw (c.next_place.ensures.tree, c.USIZE-height.ensures, i.tree) (tree_at-more _ _ _);
-      leaf = rw (c.next_place.ensures.leaf, c.USIZE-height.ensures, i.tree) (leaf_at-more hp c.args.idx_tree c.args.idx_leaf c.loop-j.j);
-      below = rw (← c.USIZE-height.ensures) c.next_place.ensures.below;
+      tree = rw (c.next_place.ensures.tree, c.H_PRIME-height.ensures, i.tree) (tree_at-more _ _ _);
+      leaf = rw (c.next_place.ensures.leaf, c.H_PRIME-height.ensures, i.tree) (leaf_at-more hp c.args.idx_tree c.args.idx_leaf c.loop-j.j);
+      below = rw (← c.H_PRIME-height.ensures) c.next_place.ensures.below;
       message = rw (c.xmss_pk_from_sig-message.ensures.value, c.piece-layer.ensures.value, c.tree_adrs_of-at.ensures, i.tree, i.leaf, i.message, c.layer_len-size.ensures.value, ← size) (checked_message-more K hp c.args.idx_tree c.args.idx_leaf c.args.sig.now c.args.m.now c.loop-j.j);
-      cost = omega (arith, one_more c.loop-j.j (xmss_pk_from_sig_bound g.P.WotsSigLen.ArraySize.USIZE hp), i.cost, c.xmss_pk_from_sig-message.ensures.bound);
+      cost = omega (arith, one_more c.loop-j.j (xmss_pk_from_sig_bound g.P.WotsParams.WOTS_SIG_LEN hp), i.cost, c.xmss_pk_from_sig-message.ensures.bound);
       rises = omega (arith, i.rises, c.xmss_pk_from_sig-message.ensures.cost);
     }

@@ -38,40 +38,40 @@ overflow_mul-layer-in-loop-j g c =
 
 pub slice_bounds-layer-end : goal.slice_bounds-layer-end
 slice_bounds-layer-end g c =
-    let whole : length c.args.out.now ≡ g.P.D.ArraySize.USIZE * c.layer_len-size.result = rw c.layer_len-size.ensures.value c.requires.room in
-    part_fits c.loop-j.j g.P.D.ArraySize.USIZE c.layer_len-size.result _ (omega arith) (omega (arith, whole))
+    let whole : length c.args.out.now ≡ g.P.HypertreeParams.D * c.layer_len-size.result = rw c.layer_len-size.ensures.value c.requires.room in
+    part_fits c.loop-j.j g.P.HypertreeParams.D c.layer_len-size.result _ (omega arith) (omega (arith, whole))
 
 pub xmss_sign_root-message-requires-clause-room : goal.xmss_sign_root-message-requires-clause-room
 xmss_sign_root-message-requires-clause-room g c =
     let size = c.layer_len-size.result in
-    let whole : length c.args.out.now ≡ g.P.D.ArraySize.USIZE * size = rw c.layer_len-size.ensures.value c.requires.room in
-    let fits = part_fits c.loop-j.j g.P.D.ArraySize.USIZE size _ (omega arith) whole in
-    let each : size ≡ (g.P.WotsSigLen.ArraySize.USIZE + g.P.HPrime.ArraySize.USIZE) * g.P.N.ArraySize.USIZE = rw (c.layer_len-size.ensures.value, c.layer_sizes.ensures.signature_len) refl in
+    let whole : length c.args.out.now ≡ g.P.HypertreeParams.D * size = rw c.layer_len-size.ensures.value c.requires.room in
+    let fits = part_fits c.loop-j.j g.P.HypertreeParams.D size _ (omega arith) whole in
+    let each : size ≡ (g.P.WotsParams.WOTS_SIG_LEN + g.P.XmssParams.H_PRIME) * g.P.N.ArraySize.USIZE = rw (c.layer_len-size.ensures.value, c.layer_sizes.ensures.signature_len) refl in
     rw (← each) (omega (arith, fits, length-take {A = ℕ}, length-drop {A = ℕ}))
 
 pub loop-j-preserved : goal.loop-j-preserved
 unfolding layer_signature
 loop-j-preserved g c =
     let K = g.P.HashSuite.keyed_suite c.args.keyed.now in
-    let hp = g.P.HPrime.ArraySize.USIZE in
+    let hp = g.P.XmssParams.H_PRIME in
     let i = c.loop-j.invariant in
     let size = c.layer_len-size.result in
-    let whole : length c.args.out.now ≡ g.P.D.ArraySize.USIZE * size = rw c.layer_len-size.ensures.value c.requires.room in
-    let fits : (c.loop-j.j + 1) * size ≤ length c.args.out.now = part_fits c.loop-j.j g.P.D.ArraySize.USIZE size (length c.args.out.now) (omega arith) whole in
+    let whole : length c.args.out.now ≡ g.P.HypertreeParams.D * size = rw c.layer_len-size.ensures.value c.requires.room in
+    let fits : (c.loop-j.j + 1) * size ≤ length c.args.out.now = part_fits c.loop-j.j g.P.HypertreeParams.D size (length c.args.out.now) (omega arith) whole in
     let next : (c.loop-j.j + 1) * size ≡ c.loop-j.j * size + length c.xmss_sign_root-message.new.out = omega arith in
     record {
-      tree = rw (c.next_place.ensures.tree, c.USIZE-height.ensures, i.tree) (tree_at-more _ _ _);
-      leaf = rw (c.next_place.ensures.leaf, c.USIZE-height.ensures, i.tree) (leaf_at-more hp c.args.idx_tree c.args.idx_leaf c.loop-j.j);
-      below = rw (← c.USIZE-height.ensures) c.next_place.ensures.below;
+      tree = rw (c.next_place.ensures.tree, c.H_PRIME-height.ensures, i.tree) (tree_at-more _ _ _);
+      leaf = rw (c.next_place.ensures.leaf, c.H_PRIME-height.ensures, i.tree) (leaf_at-more hp c.args.idx_tree c.args.idx_leaf c.loop-j.j);
+      below = rw (← c.H_PRIME-height.ensures) c.next_place.ensures.below;
       message = rw (c.xmss_sign_root-message.ensures.root, c.tree_adrs_of-at.ensures, i.tree) (layer_message-more K hp c.args.sk_seed.now c.args.idx_tree c.args.idx_leaf c.args.m.now c.loop-j.j);
       values = rw (take-put_mid (c.loop-j.j * size) ((c.loop-j.j + 1) * size - c.loop-j.j * size) c.loop-j.out c.xmss_sign_root-message.new.out ((c.loop-j.j + 1) * size) next (omega arith), i.values, joined_more, c.xmss_sign_root-message.ensures.value, c.tree_adrs_of-at.ensures, i.tree, i.leaf, i.message) refl;
-      cost = omega (arith, one_more c.loop-j.j (xmss_node_cost g.P.WotsSigLen.ArraySize.USIZE hp), i.cost, c.xmss_sign_root-message.ensures.cost);
+      cost = omega (arith, one_more c.loop-j.j (xmss_node_cost g.P.WotsParams.WOTS_SIG_LEN hp), i.cost, c.xmss_sign_root-message.ensures.cost);
     }
 
 pub returns-clause-value : goal.returns-clause-value
 unfolding ht_sig
 returns-clause-value g c =
-    let d = g.P.D.ArraySize.USIZE in
+    let d = g.P.HypertreeParams.D in
     let size = c.layer_len-size.result in
     let last : c.loop-j.j ≡ d = omega arith in
     let whole : length c.loop-j.out ≡ d * size = rw c.layer_len-size.ensures.value (omega (arith, c.requires.room)) in

@@ -8,12 +8,12 @@ use Rattle.slh_trees.proofs.hypertree.ht_sign.Given as goal
 abbrev pub invariant-loop-j : goal.invariant-loop-j
 invariant-loop-j g l =
     let K = g.P.HashSuite.keyed_suite l.keyed in
-    let hp = g.P.HPrime.ArraySize.USIZE in
+    let hp = g.P.XmssParams.H_PRIME in
     record {
       tree : l.tree ≡ tree_at hp l.idx_tree l.j;
       leaf : l.leaf ≡ leaf_at hp l.idx_tree l.idx_leaf l.j;
       below : l.leaf < 2 ^ hp;
       message : l.message ≡ layer_message K hp l.sk_seed l.idx_tree l.idx_leaf l.fn.m l.j;
       values : take (l.j * l.size) l.out ≡ joined (layer_signature K hp l.sk_seed l.idx_tree l.idx_leaf l.fn.m) l.j;
-      cost : l.steps ≡ l.initial.steps + ht_sign_cost g.P.WotsSigLen.ArraySize.USIZE hp l.j;
+      cost : l.steps ≡ l.initial.steps + ht_sign_cost g.P.WotsParams.WOTS_SIG_LEN hp l.j;
     }

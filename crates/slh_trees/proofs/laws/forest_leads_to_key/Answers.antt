@@ -6,4 +6,4 @@ pub returns : goal.returns
 returns g c = λ s sk md t l.
     let K = seeded g.P.HashSuite.suite g.P.N.ArraySize.USIZE s in
     let law = g.met.P.HashSuite.lengths g.met.P.WotsParams.valid_wots.n_high in
-    fors_pk_from_sig-signature K sk t l g.P.K.ArraySize.USIZE g.P.A.ArraySize.USIZE md law
+    fors_pk_from_sig-signature K sk t l g.P.ForsParams.K g.P.ForsParams.A md law

@@ -6,4 +6,4 @@ pub returns-clause-below : goal.returns-clause-below
 returns-clause-below g c = λ s sk m t l d j small inside.
     let K = seeded g.P.HashSuite.suite g.P.N.ArraySize.USIZE s in
     let law = g.met.P.HashSuite.lengths g.met.P.WotsParams.valid_wots.n_high in
-    checked_message-signature K g.P.HPrime.ArraySize.USIZE sk t l m d j law small inside
+    checked_message-signature K g.P.XmssParams.H_PRIME sk t l m d j law small inside

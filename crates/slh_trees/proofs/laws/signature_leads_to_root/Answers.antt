@@ -6,4 +6,4 @@ pub returns : goal.returns
 returns g c = λ s sk m j t y below.
     let K = seeded g.P.HashSuite.suite g.P.N.ArraySize.USIZE s in
     let law = g.met.P.HashSuite.lengths g.met.P.WotsParams.valid_wots.n_high in
-    checked_node-xmss_sig K sk g.P.HPrime.ArraySize.USIZE j t y m law below
+    checked_node-xmss_sig K sk g.P.XmssParams.H_PRIME j t y m law below

@@ -72,7 +72,7 @@ loop-g-preserved g c =
             rw (signed same, i.before (omega (arith, same)), place) at made)
         | inr other ↦ kept other ∙ i.after (omega (arith, met, other))
       ];
-      cost = c.pairs_eight.ensures.cost ∙ rw (i.cost, long, c.requires.count) (eight_more c.args.steps.now at (wots_pk_cost g.P.WotsSigLen.ArraySize.USIZE));
+      cost = c.pairs_eight.ensures.cost ∙ rw (i.cost, long, c.requires.count) (eight_more c.args.steps.now at (wots_pk_cost g.P.WotsParams.WOTS_SIG_LEN));
     }
 
 pub returns-clause-leaves : goal.returns-clause-leaves

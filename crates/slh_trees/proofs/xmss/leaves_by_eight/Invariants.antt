@@ -14,5 +14,5 @@ invariant-loop-g g l =
       before : 8 * l.g ≤ l.signer → l.sig ≡ l.fn.sig;
       after : l.signer < 8 * l.g
           → l.sig ≡ joined (value_or K l.sk_seed l.adrs.layer_adrs l.adrs.tree_adrs_low (l.first + l.signer) l.fn.sig l.digits) (length l.digits);
-      cost : l.steps ≡ l.initial.steps + 8 * l.g * wots_pk_cost g.P.WotsSigLen.ArraySize.USIZE;
+      cost : l.steps ≡ l.initial.steps + 8 * l.g * wots_pk_cost g.P.WotsParams.WOTS_SIG_LEN;
     }

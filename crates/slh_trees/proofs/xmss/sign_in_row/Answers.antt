@@ -34,7 +34,7 @@ pub leaves_by_eight-requires-clause-room : goal.leaves_by_eight-requires-clause-
 leaves_by_eight-requires-clause-room g c =
     let n = g.P.N.ArraySize.USIZE in
     let count = c.row_len-count.result in
-    let room = room_in_eights c.USIZE-height.result count n (omega (arith, c.requires.eights, c.USIZE-height.ensures)) c.row_len-count.ensures.value in
+    let room = room_in_eights c.H_PRIME-height.result count n (omega (arith, c.requires.eights, c.H_PRIME-height.ensures)) c.row_len-count.ensures.value in
     let fits : count * n ≤ 64 * 32 = mul-le count n 64 32 (omega (arith, c.row_len-count.ensures.few)) (omega (arith, c.tree_sizes.ensures.n_high)) in
     rw c.row_size.ensures.value (omega (arith, room, fits, length-take {A = ℕ}, length-replicate {A = ℕ}))
 
@@ -49,7 +49,7 @@ hash_up_and_path-requires-clause-room g c =
 pub hash_up_and_path-requires-clause-path_room : goal.hash_up_and_path-requires-clause-path_room
 hash_up_and_path-requires-clause-path_room g c =
     let back = rw c.ends_len.ensures.value at c.split_at_mut-chains.ensures.back_len in
-    rw c.USIZE-height.ensures (omega (arith, back, c.requires.room))
+    rw c.H_PRIME-height.ensures (omega (arith, back, c.requires.room))
 
 pub returns-clause-root : goal.returns-clause-root
 returns-clause-root g c =
@@ -63,10 +63,10 @@ returns-clause-root g c =
     let t = c.args.adrs.now.tree_adrs_low in
     let leaf = wots_pk K sk j t in
     let count = c.row_len-count.result in
-    let all = all_eights c.USIZE-height.result count (omega (arith, c.requires.eights, c.USIZE-height.ensures)) c.row_len-count.ensures.value in
+    let all = all_eights c.H_PRIME-height.result count (omega (arith, c.requires.eights, c.H_PRIME-height.ensures)) c.row_len-count.ensures.value in
     let made = rw (c.tree_adrs-place.ensures, all) at c.leaves_by_eight.ensures.leaves in
-    let given = leaves_given leaf n count c.USIZE-height.result c.leaves_by_eight.new.out made c.row_len-count.ensures.value (λ q. length-wots_pk K sk j t q law ∙ size) in
-    c.part_of.ensures ∙ rw (c.USIZE-height.ensures, c.tree_adrs-place.ensures) at (c.hash_up_and_path.ensures.root leaf given)
+    let given = leaves_given leaf n count c.H_PRIME-height.result c.leaves_by_eight.new.out made c.row_len-count.ensures.value (λ q. length-wots_pk K sk j t q law ∙ size) in
+    c.part_of.ensures ∙ rw (c.H_PRIME-height.ensures, c.tree_adrs-place.ensures) at (c.hash_up_and_path.ensures.root leaf given)
 
 pub returns-clause-value : goal.returns-clause-value
 returns-clause-value g c =
@@ -81,21 +81,21 @@ returns-clause-value g c =
     let y = c.args.idx in
     let leaf = wots_pk K sk j t in
     let count = c.row_len-count.result in
-    let all = all_eights c.USIZE-height.result count (omega (arith, c.requires.eights, c.USIZE-height.ensures)) c.row_len-count.ensures.value in
+    let all = all_eights c.H_PRIME-height.result count (omega (arith, c.requires.eights, c.H_PRIME-height.ensures)) c.row_len-count.ensures.value in
     let made = rw (c.tree_adrs-place.ensures, all) at c.leaves_by_eight.ensures.leaves in
-    let given = leaves_given leaf n count c.USIZE-height.result c.leaves_by_eight.new.out made c.row_len-count.ensures.value (λ q. length-wots_pk K sk j t q law ∙ size) in
+    let given = leaves_given leaf n count c.H_PRIME-height.result c.leaves_by_eight.new.out made c.row_len-count.ensures.value (λ q. length-wots_pk K sk j t q law ∙ size) in
     let here : 0 + y ≡ y = omega arith in
-    let inside : y < 8 * (count / 8) = rw (all, c.row_len-count.ensures.value, c.USIZE-height.ensures) c.requires.idx in
-    let written = rw (c.tree_adrs-place.ensures, here, c.USIZE-len.ensures, c.tree_sizes.ensures.signature_len, c.message_digits-all.ensures, ← size) at (c.leaves_by_eight.ensures.values inside) in
+    let inside : y < 8 * (count / 8) = rw (all, c.row_len-count.ensures.value, c.H_PRIME-height.ensures) c.requires.idx in
+    let written = rw (c.tree_adrs-place.ensures, here, c.WOTS_SIG_LEN-len.ensures, c.tree_sizes.ensures.signature_len, c.message_digits-all.ensures, ← size) at (c.leaves_by_eight.ensures.values inside) in
     let signed = written ∙ values_signed K sk j t y c.split_at_mut-chains.result.0.now c.args.m.now in
-    let path = rw (c.USIZE-height.ensures, c.tree_adrs-place.ensures) at (c.hash_up_and_path.ensures.path leaf given) in
+    let path = rw (c.H_PRIME-height.ensures, c.tree_adrs-place.ensures) at (c.hash_up_and_path.ensures.path leaf given) in
     rw (signed, path) refl
 
 pub returns-clause-cost : goal.returns-clause-cost
 returns-clause-cost g c =
-    let h = g.P.HPrime.ArraySize.USIZE in
+    let h = g.P.XmssParams.H_PRIME in
     let count = c.row_len-count.result in
-    let all = all_eights c.USIZE-height.result count (omega (arith, c.requires.eights, c.USIZE-height.ensures)) c.row_len-count.ensures.value in
-    let made = rw (all, c.row_len-count.ensures.value, c.USIZE-height.ensures) at c.leaves_by_eight.ensures.cost in
-    let hashed = rw c.USIZE-height.ensures at c.hash_up_and_path.ensures.cost in
-    node_cost-leaves c.args.steps.now (wots_pk_cost g.P.WotsSigLen.ArraySize.USIZE) h c.leaves_by_eight.new.steps c.hash_up_and_path.new.steps made hashed
+    let all = all_eights c.H_PRIME-height.result count (omega (arith, c.requires.eights, c.H_PRIME-height.ensures)) c.row_len-count.ensures.value in
+    let made = rw (all, c.row_len-count.ensures.value, c.H_PRIME-height.ensures) at c.leaves_by_eight.ensures.cost in
+    let hashed = rw c.H_PRIME-height.ensures at c.hash_up_and_path.ensures.cost in
+    node_cost-leaves c.args.steps.now (wots_pk_cost g.P.WotsParams.WOTS_SIG_LEN) h c.leaves_by_eight.new.steps c.hash_up_and_path.new.steps made hashed

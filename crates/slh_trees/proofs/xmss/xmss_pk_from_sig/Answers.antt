@@ -7,4 +7,4 @@ unfolding checked_node
 returns-clause-value g c =
     let K = g.P.HashSuite.keyed_suite c.args.keyed.now in
     let size : K.n ≡ g.P.N.ArraySize.USIZE = ap (λ k. k.n) (g.met.P.HashSuite.keyed_suite_is c.args.keyed.now) in
-    rw (c.root_from_auth_path.ensures.value, c.wots_pk_from_sig-leaf.ensures.value, c.at_key_pair.ensures, c.tree_adrs.ensures, c.USIZE-height.ensures, c.split_at.ensures.front, c.split_at.ensures.back, c.ends_len.ensures.value, c.tree_sizes.ensures.signature_len, size) refl
+    rw (c.root_from_auth_path.ensures.value, c.wots_pk_from_sig-leaf.ensures.value, c.at_key_pair.ensures, c.tree_adrs.ensures, c.H_PRIME-height.ensures, c.split_at.ensures.front, c.split_at.ensures.back, c.ends_len.ensures.value, c.tree_sizes.ensures.signature_len, size) refl

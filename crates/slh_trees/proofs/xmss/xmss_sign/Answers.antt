@@ -6,18 +6,18 @@ use Rattle.slh_trees.proofs.xmss.xmss_sign.Goals as goal
 pub write_auth_path-requires-clause-room : goal.write_auth_path-requires-clause-room
 write_auth_path-requires-clause-room g c =
     let back = rw c.ends_len.ensures.value at c.split_at_mut-chains.ensures.back_len in
-    rw c.USIZE-height.ensures (omega (arith, back, c.requires.room))
+    rw c.H_PRIME-height.ensures (omega (arith, back, c.requires.room))
 
 pub returns-clause-value : goal.returns-clause-value
 returns-clause-value g c =
-    rw (c.wots_sign.ensures.value, c.at_key_pair.ensures, c.write_auth_path.ensures.value, c.tree_adrs-place.ensures, c.USIZE-height.ensures) refl
+    rw (c.wots_sign.ensures.value, c.at_key_pair.ensures, c.write_auth_path.ensures.value, c.tree_adrs-place.ensures, c.H_PRIME-height.ensures) refl
 
 pub returns-clause-cost : goal.returns-clause-cost
 returns-clause-cost g c =
-    let path = rw c.USIZE-height.ensures at c.write_auth_path.ensures.cost in
+    let path = rw c.H_PRIME-height.ensures at c.write_auth_path.ensures.cost in
     omega (arith, c.wots_sign.ensures.cost, path)
 
 pub returns-clause-bound : goal.returns-clause-bound
 returns-clause-bound g c =
-    let path = rw c.USIZE-height.ensures at c.write_auth_path.ensures.cost in
-    omega (arith, node_cost-path (wots_pk_cost g.P.WotsSigLen.ArraySize.USIZE) g.P.HPrime.ArraySize.USIZE, c.wots_sign.ensures.bound, path)
+    let path = rw c.H_PRIME-height.ensures at c.write_auth_path.ensures.cost in
+    omega (arith, node_cost-path (wots_pk_cost g.P.WotsParams.WOTS_SIG_LEN) g.P.XmssParams.H_PRIME, c.wots_sign.ensures.bound, path)

@@ -8,7 +8,7 @@ use Rattle.slh_trees.proofs.xmss.xmss_sign_root.Goals as goal
 pub write_auth_path-requires-clause-room : goal.write_auth_path-requires-clause-room
 write_auth_path-requires-clause-room g c =
     let back = rw c.ends_len.ensures.value at c.split_at_mut-chains.ensures.back_len in
-    rw c.USIZE-height.ensures (omega (arith, back, c.requires.room))
+    rw c.H_PRIME-height.ensures (omega (arith, back, c.requires.room))
 
 pub returns-clause-root : goal.returns-clause-root
 returns-clause-root g c =
@@ -16,15 +16,15 @@ returns-clause-root g c =
     let same = g.met.P.HashSuite.keyed_suite_is c.args.keyed.now in
     let law : HasLength K.suite K.n = rw same (g.met.P.HashSuite.lengths c.tree_sizes.ensures.n_high) in
     let a = c.args.adrs.now in
-    rw (c.root_from_auth_path.ensures.value, c.wots_sign_leaf-leaf.ensures.leaf, c.at_key_pair.ensures, c.write_auth_path.ensures.value, c.tree_adrs-place.ensures, c.USIZE-height.ensures)
-    (climb-auth_path K c.args.sk_seed.now g.P.HPrime.ArraySize.USIZE a.layer_adrs a.tree_adrs_low c.args.idx law c.requires.idx)
+    rw (c.root_from_auth_path.ensures.value, c.wots_sign_leaf-leaf.ensures.leaf, c.at_key_pair.ensures, c.write_auth_path.ensures.value, c.tree_adrs-place.ensures, c.H_PRIME-height.ensures)
+    (climb-auth_path K c.args.sk_seed.now g.P.XmssParams.H_PRIME a.layer_adrs a.tree_adrs_low c.args.idx law c.requires.idx)
 
 pub returns-clause-value : goal.returns-clause-value
 returns-clause-value g c =
-    rw (c.wots_sign_leaf-leaf.ensures.value, c.at_key_pair.ensures, c.write_auth_path.ensures.value, c.tree_adrs-place.ensures, c.USIZE-height.ensures) refl
+    rw (c.wots_sign_leaf-leaf.ensures.value, c.at_key_pair.ensures, c.write_auth_path.ensures.value, c.tree_adrs-place.ensures, c.H_PRIME-height.ensures) refl
 
 pub returns-clause-cost : goal.returns-clause-cost
 returns-clause-cost g c =
-    let path = rw c.USIZE-height.ensures at c.write_auth_path.ensures.cost in
-    let climbed = rw c.USIZE-height.ensures at c.root_from_auth_path.ensures.cost in
-    omega (arith, node_cost-path (wots_pk_cost g.P.WotsSigLen.ArraySize.USIZE) g.P.HPrime.ArraySize.USIZE, c.wots_sign_leaf-leaf.ensures.cost, path, climbed)
+    let path = rw c.H_PRIME-height.ensures at c.write_auth_path.ensures.cost in
+    let climbed = rw c.H_PRIME-height.ensures at c.root_from_auth_path.ensures.cost in
+    omega (arith, node_cost-path (wots_pk_cost g.P.WotsParams.WOTS_SIG_LEN) g.P.XmssParams.H_PRIME, c.wots_sign_leaf-leaf.ensures.cost, path, climbed)

@@ -7,10 +7,10 @@ loop-init g c = rw (← c.self.view_is) record { tree = tree_at-zero _ _; leaf =
 
 pub loop-preserved : goal.loop-preserved
 loop-preserved g c =
-    let hp = g.P.HPrime.ArraySize.USIZE in
+    let hp = g.P.XmssParams.H_PRIME in
     let i = c.loop.invariant in
     record {
-      tree = rw (c.next_place.ensures.tree, c.USIZE-height.ensures, i.tree) (tree_at-more _ _ _);
-      leaf = rw (c.next_place.ensures.leaf, c.USIZE-height.ensures, i.tree) (leaf_at-more hp c.args.self.now.t c.args.self.now.l c.loop.counter);
-      below = rw (← c.USIZE-height.ensures) c.next_place.ensures.below;
+      tree = rw (c.next_place.ensures.tree, c.H_PRIME-height.ensures, i.tree) (tree_at-more _ _ _);
+      leaf = rw (c.next_place.ensures.leaf, c.H_PRIME-height.ensures, i.tree) (leaf_at-more hp c.args.self.now.t c.args.self.now.l c.loop.counter);
+      below = rw (← c.H_PRIME-height.ensures) c.next_place.ensures.below;
     }

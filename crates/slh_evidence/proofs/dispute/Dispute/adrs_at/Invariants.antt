@@ -5,7 +5,7 @@ use Rattle.slh_evidence.proofs.dispute.Dispute.adrs_at.Given as goal
 -- the place on the layers so far
 abbrev pub invariant-loop : goal.invariant-loop
 invariant-loop g l =
-    let hp = g.P.HPrime.ArraySize.USIZE in
+    let hp = g.P.XmssParams.H_PRIME in
     record {
       tree : l.tree ≡ tree_at hp l.self.t l.counter;
       leaf : l.leaf ≡ leaf_at hp l.self.t l.self.l l.counter;

@@ -4,12 +4,12 @@ use Rattle.slh_evidence.proofs.Shown.{told}
 use Rattle.slh_evidence.proofs.Meaning.{IsShown}
 use Rattle.slh_evidence.proofs.dispute.Dispute.any_chain_step_shows.Goals as goal
 
-pub returns-then-layer-USIZE : goal.returns-then-layer-USIZE
+pub returns-then-layer-D : goal.returns-then-layer-D
 unfolding IsShown
-returns-then-layer-USIZE g c =
-    told _ _ _ ((λ t. absurd (false≢true t)), (λ shows. absurd (omega (arith, c.if-layer-USIZE.true, shows.1.0))))
+returns-then-layer-D g c =
+    told _ _ _ ((λ t. absurd (false≢true t)), (λ shows. absurd (omega (arith, c.if-layer-D.true, shows.1.0))))
 
-pub returns-then-chain-USIZE : goal.returns-then-chain-USIZE
+pub returns-then-chain-WOTS_SIG_LEN : goal.returns-then-chain-WOTS_SIG_LEN
 unfolding IsShown
-returns-then-chain-USIZE g c =
-    told _ _ _ ((λ t. absurd (false≢true t)), (λ shows. absurd (omega (arith, c.if-chain-USIZE.true, shows.0))))
+returns-then-chain-WOTS_SIG_LEN g c =
+    told _ _ _ ((λ t. absurd (false≢true t)), (λ shows. absurd (omega (arith, c.if-chain-WOTS_SIG_LEN.true, shows.0))))

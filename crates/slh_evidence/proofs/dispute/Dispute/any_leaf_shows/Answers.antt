@@ -4,7 +4,7 @@ use Rattle.slh_evidence.proofs.Shown.{told}
 use Rattle.slh_evidence.proofs.Meaning.{IsShown}
 use Rattle.slh_evidence.proofs.dispute.Dispute.any_leaf_shows.Goals as goal
 
-pub returns-then-layer-USIZE : goal.returns-then-layer-USIZE
+pub returns-then-layer-D : goal.returns-then-layer-D
 unfolding IsShown
-returns-then-layer-USIZE g c =
-    told _ _ _ ((λ t. absurd (false≢true t)), (λ shows. absurd (omega (arith, c.if-layer-USIZE.true, shows.0))))
+returns-then-layer-D g c =
+    told _ _ _ ((λ t. absurd (false≢true t)), (λ shows. absurd (omega (arith, c.if-layer-D.true, shows.0))))

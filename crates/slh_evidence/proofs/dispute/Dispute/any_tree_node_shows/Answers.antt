@@ -4,15 +4,15 @@ use Rattle.slh_evidence.proofs.Shown.{told}
 use Rattle.slh_evidence.proofs.Meaning.{IsShown}
 use Rattle.slh_evidence.proofs.dispute.Dispute.any_tree_node_shows.Goals as goal
 
-pub returns-then-layer-USIZE : goal.returns-then-layer-USIZE
+pub returns-then-layer-D : goal.returns-then-layer-D
 unfolding IsShown
-returns-then-layer-USIZE g c =
-    told _ _ _ ((λ t. absurd (false≢true t)), (λ shows. absurd (omega (arith, c.if-layer-USIZE.true, shows.2.0))))
+returns-then-layer-D g c =
+    told _ _ _ ((λ t. absurd (false≢true t)), (λ shows. absurd (omega (arith, c.if-layer-D.true, shows.2.0))))
 
-pub returns-then-height-USIZE : goal.returns-then-height-USIZE
+pub returns-then-height-H_PRIME : goal.returns-then-height-H_PRIME
 unfolding IsShown
-returns-then-height-USIZE g c =
-    told _ _ _ ((λ t. absurd (false≢true t)), (λ shows. absurd (omega (arith, c.if-height-USIZE.true, shows.1))))
+returns-then-height-H_PRIME g c =
+    told _ _ _ ((λ t. absurd (false≢true t)), (λ shows. absurd (omega (arith, c.if-height-H_PRIME.true, shows.1))))
 
 pub returns-then-height-eq0 : goal.returns-then-height-eq0
 unfolding IsShown

@@ -9,4 +9,4 @@ loop-j-init g c = c.checked_key-message.ensures
 pub loop-j-preserved : goal.loop-j-preserved
 loop-j-preserved g c =
     rw (c.xmss_pk_from_sig-message.ensures.value, c.self.invariant.5, c.adrs_at-adrs.ensures.value, c.layer_sig-sig.ensures.value, c.loop-j.invariant, ← c.self.view_is)
-    (checked_message-more _ g.P.HPrime.ArraySize.USIZE c.self.inside.tree c.self.inside.leaf c.self.inside.layers.now _ c.loop-j.j)
+    (checked_message-more _ g.P.XmssParams.H_PRIME c.self.inside.tree c.self.inside.leaf c.self.inside.layers.now _ c.loop-j.j)

@@ -6,5 +6,5 @@ use Rattle.slh_evidence.proofs.dispute.Dispute.checked_message.Given as goal
 -- the message below the layers so far
 abbrev pub invariant-loop-j : goal.invariant-loop-j
 invariant-loop-j g l =
-    let Z = scheme_of g.P.HashSuite.suite g.P.N.ArraySize.USIZE g.P.HPrime.ArraySize.USIZE g.P.D.ArraySize.USIZE g.P.A.ArraySize.USIZE g.P.K.ArraySize.USIZE in
+    let Z = scheme_of g.P.HashSuite.suite g.P.N.ArraySize.USIZE g.P.XmssParams.H_PRIME g.P.HypertreeParams.D g.P.ForsParams.A g.P.ForsParams.K in
     l.message ≡ checked_at (dispute_on Z l.self) l.j

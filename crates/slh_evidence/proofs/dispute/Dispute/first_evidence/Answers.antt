@@ -6,14 +6,14 @@ use Rattle.slh_evidence.proofs.dispute.Dispute.first_evidence.Goals as goal
 
 pub returns-then-is_some : goal.returns-then-is_some
 returns-then-is_some g c =
-    let Z = scheme_of g.P.HashSuite.suite g.P.N.ArraySize.USIZE g.P.HPrime.ArraySize.USIZE g.P.D.ArraySize.USIZE g.P.A.ArraySize.USIZE g.P.K.ArraySize.USIZE in
+    let Z = scheme_of g.P.HashSuite.suite g.P.N.ArraySize.USIZE g.P.XmssParams.H_PRIME g.P.HypertreeParams.D g.P.ForsParams.A g.P.ForsParams.K in
     let D = dispute_on Z c.args.self.now in
     let test = shows D in
     after_some test _ _ _ (sym c.is_some.ensures ∙ c.if-is_some.true) c.first_in_layers-found.ensures
 
 pub returns : goal.returns
 returns g c =
-    let Z = scheme_of g.P.HashSuite.suite g.P.N.ArraySize.USIZE g.P.HPrime.ArraySize.USIZE g.P.D.ArraySize.USIZE g.P.A.ArraySize.USIZE g.P.K.ArraySize.USIZE in
+    let Z = scheme_of g.P.HashSuite.suite g.P.N.ArraySize.USIZE g.P.XmssParams.H_PRIME g.P.HypertreeParams.D g.P.ForsParams.A g.P.ForsParams.K in
     let D = dispute_on Z c.args.self.now in
     let test = shows D in
     after_half test _ _ _ _ (sym c.is_some.ensures ∙ c.if-is_some.false) c.first_in_layers-found.ensures c.first_in_forest.ensures

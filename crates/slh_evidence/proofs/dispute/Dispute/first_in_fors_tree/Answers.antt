@@ -6,22 +6,22 @@ use Rattle.slh_evidence.proofs.dispute.Dispute.first_in_fors_tree.Goals as goal
 
 pub loop-down-init : goal.loop-down-init
 loop-down-init g c =
-    let Z = scheme_of g.P.HashSuite.suite g.P.N.ArraySize.USIZE g.P.HPrime.ArraySize.USIZE g.P.D.ArraySize.USIZE g.P.A.ArraySize.USIZE g.P.K.ArraySize.USIZE in
+    let Z = scheme_of g.P.HashSuite.suite g.P.N.ArraySize.USIZE g.P.XmssParams.H_PRIME g.P.HypertreeParams.D g.P.ForsParams.A g.P.ForsParams.K in
     let D = dispute_on Z c.args.self.now in
     let test = shows D in
     turn_none test _
 
 pub returns-then-any_fors_node_shows : goal.returns-then-any_fors_node_shows
 returns-then-any_fors_node_shows g c =
-    let Z = scheme_of g.P.HashSuite.suite g.P.N.ArraySize.USIZE g.P.HPrime.ArraySize.USIZE g.P.D.ArraySize.USIZE g.P.A.ArraySize.USIZE g.P.K.ArraySize.USIZE in
+    let Z = scheme_of g.P.HashSuite.suite g.P.N.ArraySize.USIZE g.P.XmssParams.H_PRIME g.P.HypertreeParams.D g.P.ForsParams.A g.P.ForsParams.K in
     let D = dispute_on Z c.args.self.now in
     let test = shows D in
-    let found = one_found test c.any_fors_node_shows.result _ c.if-any_fors_node_shows.true (rw c.USIZE-top.ensures at c.any_fors_node_shows.ensures) in
-    rw c.USIZE-top.ensures (turn_found test _ _ _ c.loop-down.down (omega (arith, c.loop-down-test.true, c.USIZE-top.ensures)) c.loop-down.invariant refl found)
+    let found = one_found test c.any_fors_node_shows.result _ c.if-any_fors_node_shows.true (rw c.A-top.ensures at c.any_fors_node_shows.ensures) in
+    rw c.A-top.ensures (turn_found test _ _ _ c.loop-down.down (omega (arith, c.loop-down-test.true, c.A-top.ensures)) c.loop-down.invariant refl found)
 
 pub loop-down-preserved : goal.loop-down-preserved
 loop-down-preserved g c =
-    let Z = scheme_of g.P.HashSuite.suite g.P.N.ArraySize.USIZE g.P.HPrime.ArraySize.USIZE g.P.D.ArraySize.USIZE g.P.A.ArraySize.USIZE g.P.K.ArraySize.USIZE in
+    let Z = scheme_of g.P.HashSuite.suite g.P.N.ArraySize.USIZE g.P.XmssParams.H_PRIME g.P.HypertreeParams.D g.P.ForsParams.A g.P.ForsParams.K in
     let D = dispute_on Z c.args.self.now in
     let test = shows D in
-    turn_next test _ c.loop-down.down c.loop-down.invariant (one_not test c.any_fors_node_shows.result _ c.if-any_fors_node_shows.false (rw c.USIZE-top.ensures at c.any_fors_node_shows.ensures))
+    turn_next test _ c.loop-down.down c.loop-down.invariant (one_not test c.any_fors_node_shows.result _ c.if-any_fors_node_shows.false (rw c.A-top.ensures at c.any_fors_node_shows.ensures))

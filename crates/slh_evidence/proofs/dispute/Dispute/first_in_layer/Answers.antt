@@ -5,14 +5,14 @@ use Rattle.slh_evidence.proofs.dispute.Dispute.first_in_layer.Goals as goal
 
 pub returns-then-is_some : goal.returns-then-is_some
 returns-then-is_some g c =
-    layer_by_node (scheme_of g.P.HashSuite.suite g.P.N.ArraySize.USIZE g.P.HPrime.ArraySize.USIZE g.P.D.ArraySize.USIZE g.P.A.ArraySize.USIZE g.P.K.ArraySize.USIZE) _ _ _ _ c.layer_check.ensures.dispute c.layer_check.ensures.layer _ c.first_tree_node-found.ensures (sym c.is_some.ensures ∙ c.if-is_some.true)
+    layer_by_node (scheme_of g.P.HashSuite.suite g.P.N.ArraySize.USIZE g.P.XmssParams.H_PRIME g.P.HypertreeParams.D g.P.ForsParams.A g.P.ForsParams.K) _ _ _ _ c.layer_check.ensures.dispute c.layer_check.ensures.layer _ c.first_tree_node-found.ensures (sym c.is_some.ensures ∙ c.if-is_some.true)
 
 pub returns-then-leaf_shows : goal.returns-then-leaf_shows
 returns-then-leaf_shows g c =
-    layer_by_leaf (scheme_of g.P.HashSuite.suite g.P.N.ArraySize.USIZE g.P.HPrime.ArraySize.USIZE g.P.D.ArraySize.USIZE g.P.A.ArraySize.USIZE g.P.K.ArraySize.USIZE) _ _ _ _ c.layer_check.ensures.dispute c.layer_check.ensures.layer _ c.first_tree_node-found.ensures (sym c.is_some.ensures ∙ c.if-is_some.false)
+    layer_by_leaf (scheme_of g.P.HashSuite.suite g.P.N.ArraySize.USIZE g.P.XmssParams.H_PRIME g.P.HypertreeParams.D g.P.ForsParams.A g.P.ForsParams.K) _ _ _ _ c.layer_check.ensures.dispute c.layer_check.ensures.layer _ c.first_tree_node-found.ensures (sym c.is_some.ensures ∙ c.if-is_some.false)
     _ c.leaf_shows.ensures c.if-leaf_shows.true
 
 pub returns : goal.returns
 returns g c =
-    layer_by_chains (scheme_of g.P.HashSuite.suite g.P.N.ArraySize.USIZE g.P.HPrime.ArraySize.USIZE g.P.D.ArraySize.USIZE g.P.A.ArraySize.USIZE g.P.K.ArraySize.USIZE) _ _ _ _ c.layer_check.ensures.dispute c.layer_check.ensures.layer _ c.first_tree_node-found.ensures (sym c.is_some.ensures ∙ c.if-is_some.false)
+    layer_by_chains (scheme_of g.P.HashSuite.suite g.P.N.ArraySize.USIZE g.P.XmssParams.H_PRIME g.P.HypertreeParams.D g.P.ForsParams.A g.P.ForsParams.K) _ _ _ _ c.layer_check.ensures.dispute c.layer_check.ensures.layer _ c.first_tree_node-found.ensures (sym c.is_some.ensures ∙ c.if-is_some.false)
     _ c.leaf_shows.ensures c.if-leaf_shows.false _ c.first_in_chains.ensures

@@ -7,21 +7,21 @@ use Rattle.slh_evidence.proofs.dispute.Dispute.first_in_layers.Goals as goal
 
 pub loop-down-init : goal.loop-down-init
 loop-down-init g c =
-    let Z = scheme_of g.P.HashSuite.suite g.P.N.ArraySize.USIZE g.P.HPrime.ArraySize.USIZE g.P.D.ArraySize.USIZE g.P.A.ArraySize.USIZE g.P.K.ArraySize.USIZE in
+    let Z = scheme_of g.P.HashSuite.suite g.P.N.ArraySize.USIZE g.P.XmssParams.H_PRIME g.P.HypertreeParams.D g.P.ForsParams.A g.P.ForsParams.K in
     let D = dispute_on Z c.args.self.now in
     let law = g.met.P.HashSuite.lengths g.met.P.WotsParams.valid_wots.n_high in
-    layers_begin D c.USIZE-count.result c.args.lowest c.USIZE-count.ensures law c.requires.own c.requires.lowest
+    layers_begin D c.D-count.result c.args.lowest c.D-count.ensures law c.requires.own c.requires.lowest
 
 pub returns-then-is_some : goal.returns-then-is_some
 returns-then-is_some g c =
-    let Z = scheme_of g.P.HashSuite.suite g.P.N.ArraySize.USIZE g.P.HPrime.ArraySize.USIZE g.P.D.ArraySize.USIZE g.P.A.ArraySize.USIZE g.P.K.ArraySize.USIZE in
+    let Z = scheme_of g.P.HashSuite.suite g.P.N.ArraySize.USIZE g.P.XmssParams.H_PRIME g.P.HypertreeParams.D g.P.ForsParams.A g.P.ForsParams.K in
     let D = dispute_on Z c.args.self.now in
     let test = shows D in
-    turn_found test _ _ _ c.loop-down.down (omega (arith, c.loop-down-test.true, c.USIZE-count.ensures)) c.loop-down.invariant (sym c.is_some.ensures ∙ c.if-is_some.true) (rw c.USIZE-count.ensures at c.first_in_layer-found.ensures)
+    turn_found test _ _ _ c.loop-down.down (omega (arith, c.loop-down-test.true, c.D-count.ensures)) c.loop-down.invariant (sym c.is_some.ensures ∙ c.if-is_some.true) (rw c.D-count.ensures at c.first_in_layer-found.ensures)
 
 pub loop-down-preserved : goal.loop-down-preserved
 loop-down-preserved g c =
-    let Z = scheme_of g.P.HashSuite.suite g.P.N.ArraySize.USIZE g.P.HPrime.ArraySize.USIZE g.P.D.ArraySize.USIZE g.P.A.ArraySize.USIZE g.P.K.ArraySize.USIZE in
+    let Z = scheme_of g.P.HashSuite.suite g.P.N.ArraySize.USIZE g.P.XmssParams.H_PRIME g.P.HypertreeParams.D g.P.ForsParams.A g.P.ForsParams.K in
     let D = dispute_on Z c.args.self.now in
     let test = shows D in
-    turn_next test _ c.loop-down.down c.loop-down.invariant (not_some test _ _ (sym c.is_some.ensures ∙ c.if-is_some.false) (rw c.USIZE-count.ensures at c.first_in_layer-found.ensures))
+    turn_next test _ c.loop-down.down c.loop-down.invariant (not_some test _ _ (sym c.is_some.ensures ∙ c.if-is_some.false) (rw c.D-count.ensures at c.first_in_layer-found.ensures))

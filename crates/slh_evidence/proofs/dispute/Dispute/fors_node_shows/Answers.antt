@@ -8,33 +8,33 @@ use Rattle.slh_evidence.proofs.dispute.Dispute.fors_node_shows.Goals as goal
 
 pub root_from_auth_path-below-requires-clause-enough : goal.root_from_auth_path-below-requires-clause-enough
 root_from_auth_path-below-requires-clause-enough g c =
-    rows_fit (c.args.height - 1) g.P.A.ArraySize.USIZE g.P.N.ArraySize.USIZE (length c.opened_parts.result.1.now) (omega (arith, c.requires.high)) c.opened_parts.ensures.path_len
+    rows_fit (c.args.height - 1) g.P.ForsParams.A g.P.N.ArraySize.USIZE (length c.opened_parts.result.1.now) (omega (arith, c.requires.high)) c.opened_parts.ensures.path_len
 
 pub part_of-beside-requires-clause-fits : goal.part_of-beside-requires-clause-fits
 part_of-beside-requires-clause-fits g c =
-    rows_fit (c.args.height - 1 + 1) g.P.A.ArraySize.USIZE g.P.N.ArraySize.USIZE (length c.opened_parts.result.1.now) (omega (arith, c.requires.high, c.requires.low)) c.opened_parts.ensures.path_len
+    rows_fit (c.args.height - 1 + 1) g.P.ForsParams.A g.P.N.ArraySize.USIZE (length c.opened_parts.result.1.now) (omega (arith, c.requires.high, c.requires.low)) c.opened_parts.ensures.path_len
 
 pub root_from_auth_path-node-requires-clause-enough : goal.root_from_auth_path-node-requires-clause-enough
 root_from_auth_path-node-requires-clause-enough g c =
-    rows_fit c.args.height g.P.A.ArraySize.USIZE g.P.N.ArraySize.USIZE (length c.opened_parts.result.1.now) c.requires.high c.opened_parts.ensures.path_len
+    rows_fit c.args.height g.P.ForsParams.A g.P.N.ArraySize.USIZE (length c.opened_parts.result.1.now) c.requires.high c.opened_parts.ensures.path_len
 
 pub fors_node-own_below-requires-clause-node : goal.fors_node-own_below-requires-clause-node
 fors_node-own_below-requires-clause-node g c =
-    up_below_of c.named_leaf-y.result (c.args.height - 1) g.P.A.ArraySize.USIZE g.P.K.ArraySize.USIZE (omega (arith, c.requires.high)) c.named_leaf-y.ensures.below
+    up_below_of c.named_leaf-y.result (c.args.height - 1) g.P.ForsParams.A g.P.ForsParams.K (omega (arith, c.requires.high)) c.named_leaf-y.ensures.below
 
 pub fors_node-own_beside-requires-clause-node : goal.fors_node-own_beside-requires-clause-node
 fors_node-own_beside-requires-clause-node g c =
-    rw c.sibling.ensures (sibling_below_of c.named_leaf-y.result (c.args.height - 1) g.P.A.ArraySize.USIZE g.P.K.ArraySize.USIZE (omega (arith, c.requires.high, c.requires.low)) c.named_leaf-y.ensures.below)
+    rw c.sibling.ensures (sibling_below_of c.named_leaf-y.result (c.args.height - 1) g.P.ForsParams.A g.P.ForsParams.K (omega (arith, c.requires.high, c.requires.low)) c.named_leaf-y.ensures.below)
 
 pub fors_node-own_node-requires-clause-node : goal.fors_node-own_node-requires-clause-node
 fors_node-own_node-requires-clause-node g c =
-    up_below_of c.named_leaf-y.result c.args.height g.P.A.ArraySize.USIZE g.P.K.ArraySize.USIZE c.requires.high c.named_leaf-y.ensures.below
+    up_below_of c.named_leaf-y.result c.args.height g.P.ForsParams.A g.P.ForsParams.K c.requires.high c.named_leaf-y.ensures.below
 
 pub returns : goal.returns
 returns g c =
     let view = c.self.view_is in
     let forest = c.new-adrs.ensures in
-    fors_node_shown_by (dispute_on (scheme_of g.P.HashSuite.suite g.P.N.ArraySize.USIZE g.P.HPrime.ArraySize.USIZE g.P.D.ArraySize.USIZE g.P.A.ArraySize.USIZE g.P.K.ArraySize.USIZE) c.args.self.now) _ _ _ _ _ _
+    fors_node_shown_by (dispute_on (scheme_of g.P.HashSuite.suite g.P.N.ArraySize.USIZE g.P.XmssParams.H_PRIME g.P.HypertreeParams.D g.P.ForsParams.A g.P.ForsParams.K) c.args.self.now) _ _ _ _ _ _
     (rw (← view) c.self.invariant.5) (rw (← view) refl) (rw (← view) refl) (rw (← view) refl) (rw (← view) refl) (rw (← view) refl)
     c.args.tree c.args.height _ _ _ _ _ _ _ _ _ _ _ (g.met.P.HashSuite.lengths g.met.P.WotsParams.valid_wots.n_high) c.requires.tree c.requires.low c.requires.high
     c.named_leaf-y.ensures.value c.opened_parts.ensures.path_len (c.exact-secret.ensures ∙ c.opened_parts.ensures.secret) c.opened_parts.ensures.path

@@ -10,8 +10,8 @@ pub returns : goal.returns
 unfolding IsShown
 returns g c =
     let s = c.self.inside in
-    let a = g.P.A.ArraySize.USIZE in
-    let raw = fors_secret_told (seeded g.P.HashSuite.suite g.P.N.ArraySize.USIZE s.pk_seed) _ c.self.invariant.5 s.sk_seed s.forest.now (digits s.md.now a g.P.K.ArraySize.USIZE) s.tree s.leaf a c.args.tree _ _ _ _ _ _
+    let a = g.P.ForsParams.A in
+    let raw = fors_secret_told (seeded g.P.HashSuite.suite g.P.N.ArraySize.USIZE s.pk_seed) _ c.self.invariant.5 s.sk_seed s.forest.now (digits s.md.now a g.P.ForsParams.K) s.tree s.leaf a c.args.tree _ _ _ _ _ _
     c.named_leaf-y.ensures.value (c.exact-secret.ensures ∙ c.opened_parts.ensures.secret)
     (rw c.new-adrs.ensures at c.fors_sk_gen-own.ensures.value)
     (rw (c.at_node.ensures.bytes, c.new-adrs.ensures) at c.f-leaf.ensures.value)

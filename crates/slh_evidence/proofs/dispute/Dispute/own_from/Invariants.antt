@@ -6,7 +6,7 @@ use Rattle.slh_evidence.proofs.dispute.Dispute.own_from.Given as goal
 -- the layers so far, from the lowest one on, are the key's own
 abbrev pub invariant-loop-layer : goal.invariant-loop-layer
 invariant-loop-layer g l =
-    let Z = scheme_of g.P.HashSuite.suite g.P.N.ArraySize.USIZE g.P.HPrime.ArraySize.USIZE g.P.D.ArraySize.USIZE g.P.A.ArraySize.USIZE g.P.K.ArraySize.USIZE in
+    let Z = scheme_of g.P.HashSuite.suite g.P.N.ArraySize.USIZE g.P.XmssParams.H_PRIME g.P.HypertreeParams.D g.P.ForsParams.A g.P.ForsParams.K in
     let D = dispute_on Z l.self in
     record {
       checked : l.checked ≡ checked_at D l.layer;

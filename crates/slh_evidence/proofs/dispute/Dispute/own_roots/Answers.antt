@@ -7,24 +7,24 @@ use Rattle.slh_evidence.proofs.dispute.Dispute.own_roots.Goals as goal
 
 pub fors_node-root-requires-clause-node : goal.fors_node-root-requires-clause-node
 fors_node-root-requires-clause-node g c =
-    let root : g.P.A.ArraySize.USIZE - c.USIZE-height.result ≡ 0 = omega (arith, c.USIZE-height.ensures) in
-    rw root (omega (arith, c.loop-i-test.true, c.USIZE-i-end.ensures))
+    let root : g.P.ForsParams.A - c.A-height.result ≡ 0 = omega (arith, c.A-height.ensures) in
+    rw root (omega (arith, c.loop-i-test.true, c.K-i-end.ensures))
 
 pub put_part-requires-clause-fits : goal.put_part-requires-clause-fits
 put_part-requires-clause-fits g c =
-    rw c.USIZE-n.ensures (rows_fit (c.loop-i.i + 1) g.P.K.ArraySize.USIZE g.P.N.ArraySize.USIZE (length c.loop-i.out) (omega (arith, c.loop-i-test.true, c.USIZE-i-end.ensures)) (c.loop-i.auto.out ∙ c.requires))
+    rw c.USIZE-n.ensures (rows_fit (c.loop-i.i + 1) g.P.ForsParams.K g.P.N.ArraySize.USIZE (length c.loop-i.out) (omega (arith, c.loop-i-test.true, c.K-i-end.ensures)) (c.loop-i.auto.out ∙ c.requires))
 
 pub loop-i-init : goal.loop-i-init
 loop-i-init g c = none_joined _ _ _
 
 pub loop-i-preserved : goal.loop-i-preserved
 loop-i-preserved g c =
-    rw (c.put_part.ensures.front, c.loop-i.invariant, joined_more, c.as_slice.ensures.value, c.fors_node-root.ensures.value, c.self.invariant.5, c.new-adrs.ensures, c.USIZE-height.ensures, ← c.self.view_is) refl
+    rw (c.put_part.ensures.front, c.loop-i.invariant, joined_more, c.as_slice.ensures.value, c.fors_node-root.ensures.value, c.self.invariant.5, c.new-adrs.ensures, c.A-height.ensures, ← c.self.view_is) refl
 
 pub returns : goal.returns
 returns g c =
-    let k = g.P.K.ArraySize.USIZE in
+    let k = g.P.ForsParams.K in
     let n = g.P.N.ArraySize.USIZE in
-    let last : c.loop-i.i ≡ k = omega (arith, c.loop-i-test.false, c.loop-i.auto.i-end, c.USIZE-i-end.ensures) in
+    let last : c.loop-i.i ≡ k = omega (arith, c.loop-i-test.false, c.loop-i.auto.i-end, c.K-i-end.ensures) in
     let len : length c.loop-i.out ≡ k * n = c.loop-i.auto.out ∙ c.requires in
     sym (take_all (k * n) c.loop-i.out (omega arith)) ∙ rw (last, c.USIZE-n.ensures) at c.loop-i.invariant

@@ -8,4 +8,4 @@ use Rattle.slh_evidence.proofs.dispute.Dispute.own_roots.Given as goal
 abbrev pub invariant-loop-i : goal.invariant-loop-i
 invariant-loop-i g l =
     let K = seeded g.P.HashSuite.suite g.P.N.ArraySize.USIZE l.self.seed in
-    take (l.i * l.n) l.out ≡ joined (λ i. fors_node K l.self.sk l.self.t l.self.l g.P.A.ArraySize.USIZE i) l.i
+    take (l.i * l.n) l.out ≡ joined (λ i. fors_node K l.self.sk l.self.t l.self.l g.P.ForsParams.A i) l.i

@@ -7,17 +7,17 @@ use Rattle.slh_evidence.proofs.layer.LayerCheck.chain_step_shows.Goals as goal
 pub returns-then-step-digit : goal.returns-then-step-digit
 returns-then-step-digit g c =
     let s = c.args.self.now in
-    step_before (dispute_on (scheme_of g.P.HashSuite.suite g.P.N.ArraySize.USIZE g.P.HPrime.ArraySize.USIZE g.P.D.ArraySize.USIZE g.P.A.ArraySize.USIZE g.P.K.ArraySize.USIZE) s.dispute.now) _ _ _ _ _ s.checked c.digit_of-digit.ensures.value (omega (arith, c.if-step-digit.true))
+    step_before (dispute_on (scheme_of g.P.HashSuite.suite g.P.N.ArraySize.USIZE g.P.XmssParams.H_PRIME g.P.HypertreeParams.D g.P.ForsParams.A g.P.ForsParams.K) s.dispute.now) _ _ _ _ _ s.checked c.digit_of-digit.ensures.value (omega (arith, c.if-step-digit.true))
 
 pub returns-then-step-gt14 : goal.returns-then-step-gt14
 returns-then-step-gt14 g c =
-    step_after (dispute_on (scheme_of g.P.HashSuite.suite g.P.N.ArraySize.USIZE g.P.HPrime.ArraySize.USIZE g.P.D.ArraySize.USIZE g.P.A.ArraySize.USIZE g.P.K.ArraySize.USIZE) c.args.self.now.dispute.now) _ _ _ (omega (arith, c.if-step-gt14.true))
+    step_after (dispute_on (scheme_of g.P.HashSuite.suite g.P.N.ArraySize.USIZE g.P.XmssParams.H_PRIME g.P.HypertreeParams.D g.P.ForsParams.A g.P.ForsParams.K) c.args.self.now.dispute.now) _ _ _ (omega (arith, c.if-step-gt14.true))
 
 pub returns : goal.returns
 returns g c =
     let s = c.args.self.now in
     let chain_at = c.at_chain-at.ensures in
-    chain_step_shown (dispute_on (scheme_of g.P.HashSuite.suite g.P.N.ArraySize.USIZE g.P.HPrime.ArraySize.USIZE g.P.D.ArraySize.USIZE g.P.A.ArraySize.USIZE g.P.K.ArraySize.USIZE) s.dispute.now) _ _ _ _ _ _ _ _ _ _ _ _ _ _ _ _ _
+    chain_step_shown (dispute_on (scheme_of g.P.HashSuite.suite g.P.N.ArraySize.USIZE g.P.XmssParams.H_PRIME g.P.HypertreeParams.D g.P.ForsParams.A g.P.ForsParams.K) s.dispute.now) _ _ _ _ _ _ _ _ _ _ _ _ _ _ _ _ _
     (rw (← c.dispute.view_is) c.dispute.invariant.5) (rw (← c.dispute.view_is) refl) s.layer s.tree s.leaf s.part s.checked
     (omega (arith, c.requires, c.tree_sizes.ensures.signature_len)) c.digit_of-digit.ensures.value (omega (arith, c.if-step-digit.false)) (omega (arith, c.if-step-gt14.false))
     c.layer_parts.ensures.chains c.part_of-value.ensures (rw chain_at at c.wots_chain-before.ensures.value) c.own_chain-own_before.ensures.value

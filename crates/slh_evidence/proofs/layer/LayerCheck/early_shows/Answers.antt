@@ -7,12 +7,12 @@ use Rattle.slh_evidence.proofs.layer.LayerCheck.early_shows.Goals as goal
 pub returns-then-digit-digit_of : goal.returns-then-digit-digit_of
 returns-then-digit-digit_of g c =
     let s = c.args.self.now in
-    not_early (dispute_on (scheme_of g.P.HashSuite.suite g.P.N.ArraySize.USIZE g.P.HPrime.ArraySize.USIZE g.P.D.ArraySize.USIZE g.P.A.ArraySize.USIZE g.P.K.ArraySize.USIZE) s.dispute.now) _ _ _ _ _ _ s.checked c.requires.own c.digit_of-digit.ensures.value c.digit_of.ensures.value (omega (arith, c.if-digit-digit_of.true))
+    not_early (dispute_on (scheme_of g.P.HashSuite.suite g.P.N.ArraySize.USIZE g.P.XmssParams.H_PRIME g.P.HypertreeParams.D g.P.ForsParams.A g.P.ForsParams.K) s.dispute.now) _ _ _ _ _ _ s.checked c.requires.own c.digit_of-digit.ensures.value c.digit_of.ensures.value (omega (arith, c.if-digit-digit_of.true))
 
 pub returns : goal.returns
 returns g c =
     let s = c.args.self.now in
-    early_shown (dispute_on (scheme_of g.P.HashSuite.suite g.P.N.ArraySize.USIZE g.P.HPrime.ArraySize.USIZE g.P.D.ArraySize.USIZE g.P.A.ArraySize.USIZE g.P.K.ArraySize.USIZE) s.dispute.now) _ _ _ _ _ _ _ _ _ _ _ _ _ _ _
+    early_shown (dispute_on (scheme_of g.P.HashSuite.suite g.P.N.ArraySize.USIZE g.P.XmssParams.H_PRIME g.P.HypertreeParams.D g.P.ForsParams.A g.P.ForsParams.K) s.dispute.now) _ _ _ _ _ _ _ _ _ _ _ _ _ _ _
     (rw (← c.dispute.view_is) c.dispute.invariant.5) (rw (← c.dispute.view_is) refl) s.layer s.tree s.leaf s.part s.checked c.requires.own
     (omega (arith, c.requires.chain, c.tree_sizes.ensures.signature_len)) c.digit_of-digit.ensures.value c.digit_of.ensures.value (omega (arith, c.if-digit-digit_of.false))
     c.layer_parts.ensures.chains c.part_of-value.ensures c.own_chain-own_value.ensures.value c.same_value.ensures

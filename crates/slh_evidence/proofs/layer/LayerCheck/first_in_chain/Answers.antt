@@ -6,14 +6,14 @@ use Rattle.slh_evidence.proofs.layer.LayerCheck.first_in_chain.Goals as goal
 
 pub loop-down-init : goal.loop-down-init
 loop-down-init g c =
-    let Z = scheme_of g.P.HashSuite.suite g.P.N.ArraySize.USIZE g.P.HPrime.ArraySize.USIZE g.P.D.ArraySize.USIZE g.P.A.ArraySize.USIZE g.P.K.ArraySize.USIZE in
+    let Z = scheme_of g.P.HashSuite.suite g.P.N.ArraySize.USIZE g.P.XmssParams.H_PRIME g.P.HypertreeParams.D g.P.ForsParams.A g.P.ForsParams.K in
     let D = dispute_on Z c.args.self.now.dispute.now in
     let test = shows D in
     turn_none test _
 
 pub returns-then-chain_step_shows : goal.returns-then-chain_step_shows
 returns-then-chain_step_shows g c =
-    let Z = scheme_of g.P.HashSuite.suite g.P.N.ArraySize.USIZE g.P.HPrime.ArraySize.USIZE g.P.D.ArraySize.USIZE g.P.A.ArraySize.USIZE g.P.K.ArraySize.USIZE in
+    let Z = scheme_of g.P.HashSuite.suite g.P.N.ArraySize.USIZE g.P.XmssParams.H_PRIME g.P.HypertreeParams.D g.P.ForsParams.A g.P.ForsParams.K in
     let D = dispute_on Z c.args.self.now.dispute.now in
     let test = shows D in
     let found = one_found test c.chain_step_shows.result _ c.if-chain_step_shows.true c.chain_step_shows.ensures in
@@ -21,14 +21,14 @@ returns-then-chain_step_shows g c =
 
 pub loop-down-preserved : goal.loop-down-preserved
 loop-down-preserved g c =
-    let Z = scheme_of g.P.HashSuite.suite g.P.N.ArraySize.USIZE g.P.HPrime.ArraySize.USIZE g.P.D.ArraySize.USIZE g.P.A.ArraySize.USIZE g.P.K.ArraySize.USIZE in
+    let Z = scheme_of g.P.HashSuite.suite g.P.N.ArraySize.USIZE g.P.XmssParams.H_PRIME g.P.HypertreeParams.D g.P.ForsParams.A g.P.ForsParams.K in
     let D = dispute_on Z c.args.self.now.dispute.now in
     let test = shows D in
     turn_next test _ c.loop-down.down c.loop-down.invariant (one_not test c.chain_step_shows.result _ c.if-chain_step_shows.false c.chain_step_shows.ensures)
 
 pub returns-then-early_shows : goal.returns-then-early_shows
 returns-then-early_shows g c =
-    let Z = scheme_of g.P.HashSuite.suite g.P.N.ArraySize.USIZE g.P.HPrime.ArraySize.USIZE g.P.D.ArraySize.USIZE g.P.A.ArraySize.USIZE g.P.K.ArraySize.USIZE in
+    let Z = scheme_of g.P.HashSuite.suite g.P.N.ArraySize.USIZE g.P.XmssParams.H_PRIME g.P.HypertreeParams.D g.P.ForsParams.A g.P.ForsParams.K in
     let D = dispute_on Z c.args.self.now.dispute.now in
     let test = shows D in
     let all : c.loop-down.down ≡ 15 = omega (arith, c.loop-down-test.false, c.loop-down.auto.down-end) in
@@ -37,7 +37,7 @@ returns-then-early_shows g c =
 
 pub returns : goal.returns
 returns g c =
-    let Z = scheme_of g.P.HashSuite.suite g.P.N.ArraySize.USIZE g.P.HPrime.ArraySize.USIZE g.P.D.ArraySize.USIZE g.P.A.ArraySize.USIZE g.P.K.ArraySize.USIZE in
+    let Z = scheme_of g.P.HashSuite.suite g.P.N.ArraySize.USIZE g.P.XmssParams.H_PRIME g.P.HypertreeParams.D g.P.ForsParams.A g.P.ForsParams.K in
     let D = dispute_on Z c.args.self.now.dispute.now in
     let test = shows D in
     let all : c.loop-down.down ≡ 15 = omega (arith, c.loop-down-test.false, c.loop-down.auto.down-end) in

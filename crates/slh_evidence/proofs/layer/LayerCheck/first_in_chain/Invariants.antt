@@ -9,6 +9,6 @@ use Rattle.slh_evidence.proofs.layer.LayerCheck.first_in_chain.Given as goal
 -- nothing so far shows
 abbrev pub invariant-loop-down : goal.invariant-loop-down
 invariant-loop-down g l =
-    let Z = scheme_of g.P.HashSuite.suite g.P.N.ArraySize.USIZE g.P.HPrime.ArraySize.USIZE g.P.D.ArraySize.USIZE g.P.A.ArraySize.USIZE g.P.K.ArraySize.USIZE in
+    let Z = scheme_of g.P.HashSuite.suite g.P.N.ArraySize.USIZE g.P.XmssParams.H_PRIME g.P.HypertreeParams.D g.P.ForsParams.A g.P.ForsParams.K in
     let D = dispute_on Z l.self.dispute.now in
     find (shows D) (in_turn (λ down. ChainStep l.layer l.chain (14 - down) ∷ []) l.down) ≡ None

@@ -7,12 +7,12 @@ use Rattle.slh_evidence.proofs.layer.LayerCheck.leaf_shows.Goals as goal
 
 pub finish_each-requires-clause-below : goal.finish_each-requires-clause-below
 finish_each-requires-clause-below g c =
-    rw (c.USIZE-len.ensures, c.tree_sizes.ensures.signature_len, c.message_digits-all.ensures) (λ k below. wots_digits_below _ _ k)
+    rw (c.WOTS_SIG_LEN-len.ensures, c.tree_sizes.ensures.signature_len, c.message_digits-all.ensures) (λ k below. wots_digits_below _ _ k)
 
 pub returns : goal.returns
 returns g c =
     let s = c.args.self.now in
-    leaf_shown (dispute_on (scheme_of g.P.HashSuite.suite g.P.N.ArraySize.USIZE g.P.HPrime.ArraySize.USIZE g.P.D.ArraySize.USIZE g.P.A.ArraySize.USIZE g.P.K.ArraySize.USIZE) s.dispute.now) _ _ _ _ _ _ _ _ _ _ _ _ _
+    leaf_shown (dispute_on (scheme_of g.P.HashSuite.suite g.P.N.ArraySize.USIZE g.P.XmssParams.H_PRIME g.P.HypertreeParams.D g.P.ForsParams.A g.P.ForsParams.K) s.dispute.now) _ _ _ _ _ _ _ _ _ _ _ _ _
     (rw (← c.dispute.view_is) c.dispute.invariant.5) (rw (← c.dispute.view_is) refl) s.layer s.tree s.leaf s.part s.checked
-    c.layer_parts.ensures.chains (rw (c.USIZE-len.ensures, c.tree_sizes.ensures.signature_len) c.message_digits-all.ensures) c.finish_each.ensures.value
+    c.layer_parts.ensures.chains (rw (c.WOTS_SIG_LEN-len.ensures, c.tree_sizes.ensures.signature_len) c.message_digits-all.ensures) c.finish_each.ensures.value
     c.own_ends.ensures (rw c.pk_adrs.ensures refl) c.hashes_collide.ensures

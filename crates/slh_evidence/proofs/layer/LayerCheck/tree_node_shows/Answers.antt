@@ -8,37 +8,37 @@ use Rattle.slh_evidence.proofs.layer.LayerCheck.tree_node_shows.Goals as goal
 
 pub root_from_auth_path-below-requires-clause-enough : goal.root_from_auth_path-below-requires-clause-enough
 root_from_auth_path-below-requires-clause-enough g c =
-    rows_fit (c.args.height - 1) g.P.HPrime.ArraySize.USIZE g.P.N.ArraySize.USIZE (length c.layer_parts.result.1.now) (omega (arith, c.requires.high)) c.layer_parts.ensures.path_len
+    rows_fit (c.args.height - 1) g.P.XmssParams.H_PRIME g.P.N.ArraySize.USIZE (length c.layer_parts.result.1.now) (omega (arith, c.requires.high)) c.layer_parts.ensures.path_len
 
 pub part_of-beside-requires-clause-fits : goal.part_of-beside-requires-clause-fits
 part_of-beside-requires-clause-fits g c =
-    rows_fit (c.args.height - 1 + 1) g.P.HPrime.ArraySize.USIZE g.P.N.ArraySize.USIZE (length c.layer_parts.result.1.now) (omega (arith, c.requires.high, c.requires.low)) c.layer_parts.ensures.path_len
+    rows_fit (c.args.height - 1 + 1) g.P.XmssParams.H_PRIME g.P.N.ArraySize.USIZE (length c.layer_parts.result.1.now) (omega (arith, c.requires.high, c.requires.low)) c.layer_parts.ensures.path_len
 
 pub root_from_auth_path-node-requires-clause-enough : goal.root_from_auth_path-node-requires-clause-enough
 root_from_auth_path-node-requires-clause-enough g c =
-    rows_fit c.args.height g.P.HPrime.ArraySize.USIZE g.P.N.ArraySize.USIZE (length c.layer_parts.result.1.now) c.requires.high c.layer_parts.ensures.path_len
+    rows_fit c.args.height g.P.XmssParams.H_PRIME g.P.N.ArraySize.USIZE (length c.layer_parts.result.1.now) c.requires.high c.layer_parts.ensures.path_len
 
 pub sibling-requires : goal.sibling-requires
 sibling-requires g c =
-    sibling_room c.args.self.now.adrs.key_pair_adrs (c.args.height - 1) g.P.HPrime.ArraySize.USIZE c.tree_sizes.ensures.height_high (omega (arith, c.requires.high)) c.args.self.now.below
+    sibling_room c.args.self.now.adrs.key_pair_adrs (c.args.height - 1) g.P.XmssParams.H_PRIME c.tree_sizes.ensures.height_high (omega (arith, c.requires.high)) c.args.self.now.below
 
 pub xmss_node-own_below-requires-clause-node : goal.xmss_node-own_below-requires-clause-node
 xmss_node-own_below-requires-clause-node g c =
-    up_below c.args.self.now.adrs.key_pair_adrs (c.args.height - 1) g.P.HPrime.ArraySize.USIZE (omega (arith, c.requires.high)) c.args.self.now.below
+    up_below c.args.self.now.adrs.key_pair_adrs (c.args.height - 1) g.P.XmssParams.H_PRIME (omega (arith, c.requires.high)) c.args.self.now.below
 
 pub xmss_node-own_beside-requires-clause-node : goal.xmss_node-own_beside-requires-clause-node
 xmss_node-own_beside-requires-clause-node g c =
-    rw c.sibling.ensures (sibling_below c.args.self.now.adrs.key_pair_adrs (c.args.height - 1) g.P.HPrime.ArraySize.USIZE (omega (arith, c.requires.high, c.requires.low)) c.args.self.now.below)
+    rw c.sibling.ensures (sibling_below c.args.self.now.adrs.key_pair_adrs (c.args.height - 1) g.P.XmssParams.H_PRIME (omega (arith, c.requires.high, c.requires.low)) c.args.self.now.below)
 
 pub xmss_node-own_node-requires-clause-node : goal.xmss_node-own_node-requires-clause-node
 xmss_node-own_node-requires-clause-node g c =
-    up_below c.args.self.now.adrs.key_pair_adrs c.args.height g.P.HPrime.ArraySize.USIZE c.requires.high c.args.self.now.below
+    up_below c.args.self.now.adrs.key_pair_adrs c.args.height g.P.XmssParams.H_PRIME c.requires.high c.args.self.now.below
 
 pub returns : goal.returns
 returns g c =
     let s = c.args.self.now in
     let tree = c.tree_adrs-at.ensures in
-    tree_node_shown (dispute_on (scheme_of g.P.HashSuite.suite g.P.N.ArraySize.USIZE g.P.HPrime.ArraySize.USIZE g.P.D.ArraySize.USIZE g.P.A.ArraySize.USIZE g.P.K.ArraySize.USIZE) s.dispute.now) _ _ _ _ _ _ _ _ _ _ _ _ _ _ _ _ _ _ (g.met.P.HashSuite.lengths g.met.P.WotsParams.valid_wots.n_high)
+    tree_node_shown (dispute_on (scheme_of g.P.HashSuite.suite g.P.N.ArraySize.USIZE g.P.XmssParams.H_PRIME g.P.HypertreeParams.D g.P.ForsParams.A g.P.ForsParams.K) s.dispute.now) _ _ _ _ _ _ _ _ _ _ _ _ _ _ _ _ _ _ (g.met.P.HashSuite.lengths g.met.P.WotsParams.valid_wots.n_high)
     (rw (← c.dispute.view_is) c.dispute.invariant.5) (rw (← c.dispute.view_is) refl) s.layer s.tree s.leaf s.part s.checked
     c.requires.low c.requires.high c.layer_parts.ensures.path_len c.layer_parts.ensures.chains c.layer_parts.ensures.path c.wots_pk_from_sig-leaf.ensures.value
     (rw tree at c.root_from_auth_path-below.ensures.value) c.xmss_node-own_below.ensures.value

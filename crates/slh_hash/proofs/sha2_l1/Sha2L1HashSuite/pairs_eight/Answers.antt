@@ -1,4 +1,5 @@
-use Rattle.std.proofs.Common.{length, refl}
+use Rattle.std.proofs.Common.{◌*◌, arith, length, refl}
+use Rattle.std.proofs.lemmas.Nat.{mul-le}
 use Rattle.slh_core.specs.Suite.{seeded}
 use Rattle.slh_hash.specs.Lengths.{sha2_category_1_lengths}
 use Rattle.slh_hash.specs.Sha2.{sha2_category_1}
@@ -25,3 +26,9 @@ returns-clause-values g c =
     let a = c.args.adrs.now in
     left_same (seeded (sha2_category_1 n m) n s) s (λ _ _. refl) (λ _ _. refl) c.args.sk_seed.now a.layer_adrs a.tree_adrs_low _
     (length c.args.digits.now) c.args.sig.now c.args.digits.now c.run_eight.new.sig c.run_eight.ensures.values
+
+pub overflow_mul-store-2 : goal.overflow_mul-store-2
+overflow_mul-store-2 g c = omega (arith, mul-le (8 * length c.args.digits.now) c.USIZE.result (8 * 67) 32 (omega arith) (omega (arith, c.USIZE.ensures)))
+
+pub slice_bounds-store-end : goal.slice_bounds-store-end
+slice_bounds-store-end g c = omega (arith, mul-le (8 * length c.args.digits.now) c.USIZE.result (8 * 67) 32 (omega arith) (omega (arith, c.USIZE.ensures)))

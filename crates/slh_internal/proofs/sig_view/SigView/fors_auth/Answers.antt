@@ -3,4 +3,4 @@ use Rattle.slh_internal.proofs.sig_view.SigView.fors_auth.Goals as goal
 
 pub value-requires : goal.value-requires
 value-requires g c =
-    part_fits c.args.z g.P.A.ArraySize.USIZE g.P.N.ArraySize.USIZE _ c.requires.height c.fors_siblings.ensures.len
+    part_fits c.args.z g.P.ForsParams.A g.P.N.ArraySize.USIZE _ c.requires.height c.fors_siblings.ensures.len

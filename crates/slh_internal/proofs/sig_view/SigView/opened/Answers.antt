@@ -3,4 +3,4 @@ use Rattle.slh_internal.proofs.sig_view.SigView.opened.Goals as goal
 
 pub piece-requires : goal.piece-requires
 piece-requires g c =
-    part_fits c.args.i g.P.K.ArraySize.USIZE c.opened_len.result _ c.requires (rw c.opened_len.ensures.value c.fors.ensures.len)
+    part_fits c.args.i g.P.ForsParams.K c.opened_len.result _ c.requires (rw c.opened_len.ensures.value c.fors.ensures.len)

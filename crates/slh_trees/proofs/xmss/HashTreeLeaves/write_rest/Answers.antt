@@ -19,7 +19,7 @@ loop-k-init g c = record {
 pub loop-k-preserved : goal.loop-k-preserved
 loop-k-preserved g c = record {
   leaves = rw (c.put_part.ensures.front, c.loop-k.invariant.leaves, joined_more, c.as_slice.ensures.value, c.wots_pk_gen-leaf.ensures.value, c.key_pair_of-at.ensures) refl;
-  cost = omega (arith, one_more c.loop-k.k (wots_pk_cost g.P.WotsSigLen.ArraySize.USIZE), c.loop-k.invariant.cost, c.wots_pk_gen-leaf.ensures.cost);
+  cost = omega (arith, one_more c.loop-k.k (wots_pk_cost g.P.WotsParams.WOTS_SIG_LEN), c.loop-k.invariant.cost, c.wots_pk_gen-leaf.ensures.cost);
 }
 
 pub returns-clause-leaves : goal.returns-clause-leaves

@@ -11,5 +11,5 @@ invariant-loop-k g l =
     let leaf = wots_pk K l.sk_seed l.self.layer_adrs l.self.tree_adrs_low in
     record {
       leaves : take (l.k * l.n) l.out ≡ joined (λ k. leaf (l.first + k)) l.k;
-      cost : l.steps ≡ l.initial.steps + l.k * wots_pk_cost g.P.WotsSigLen.ArraySize.USIZE;
+      cost : l.steps ≡ l.initial.steps + l.k * wots_pk_cost g.P.WotsParams.WOTS_SIG_LEN;
     }
