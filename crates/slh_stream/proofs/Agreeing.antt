@@ -1,6 +1,6 @@
 -- Refusals for a digest and for its message.
-use Rattle.std.proofs.Common.{◌≡◌, ℕ, ◌^◌, ◌≤◌, List, length, true, [], ◌∷◌, Option, Some, None, refl}
-use Rattle.std.proofs.lemmas.Bool.{le-ltb}
+use Rattle.std.proofs.Common.{◌≡◌, ℕ, ◌^◌, ◌<◌, ◌≤◌, List, length, true, [], ◌∷◌, Option, Some, None, refl}
+use Rattle.std.proofs.lemmas.Bool.{le-ltb, lt-ltb}
 use Rattle.std.proofs.lemmas.Slice.Eq.{bytes_eq-Decides}
 use Rattle.std.specs.Str.{bytes_eq}
 use Rattle.sha256_lanes.proofs.Digest.{length-sha256}
@@ -23,8 +23,11 @@ in_another_order None d (Some e) m r is_d is_m = rw is_d refl
 in_another_order None d None m None is_d is_m = rw (is_d, is_m) refl
 in_another_order None d None m (Some e) is_d is_m = rw (is_d, is_m) refl
 
-fits : (m : List ℕ) → length m ≤ 2 ^ 60 → message_refusal MessageTooLong m ≡ None
+pub fits : (m : List ℕ) → length m ≤ 2 ^ 60 → message_refusal MessageTooLong m ≡ None
 fits m short = rw (le-ltb (2 ^ 60) (length m) short) refl
+
+pub too_long : (m : List ℕ) → 2 ^ 60 < length m → message_refusal MessageTooLong m ≡ Some MessageTooLong
+too_long m more = rw (lt-ltb (2 ^ 60) (length m) more) refl
 
 pub answer_256 : (Z : Scheme) (key context m sig : List ℕ) → length m ≤ 2 ^ 60
     → verify_digest_error Z Sha256 key context (sha256 m) sig ≡ hash_verify_error Z Sha256 key context m sig

@@ -18,14 +18,12 @@ use crate::absorbing::{begin_tail, head};
 use crate::context::Context;
 use crate::digests::MAX_TAIL;
 use crate::hashing::{end_hash, hash_piece, mode_for};
-use crate::key_parts::secret_parts;
+use crate::key_parts::{opt_rand_or_seed, sign_slices};
 use crate::tail::Tail;
 use slh_core::nbytes::NBytes;
-use slh_core::params::{chain_sizes, forest_sizes};
 use slh_core::steps::Steps;
 use slh_dsa::{Error, Mode, ParameterSet, SigningKey};
 use slh_frames::MAX_MESSAGE;
-use slh_internal::sign::sign_message;
 use std::marker::Brand;
 use std::sync::ledger::{Blank, Ledger};
 
@@ -72,12 +70,7 @@ impl<'a, P: ParameterSet> DigestSigner<'a, P> {
             return Err(Error::Length);
         }
         SigningKey::<P>::check_sign(&[], ctx, opt_rand)?;
-        chain_sizes::<P>();
-        let parts = secret_parts(key);
-        let opt_rand = match opt_rand {
-            Some(bytes) => NBytes::<P::N>::exact(bytes),
-            None => parts.pk_seed.copy(),
-        };
+        let opt_rand = opt_rand_or_seed(key, opt_rand);
         Ok(DigestSigner {
             key,
             ctx: Context::new(ctx),
@@ -132,7 +125,6 @@ impl<'a, P: ParameterSet> DigestSigner<'a, P> {
             tail,
             ..
         } = self;
-        forest_sizes::<P>();
         if out.len() != P::SIG_LEN {
             return Err(Error::Length);
         }
@@ -140,19 +132,7 @@ impl<'a, P: ParameterSet> DigestSigner<'a, P> {
         let front = head(mode_for(&tail), ctx);
         let mut store = [0u8; MAX_TAIL];
         let end = end_hash(tail, &mut store);
-        let parts = secret_parts(key);
-        sign_message::<P, L>(
-            &parts.sk_seed,
-            &parts.sk_prf,
-            &parts.pk_seed,
-            &parts.pk_root,
-            &opt_rand,
-            &front,
-            ctx,
-            &store[..end],
-            out,
-            steps,
-        );
+        sign_slices::<P, L>(key, &opt_rand, &front, ctx, &store[..end], out, steps);
         Ok(())
     }
 

@@ -10,13 +10,11 @@ ghost use Rattle.slh_internal.specs.Signing.{signature_of};
 ghost use Rattle.slh_trees.specs.Refusals.{RefusedExactly};
 
 use crate::absorbing::head;
-use crate::key_parts::{public_parts, secret_parts};
-use slh_core::nbytes::NBytes;
-use slh_core::params::{chain_sizes, forest_sizes};
+use crate::key_parts::{opt_rand_or_seed, public_parts, sign_slices};
+use slh_core::params::forest_sizes;
 use slh_core::steps::Steps;
 use slh_dsa::{Error, Mode, ParameterSet, SigningKey, VerifyingKey};
 use slh_frames::{SHA256_IDENTIFIER, SHA512_IDENTIFIER};
-use slh_internal::sign::sign_message;
 use slh_internal::{SigView, check_root};
 use std::marker::Brand;
 use std::sync::ledger::{Blank, Ledger};
@@ -146,32 +144,16 @@ pub fn sign_digest_counted<P: ParameterSet, L: Ledger>(
     ensures cost { OnOk result (steps.new ≡ steps.old + slh_sign_cost P.scheme) }
     ensures free { OnErr result (steps.new ≡ steps.old) }
 {
-    forest_sizes::<P>();
     if out.len() != P::SIG_LEN {
         return Err(Error::Length);
     }
     check_digest(mode, digest.len())?;
     SigningKey::<P>::check_sign(&[], ctx, opt_rand)?;
-    let parts = secret_parts(key);
-    let opt_rand = match opt_rand {
-        Some(bytes) => NBytes::<P::N>::exact(bytes),
-        None => parts.pk_seed.copy(),
-    };
+    let opt_rand = opt_rand_or_seed(key, opt_rand);
     let mut store = [0u8; MAX_TAIL];
     let end = put_tail(mode, digest, &mut store);
     let front = head(mode, ctx);
-    sign_message::<P, L>(
-        &parts.sk_seed,
-        &parts.sk_prf,
-        &parts.pk_seed,
-        &parts.pk_root,
-        &opt_rand,
-        &front,
-        ctx,
-        &store[..end],
-        out,
-        steps,
-    );
+    sign_slices::<P, L>(key, &opt_rand, &front, ctx, &store[..end], out, steps);
     Ok(())
 }
 

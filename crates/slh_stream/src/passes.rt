@@ -16,10 +16,10 @@ ghost use Rattle.slh_trees.specs.Refusals.{RefusedExactly, message_refusal};
 
 use crate::absorbing::{begin_front, head};
 use crate::context::Context;
-use crate::key_parts::secret_parts;
+use crate::key_parts::{opt_rand_or_seed, secret_parts};
 use crate::pass_error::PassError;
 use slh_core::nbytes::NBytes;
-use slh_core::params::{MAX_DIGEST_LEN, chain_sizes, forest_sizes};
+use slh_core::params::{MAX_DIGEST_LEN, forest_sizes};
 use slh_core::pieces::MessageSuite;
 use slh_core::steps::Steps;
 use slh_dsa::{Error, Mode, ParameterSet, SigningKey};
@@ -79,12 +79,8 @@ impl<'a, P: ParameterSet + MessageSuite> FirstPass<'a, P> {
             ctx.now []) }
     {
         SigningKey::<P>::check_sign(&[], ctx, opt_rand)?;
-        chain_sizes::<P>();
         let parts = secret_parts(key);
-        let opt_rand = match opt_rand {
-            Some(bytes) => NBytes::<P::N>::exact(bytes),
-            None => parts.pk_seed.copy(),
-        };
+        let opt_rand = opt_rand_or_seed(key, opt_rand);
         let mac = begin_made::<P>(&parts.sk_prf, &opt_rand, ctx);
         Ok(FirstPass {
             key,
@@ -146,6 +142,31 @@ impl<'a, P: ParameterSet + MessageSuite> FirstPass<'a, P> {
             taken: 0,
         }
     }
+}
+
+// Writes the signature with R of what H_msg has absorbed.
+fn sign_absorbed<P: ParameterSet + MessageSuite, L: Ledger>(
+    key: &SigningKey<P>,
+    rand: &NBytes<P::N>,
+    digest: P::Digest,
+    out: &mut [u8],
+    steps: &mut Steps<L>,
+)
+    requires { length out.old ≡ signature_size P.scheme }
+    ensures value { (bytes : List ℕ) (opt_rand : Option (List ℕ)) (m : List ℕ)
+        → key.now ≡ bytes
+        → P.digests digest rand.now (part P.N.USIZE bytes 2) (part P.N.USIZE bytes 3) m
+        → rand.now ≡ P.suite.prf_msg (part P.N.USIZE bytes 1)
+        (unwrap_or opt_rand (part P.N.USIZE bytes 2)) m
+        → out.new ≡ signature_of P.scheme bytes opt_rand m }
+    ensures cost { steps.new ≡ steps.old + slh_sign_cost P.scheme }
+{
+    forest_sizes::<P>();
+    let parts = secret_parts(key);
+    let mut store = [0u8; MAX_DIGEST_LEN];
+    let hashed = &mut store[..P::DIGEST_LEN];
+    P::end_digest(digest, hashed);
+    sign_digest::<P, L>(&parts.sk_seed, &parts.pk_seed, rand, hashed, out, steps);
 }
 
 /// The second pass over a message: it makes the MAC again, and the digest that is signed.
@@ -221,18 +242,13 @@ impl<'a, P: ParameterSet + MessageSuite> SecondPass<'a, P> {
             digest,
             ..
         } = self;
-        forest_sizes::<P>();
         if out.len() != P::SIG_LEN {
             return Err(PassError::Length);
         }
         if P::end_mac(mac).as_slice() != rand.as_slice() {
             return Err(PassError::Changed);
         }
-        let parts = secret_parts(key);
-        let mut store = [0u8; MAX_DIGEST_LEN];
-        let hashed = &mut store[..P::DIGEST_LEN];
-        P::end_digest(digest, hashed);
-        sign_digest::<P, L>(&parts.sk_seed, &parts.pk_seed, &rand, hashed, out, steps);
+        sign_absorbed::<P, L>(key, &rand, digest, out, steps);
         Ok(())
     }
 
