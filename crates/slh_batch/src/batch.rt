@@ -1,6 +1,6 @@
 //! Batches of messages under one signature.
 ghost use Rattle.std.specs.Prelude.{◌≡◌, ◌≤◌, ◌↔◌, ◌^◌, ◌++◌, ◌∷◌, [], length};
-ghost use Rattle.std.specs.Prelude.{IfErr, IfOk, IsTrue, OnErr, OnOk};
+ghost use Rattle.std.specs.Prelude.{IfOk, IsTrue, OnErr, OnOk};
 ghost use Rattle.std.specs.Option.{option_copied, ForSome};
 ghost use Rattle.slh_frames.specs.Frames.{frame};
 ghost use Rattle.slh_internal.specs.Signing.{signature_of};
@@ -14,11 +14,10 @@ use crate::checking::{CONTEXT, ROOT_MESSAGE_LEN, root_message};
 use crate::error::BatchError;
 use crate::sealed::Sealed;
 use merkle_tree::{DIGEST_LEN, Levels, Sha256, TreeHash};
-use slh_core::params::chain_sizes;
-use slh_dsa::{ArrayLengths, Error, Signature, SigningKey, check_opt_rand};
+use slh_dsa::{ArrayLengths, Mode, ParameterSet, Signature, SigningKey, check_opt_rand};
 use slh_frames::MAX_MESSAGE;
-use std::alloc::Global;
-use std::marker::Model;
+use std::alloc::{AllocError, Global};
+use std::marker::{Model, PhantomData};
 
 /// The largest number of messages of a batch, 2^20.
 pub const MAX_MESSAGES: u32 = 1 << 20;
@@ -115,7 +114,7 @@ impl Batch {
 
     /// Signs the number and the root of the messages. Each node is hashed once. Where no `opt_rand`
     /// is given the public seed stands for it. `Empty`; `Randomizer`; `Memory`.
-    pub fn seal<P: ArrayLengths>(
+    pub fn seal<P: ParameterSet>(
         self,
         alloc: Global,
         key: &SigningKey<P>,
@@ -134,7 +133,11 @@ impl Batch {
         let levels = Levels::<Sha256>::over(leaves)?;
         let message = root_message(levels.len() as u32, levels.root());
         let signature = sign_root(alloc, key, &message, opt_rand)?;
-        Ok(Sealed { levels, signature })
+        Ok(Sealed {
+            levels,
+            signature,
+            set: PhantomData,
+        })
     }
 
     /// Seals the batch again by the signature of an earlier seal of the same digests, without a
@@ -151,7 +154,8 @@ impl Batch {
         let leaves = self.some_leaves()?;
         Ok(Sealed {
             levels: Levels::over(leaves)?,
-            signature,
+            signature: signature.into_array().into_vec(),
+            set: PhantomData,
         })
     }
 
@@ -169,23 +173,19 @@ impl Batch {
     }
 }
 
-// The signature of a batch's root. `Memory`.
-fn sign_root<P: ArrayLengths>(
+// The signature of a batch's root.
+fn sign_root<P: ParameterSet>(
     alloc: Global,
     key: &SigningKey<P>,
     message: &[u8; ROOT_MESSAGE_LEN],
     opt_rand: Option<&[u8]>,
-) -> Result<Signature<P>, BatchError>
+) -> Result<Vec<u8>, AllocError>
     requires { ForSome (option_copied opt_rand) (λ bytes. length bytes ≡ P.N.USIZE) }
-    ensures memory { IfErr result (λ e. e ≡ Memory) }
-    ensures value { let opt_rand = option_copied opt_rand.entry in
-        IfOk result (λ signature. signature
+    ensures { let opt_rand = option_copied opt_rand.entry in
+        IfOk result (λ signature. signature.items
         ≡ signature_of P.scheme key.now opt_rand (frame batch_context message.now)) }
 {
-    chain_sizes::<P>();
-    match key.try_sign_with_context(alloc, message, CONTEXT, opt_rand) {
-        Ok(signature) => Ok(signature),
-        Err(Error::Memory) => Err(BatchError::Memory),
-        Err(_) => unreachable!(),
-    }
+    let mut signature = vec![in alloc; 0u8; P::SIG_LEN]?;
+    key.sign_checked_into(Mode::Pure, CONTEXT, message, opt_rand, &mut signature);
+    Ok(signature)
 }

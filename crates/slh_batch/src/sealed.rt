@@ -14,24 +14,25 @@ use crate::checking::{ROOT_MESSAGE_LEN, root_message};
 use crate::error::BatchError;
 use crate::parts::NUMBERS_LEN;
 use merkle_tree::{DIGEST_LEN, Levels, Sha256, path_len};
-use slh_dsa::{ArrayLengths, Signature};
+use slh_dsa::ParameterSet;
 use std::alloc::{AllocError, Global};
-use std::marker::Model;
+use std::marker::{Model, PhantomData};
 
 /// A signed batch. Clauses see it as the list of its messages' digests and the signature.
 #[derive(Drop)]
-pub struct Sealed<P: ArrayLengths> {
+pub struct Sealed<P: ParameterSet> {
     pub(crate) levels: Levels<Sha256>,
-    pub(crate) signature: Signature<P>,
+    pub(crate) signature: Vec<u8>,
+    pub(crate) set: PhantomData<P>,
 }
 
-impl<P: ArrayLengths> Model for Sealed<P> {
+impl<P: ParameterSet> Model for Sealed<P> {
     ghost use Rattle.std.specs.Prelude.{◌≤◌, ◌^◌, length};
     ghost use Rattle.slh_batch.specs.Sealing.{SealedBatch};
 
     ghost Value = { SealedBatch };
 
-    ghost view = { λ s. record { leaves = s.levels; signature = s.signature } };
+    ghost view = { λ s. record { leaves = s.levels; signature = s.signature.items } };
 
     ghost invariant = { λ s. (1 ≤ length s.levels) × (length s.levels ≤ 2 ^ 20) };
 }
@@ -57,7 +58,7 @@ fn write_receipt(
     Ok(out)
 }
 
-impl<P: ArrayLengths> Sealed<P> {
+impl<P: ParameterSet> Sealed<P> {
     /// How many messages it has.
     pub fn len(&self) -> usize
         ensures value { result ≡ length self.now.leaves }
@@ -74,11 +75,11 @@ impl<P: ArrayLengths> Sealed<P> {
         self.levels.root()
     }
 
-    /// The signature of their number and root, as each receipt has it.
-    pub fn signature(&self) -> &Signature<P>
+    /// The bytes of the signature of their number and root, as each receipt has it.
+    pub fn signature(&self) -> &[u8]
         ensures { result.now ≡ self.now.signature }
     {
-        &self.signature
+        self.signature.as_slice()
     }
 
     /// The head, which [`Head::open`] verifies once for all messages: their number, the root and

@@ -9,7 +9,7 @@ ghost use Rattle.slh_sets.specs.Sets.{scheme_for};
 ghost use Rattle.slh_trees.specs.Refusals.{RefusedOrNoMemory};
 
 use slh_batch::{Batch, BatchError, Sealed};
-use slh_dsa::{ArrayLengths, SigningKey};
+use slh_dsa::{ParameterSet, SigningKey};
 use slh_sets::{OnSet, Set, SetSuite};
 use std::alloc::Global;
 
@@ -50,7 +50,7 @@ struct Sealing<'a, R> {
 }
 
 // Hands out the head of a signed batch.
-fn hand_out_head<P: ArrayLengths, R: Receipts>(
+fn hand_out_head<P: ParameterSet, R: Receipts>(
     alloc: Global,
     sealed: &Sealed<P>,
     receipts: &mut R,
@@ -70,7 +70,7 @@ fn hand_out_head<P: ArrayLengths, R: Receipts>(
 }
 
 // Hands out the head of a signed batch, and each receipt.
-fn hand_out<P: ArrayLengths, R: Receipts>(
+fn hand_out<P: ParameterSet, R: Receipts>(
     alloc: Global,
     sealed: &Sealed<P>,
     receipts: &mut R,
@@ -93,7 +93,7 @@ fn hand_out<P: ArrayLengths, R: Receipts>(
 }
 
 // Signs a batch by the bytes of a key.
-fn sealed_by<P: ArrayLengths>(
+fn sealed_by<P: ParameterSet>(
     alloc: Global,
     key: &[u8],
     batch: Batch,

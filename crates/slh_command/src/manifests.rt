@@ -11,7 +11,7 @@ ghost use Rattle.slh_manifest.specs.declared.error.BuildError.TheVariants.{Memor
 ghost use Rattle.slh_sets.specs.Sets.{scheme_for};
 ghost use Rattle.slh_trees.specs.Refusals.{RefusedOrNoMemory};
 
-use slh_dsa::{ArrayLengths, ParameterSet, SigningKey, VerifyingKey};
+use slh_dsa::{ParameterSet, SigningKey, VerifyingKey};
 use slh_manifest::{BuildError, Builder, CheckError, EntryRef, Manifest, Store, check};
 use slh_sets::{OnSet, Set, SetSuite};
 use std::alloc::Global;
@@ -26,7 +26,7 @@ struct Sealing<'a> {
 }
 
 // Signs entries by the bytes of a key.
-fn seal_by<P: ArrayLengths>(
+fn seal_by<P: ParameterSet>(
     alloc: Global,
     key: &[u8],
     entries: Builder,

@@ -24,8 +24,7 @@ use crate::error::BuildError;
 use crate::measure::{Found, measure};
 use crate::store::Store;
 use line_serve::ByteString;
-use slh_core::params::chain_sizes;
-use slh_dsa::{ArrayLengths, Error, Signature, SigningKey, check_opt_rand};
+use slh_dsa::{Mode, ParameterSet, SigningKey, check_opt_rand};
 use std::alloc::{AllocError, Global};
 use std::marker::Model;
 
@@ -137,7 +136,7 @@ impl Builder {
     /// The manifest of the entries and a signature of their body that was made elsewhere, as
     /// [`Builder::body`] says. Whether it is one isn't checked: who opens the manifest checks it.
     /// `Empty`; `Signature`; `Memory`.
-    pub fn with_signature<P: ArrayLengths>(
+    pub fn with_signature<P: ParameterSet>(
         &self,
         alloc: Global,
         signature: &[u8],
@@ -160,7 +159,7 @@ impl Builder {
     /// The manifest of the entries: their body, signed in mode `Pure` (FIPS 205, algorithm 22)
     /// under the context `slh-manifest`. Where no `opt_rand` is given the public seed stands for
     /// it. `Empty`; `Randomizer`; `Memory`.
-    pub fn seal<P: ArrayLengths>(
+    pub fn seal<P: ParameterSet>(
         self,
         alloc: Global,
         key: &SigningKey<P>,
@@ -177,7 +176,7 @@ impl Builder {
         check_opt_rand::<P, BuildError>(opt_rand, BuildError::Randomizer)?;
         let mut manifest = body(alloc, &self.entries)?;
         let signature = sign_body(alloc, key, &manifest, opt_rand)?;
-        manifest.extend_from_slice(signature.as_slice())?;
+        manifest.extend_from_slice(&signature)?;
         Ok(manifest)
     }
 
@@ -224,26 +223,22 @@ impl Builder {
     }
 }
 
-// The signature of a body. `Memory`.
-fn sign_body<P: ArrayLengths>(
+// The signature of a body.
+fn sign_body<P: ParameterSet>(
     alloc: Global,
     key: &SigningKey<P>,
     body: &[u8],
     opt_rand: Option<&[u8]>,
-) -> Result<Signature<P>, BuildError>
+) -> Result<Vec<u8>, AllocError>
     requires body { length body.now ≤ 2 ^ 60 }
     requires opt_rand { ForSome (option_copied opt_rand) (λ bytes. length bytes ≡ P.N.USIZE) }
-    ensures memory { IfErr result (λ e. e ≡ Memory) }
-    ensures value { let opt_rand = option_copied opt_rand.entry in
-        IfOk result (λ signature. signature
+    ensures { let opt_rand = option_copied opt_rand.entry in
+        IfOk result (λ signature. signature.items
         ≡ signature_of P.scheme key.now opt_rand (frame manifest_context body.now)) }
 {
-    chain_sizes::<P>();
-    match key.try_sign_with_context(alloc, body, CONTEXT, opt_rand) {
-        Ok(signature) => Ok(signature),
-        Err(Error::Memory) => Err(BuildError::Memory),
-        Err(_) => unreachable!(),
-    }
+    let mut signature = vec![in alloc; 0u8; P::SIG_LEN]?;
+    key.sign_checked_into(Mode::Pure, CONTEXT, body, opt_rand, &mut signature);
+    Ok(signature)
 }
 
 // The name of the last entry, or the empty one.

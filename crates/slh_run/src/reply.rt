@@ -9,7 +9,7 @@ ghost use Rattle.slh_audit.specs.declared.evidence.Verdict.TheVariants.{Foreign}
 use crate::request::read_job;
 use line_serve::{ByteString, push_hex, push_hex_line};
 use slh_audit::{Evidence, Verdict};
-use slh_dsa::{ArrayLengths, ParameterSet};
+use slh_dsa::ParameterSet;
 use slh_jobs::{Answer, Error, Job, push_evidence, run_set};
 use slh_line::{Commands, LineError};
 use std::alloc::{AllocError, Global};
@@ -91,7 +91,7 @@ fn job_line<P: ParameterSet>(alloc: Global, job: &Job) -> Result<ByteString, Lin
 impl Commands for Jobs {
     ghost answers = { job_answers };
 
-    fn answer<P: ArrayLengths>(
+    fn answer<P: ParameterSet>(
         &self,
         alloc: Global,
         fields: &[&[u8]],

@@ -4,11 +4,11 @@ ghost use Rattle.slh_core.specs.Parameters.{Scheme};
 ghost use Rattle.slh_sets.specs.Sets.{name_of, scheme_for};
 
 use crate::set::Set;
-use slh_dsa::{ArrayLengths, Sha2_128f, Sha2_128s, Sha2_192f, Sha2_192s, Sha2_256f, Sha2_256s};
+use slh_dsa::{ParameterSet, Sha2_128f, Sha2_128s, Sha2_192f, Sha2_192s, Sha2_256f, Sha2_256s};
 use slh_hash::ResumableSuite;
 
 /// What each of the sets is as a type.
-pub trait SetSuite: ArrayLengths + ResumableSuite {}
+pub trait SetSuite: ParameterSet + ResumableSuite {}
 
 impl SetSuite for Sha2_128s {}
 

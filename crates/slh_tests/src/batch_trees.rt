@@ -1,8 +1,8 @@
 //! Trees and paths of batches that another program computed.
 use crate::digests::{has_digest, is_digest};
 use crate::page_of_batches::{batch_of, sealed};
-use slh_batch::{BatchError, Sealed};
-use slh_dsa::Sha2_128f;
+use slh_batch::Sealed;
+use slh_dsa::{Sha2_128f, Signature};
 use std::alloc::Global;
 
 const NUMBERS: [&[u8]; 9] = [
@@ -28,7 +28,7 @@ fn fronts(alloc: Global, batch: &Sealed<Sha2_128f>) -> Option<Vec<u8>> {
     let mut fronts = Vec::new(alloc);
     for i in 0..batch.len() as u32 {
         let receipt = batch.receipt(alloc, i).ok()?;
-        let front = receipt.strip_suffix(batch.signature().as_slice())?;
+        let front = receipt.strip_suffix(batch.signature())?;
         fronts.extend_from_slice(front).ok()?;
     }
     Some(fronts)
@@ -41,19 +41,20 @@ fn has_row(alloc: Global, batch: &Sealed<Sha2_128f>, row: &str) -> Option<bool> 
 }
 
 // The batch of these messages, sealed by the signature of an earlier seal.
-fn sealed_again(alloc: Global, messages: &[&[u8]]) -> Result<Sealed<Sha2_128f>, BatchError> {
-    let earlier = sealed(alloc, messages)?;
-    let signature = earlier.signature().clone(alloc)?;
-    batch_of(alloc, messages)?.with_signature(signature)
+fn sealed_again(alloc: Global, messages: &[&[u8]]) -> Option<Sealed<Sha2_128f>> {
+    let earlier = sealed(alloc, messages).ok()?;
+    let signature = Signature::try_from(alloc, earlier.signature()).ok()?;
+    batch_of(alloc, messages)
+        .ok()?
+        .with_signature(signature)
+        .ok()
 }
 
 // Whether the batch of the numbers up to one has its row, each time that it is sealed.
 fn have_row(alloc: Global, last: usize, row: &str) -> Option<bool> {
     let messages = NUMBERS.get(..=last)?;
-    let (first, again) = (
-        sealed(alloc, messages).ok()?,
-        sealed_again(alloc, messages).ok()?,
-    );
+    let first = sealed(alloc, messages).ok()?;
+    let again = sealed_again(alloc, messages)?;
     Some(has_row(alloc, &first, row)? && has_row(alloc, &again, row)?)
 }
 
