@@ -1,8 +1,7 @@
-use Rattle.std.proofs.lemmas.Grind.{common_steps}
-use Rattle.std.proofs.Common.{rules, arith, ◌≡◌, ◌+◌, ◌-◌, ◌/◌, ◌%◌, ◌^◌, length, take, add-one, refl}
-use Rattle.std.proofs.lemmas.List.{take_more_set}
+use Rattle.std.proofs.Common.{rules, arith, sym, ◌∙◌, ◌≡◌, ◌+◌, ◌-◌, ◌/◌, ◌%◌, ◌^◌, length, take, add-one, refl}
+use Rattle.std.proofs.lemmas.List.{take_all, take_more_set}
 use Rattle.slh_core.specs.Bytes.{number_of}
-use Rattle.slh_core.specs.Digits.{digit, digits, listed}
+use Rattle.slh_core.specs.Digits.{digit, listed}
 use Rattle.slh_core.proofs.DigitSteps.{digits_below, byte_in, digit_out, digits_below, byte_left, digit_small, rest_of}
 use Rattle.slh_core.proofs.digits.base_2b.Goals as goal
 
@@ -36,7 +35,13 @@ loop-slot-preserved c =
       done = rw (take_more_set c.loop-slot.out c.loop-slot.slot-index (c.loop-bits.total / 2 ^ rest) (omega arith), c.loop-slot.invariant.done, out, add-one) refl;
     }
 
+pub returns-clause-value : goal.returns-clause-value
+returns-clause-value c =
+    let last : c.loop-slot.slot-index ≡ length c.args.out.now = omega arith in
+    sym (take_all (length c.args.out.now) c.loop-slot.out (omega arith)) ∙ rw last at c.loop-slot.invariant.done
+
 pub returns-clause-below : goal.returns-clause-below
-returns-clause-below c =
-    λ i h. let all : c.loop-slot.out ≡ digits c.args.x.now c.args.b (length c.args.out.now) = grind (arith, common_steps) in
+returns-clause-below c = λ i h.
+    let last : c.loop-slot.slot-index ≡ length c.args.out.now = omega arith in
+    let all = sym (take_all (length c.args.out.now) c.loop-slot.out (omega arith)) ∙ rw last at c.loop-slot.invariant.done in
     rw all (digits_below c.args.x.now c.args.b (length c.args.out.now) i (omega arith))

@@ -1,5 +1,6 @@
 use Rattle.std.proofs.Common.{◌≡◌, ◌∙◌, ◌*◌, drop, length-append, length-drop, length-take, take, ◌≤◌, sym, ℕ, ap, arith, length}
 use Rattle.slh_core.proofs.ActiveSteps.{count_below-all, in_order, lacks-all, lacks-next, lacks-zero, nothing_held, held_next, reached_below, checked_chain-start}
+use Rattle.std.proofs.lemmas.List.{length-take-le}
 use Rattle.std.proofs.lemmas.Nat.{mul-le}
 use Rattle.slh_core.specs.Bytes.{part}
 use Rattle.slh_core.specs.Parameters.{chain_count}
@@ -39,6 +40,20 @@ loop-q-preserved g c =
           (rw (shown, c.at_step-at.ensures, c.from.ensures, ← c.USIZE-n.ensures) at c.f_each.ensures.value);
       cost = omega (arith, i.cost, lacks-next q w, c.enter.ensures.counted, c.f_each.ensures.step, shown);
     }
+
+pub slice_bounds-row-end : goal.slice_bounds-row-end
+slice_bounds-row-end g c =
+    let m = c.enter.new.self.count in
+    let most = mul-le m c.USIZE-n.result 67 32 (omega (arith, c.enter.ensures.few, c.requires.count, c.requires.small)) (omega (arith, c.USIZE-n.ensures, c.requires.small)) in
+    sym (length-take-le (m * c.USIZE-n.result) c.enter.new.values (omega (arith, most, c.enter.auto.values, c.loop-q.invariant.room)))
+
+pub f_each-requires-clause-room : goal.f_each-requires-clause-room
+f_each-requires-clause-room g c =
+    let m = c.enter.new.self.count in
+    let few : m ≤ length c.enter.new.self.numbers = omega (arith, c.enter.ensures.few, c.enter.ensures.active.numbers_len, c.requires.count, c.requires.small) in
+    let most = mul-le m c.USIZE-n.result 67 32 (omega (arith, c.enter.ensures.few, c.requires.count, c.requires.small)) (omega (arith, c.USIZE-n.ensures, c.requires.small)) in
+    rw (length-take-le m c.enter.new.self.numbers few, ← c.USIZE-n.ensures)
+    (length-take-le (m * c.USIZE-n.result) c.enter.new.values (omega (arith, most, c.enter.auto.values, c.loop-q.invariant.room)))
 
 pub write_to-requires-clause-whole : goal.write_to-requires-clause-whole
 write_to-requires-clause-whole g c =

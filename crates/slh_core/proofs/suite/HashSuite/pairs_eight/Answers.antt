@@ -1,12 +1,13 @@
-use Rattle.std.proofs.Common.{◌≡◌, ◌≢◌, ◌<◌, ◌≤◌, ◌+◌, ◌*◌, ◌∙◌, ℕ, [], ap, arith, rules, inl, inr, length, refl, slice_index}
+use Rattle.std.proofs.Common.{◌≡◌, ◌≢◌, ◌<◌, ◌+◌, ◌*◌, ◌∙◌, ℕ, [], ap, arith, rules, inl, inr, length, refl, slice_index, sym}
 use Rattle.std.proofs.lemmas.Bool.{cases_lt}
+use Rattle.std.proofs.lemmas.List.{length-replicate, length-take, length-take-le}
 use Rattle.std.proofs.lemmas.Nat.{mul-le}
 use Rattle.slh_core.specs.Bytes.{joined}
 use Rattle.slh_core.specs.Suite.{HasLength}
 use Rattle.slh_core.specs.Parameters.{chain_count}
 use Rattle.slh_core.specs.Wots.{wots_pk}
 use Rattle.slh_core.proofs.Chains.{key_of_ends, values_none}
-use Rattle.slh_core.proofs.Joins.{joined_more}
+use Rattle.slh_core.proofs.Joins.{joined_more, part_fits, whole_joined}
 use Rattle.slh_core.proofs.suite.HashSuite.pairs_eight.Goals.{then-k-signer, else-k-signer}
 use Rattle.slh_core.proofs.suite.HashSuite.pairs_eight.Goals as goal
 
@@ -15,11 +16,27 @@ overflow_mul-store g c =
     let most = mul-le (length c.args.digits.now) c.USIZE-n.result 67 32 (omega (arith, c.requires.count, c.requires.small)) (omega (arith, c.USIZE-n.ensures, c.requires.small)) in
     let small : length c.args.digits.now * c.USIZE-n.result < 18446744073709551616 = omega (arith, most) in search rules
 
+pub slice_bounds-ends-end : goal.slice_bounds-ends-end
+slice_bounds-ends-end g c =
+    let most = mul-le (length c.args.digits.now) c.USIZE-n.result 67 32 (omega (arith, c.requires.count, c.requires.small)) (omega (arith, c.USIZE-n.ensures, c.requires.small)) in
+    sym (length-take-le (length c.args.digits.now * c.USIZE-n.result) _ (omega (arith, most, length-replicate {A = ℕ})))
+
+pub run_chains-requires-clause-room : goal.run_chains-requires-clause-room
+run_chains-requires-clause-room g c =
+    let most = mul-le (length c.args.digits.now) c.USIZE-n.result 67 32 (omega (arith, c.requires.count, c.requires.small)) (omega (arith, c.USIZE-n.ensures, c.requires.small)) in
+    let long : length c.if-k-signer.asked.now ≡ length c.args.digits.now = elim c.if-k-signer.branch [
+      | then-k-signer v ↦ rw v.asked-is refl
+      | else-k-signer v ↦ rw v.asked-is c.no_digits-none.ensures.len
+    ] in
+    rw (long, ← c.USIZE-n.ensures) (omega (arith, most, c.loop-k.auto.ends, length-take {A = ℕ}, length-replicate {A = ℕ}))
+
+pub t-key-requires : goal.t-key-requires
+t-key-requires g c =
+    omega (arith, c.run_chains.auto.ends, c.loop-k.auto.ends, length-take {A = ℕ}, length-replicate {A = ℕ})
+
 pub put_part-requires-clause-fits : goal.put_part-requires-clause-fits
 put_part-requires-clause-fits g c =
-    let n = c.USIZE-n.result in
-    let fits : (c.loop-k.k + 1) * n ≤ 8 * n = mul-le (c.loop-k.k + 1) n 8 n (omega arith) (omega arith) in
-    omega (arith, fits, c.USIZE-n.ensures, c.requires.room)
+    part_fits c.loop-k.k 8 c.USIZE-n.result _ (omega arith) (rw c.USIZE-n.ensures (omega (arith, c.requires.room)))
 
 pub loop-k-init : goal.loop-k-init
 unfolding joined
@@ -76,3 +93,7 @@ loop-k-preserved g c =
       ];
       cost = let ran = c.run_chains.ensures.cost in omega (arith, c.t-key.ensures.step, ran, i.cost, long);
     }
+
+pub returns-clause-keys : goal.returns-clause-keys
+returns-clause-keys g c =
+    whole_joined _ c.USIZE-n.result 8 c.loop-k.k c.loop-k.out (omega arith) (rw c.USIZE-n.ensures (omega (arith, c.requires.room))) c.loop-k.invariant.keys
