@@ -1,7 +1,7 @@
 -- Digits come out of a byte string from its front.
-use Rattle.std.proofs.Common.{◌≡◌, ℕ, zero, suc, ◌+◌, ◌-◌, ◌*◌, ◌/◌, ◌%◌, ◌^◌, ◌<◌, ◌≤◌, List, [], ◌∷◌, length, take, get_or, arith, refl, subst, add-zero, length-append, inl, inr}
+use Rattle.std.proofs.Common.{◌≡◌, ℕ, zero, suc, ◌+◌, ◌-◌, ◌*◌, ◌/◌, ◌%◌, ◌^◌, ◌<◌, ◌≤◌, List, [], ◌∷◌, length, take, get_or, arith, refl, subst, add-zero, append_assoc, length-append, inl, inr, slice_set, ◌++◌}
 use Rattle.std.proofs.lemmas.Bool.{cases_lt}
-use Rattle.std.proofs.lemmas.List.{get_or_append_left, get_or-append_right, get_or_at}
+use Rattle.std.proofs.lemmas.List.{get_or_append_left, get_or-append_right, get_or_at, length-set, take_more_set}
 use Rattle.std.proofs.lemmas.List.Sums.{sum_by-cons}
 use Rattle.std.proofs.lemmas.Int.Digits.{number_more}
 use Rattle.std.proofs.lemmas.Nat.{mod-pow-add, div-mul-add, mod-mul-add, shr-shr, field_of, mod_below, pow_pos, one_shl, and_mask}
@@ -11,6 +11,7 @@ use Rattle.std.proofs.Math.Nat.{mul-le-mul_left}
 use Rattle.slh_core.specs.Bytes.{number_of}
 use Rattle.slh_core.specs.Digits.{digit, listed, digits, checksum, wots_digits}
 use Rattle.slh_core.specs.Parameters.{bytes_for, chain_count}
+use Rattle.slh_core.proofs.Joins.{take_front}
 
 -- one byte more is held
 pub byte_in : (x : List ℕ) (i bits : ℕ) → i < length x → get_or x i 0 < 256 → number_of (take i x) % 2 ^ bits * 256 + get_or x i 0 ≡ number_of (take (i + 1) x) % 2 ^ (bits + 8)
@@ -100,6 +101,18 @@ pub length-wots_digits : (n : ℕ) (m : List ℕ) → length (wots_digits n m) �
 unfolding wots_digits
 length-wots_digits n m =
     rw (length-append (digits m 4 (2 * n)) _, length-listed (digit m 4 (2 * n)) (2 * n)) refl
+
+-- digits in the front of a row, and three more that are put behind them
+pub three_more : (ds rest : List ℕ) (k a b c : ℕ) → length ds ≡ k → 3 ≤ length rest
+    → take (k + 3) (slice_set (slice_set (slice_set (ds ++ rest) k a) (k + 1) b) (k + 2) c) ≡ ds ++ a ∷ b ∷ c ∷ []
+three_more ds rest k a b c size room =
+    let row = ds ++ rest in
+    let one = slice_set row k a in
+    let two = slice_set one (k + 1) b in
+    let long : k + 3 ≤ length row = omega (arith, length-append ds rest, size, room) in
+    let third : k + 3 ≡ k + 2 + 1 = omega arith in
+    let second : k + 2 ≡ k + 1 + 1 = omega arith in
+    rw (third, take_more_set two (k + 2) c (omega (arith, length-set {A = ℕ}, long)), second, take_more_set one (k + 1) b (omega (arith, length-set {A = ℕ}, long)), take_more_set row k a (omega (arith, long)), take_front k ds rest size, append_assoc, append_assoc) refl
 
 -- what all digits of a message say together
 pub wots_digits-sum : (n : ℕ) (m : List ℕ) → sum (wots_digits n m) ≤ 15 * chain_count n
