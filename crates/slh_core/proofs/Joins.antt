@@ -106,11 +106,6 @@ joined_front n (suc k) xs =
 pub joined_parts : (n k : ℕ) (xs : List ℕ) → length xs ≡ k * n → joined (part n xs) k ≡ xs
 joined_parts n k xs size = joined_front n k xs ∙ take_all (k * n) xs (omega (arith, size))
 
--- a part stands within a whole of equal parts
-pub part_fits : (c count n size : ℕ) → c < count → size ≡ count * n → (c + 1) * n ≤ size
-part_fits c count n size below whole =
-    rw whole (mul-le (c + 1) n count n (omega arith) (omega arith))
-
 -- when all parts are put in they are the whole
 pub whole_joined : (f : ℕ → List ℕ) (n count at : ℕ) (out : List ℕ) → at ≡ count → length out ≡ count * n → take (at * n) out ≡ joined f at → out ≡ joined f count
 whole_joined f n count at out last size front =

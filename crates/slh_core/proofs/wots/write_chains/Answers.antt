@@ -3,7 +3,7 @@ use Rattle.std.proofs.lemmas.Grind.{common_steps}
 use Rattle.std.proofs.lemmas.List.{take_all}
 use Rattle.slh_core.specs.Parameters.{chain_count}
 use Rattle.slh_core.specs.Wots.{chain_values}
-use Rattle.slh_core.proofs.Joins.{joined_more, part_fits, whole_joined}
+use Rattle.slh_core.proofs.Joins.{joined_more, whole_joined}
 use Rattle.slh_core.proofs.wots.write_chains.Goals as goal
 
 pub loop-c-preserved : goal.loop-c-preserved
@@ -11,10 +11,6 @@ loop-c-preserved g c = record {
   values = rw (c.put_part.ensures.front, c.loop-c.invariant.values, joined_more, c.as_slice.ensures.value, c.own_chain-value.ensures.value, c.from.ensures) refl;
   cost = grind (arith, common_steps);
 }
-
-pub put_part-requires-clause-fits : goal.put_part-requires-clause-fits
-put_part-requires-clause-fits g c =
-    part_fits c.loop-c.c (length c.args.digits.now) c.USIZE-n.result _ (omega arith) (rw c.USIZE-n.ensures (omega (arith, c.requires.room)))
 
 pub returns-clause-value : goal.returns-clause-value
 unfolding chain_values

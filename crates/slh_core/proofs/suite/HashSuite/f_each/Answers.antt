@@ -1,6 +1,6 @@
 use Rattle.std.proofs.Common.{◌+◌, ◌*◌, ◌++◌, ◌∙◌, List, ℕ, arith, length, refl, slice_index}
 use Rattle.slh_core.specs.Bytes.{joined, part}
-use Rattle.slh_core.proofs.Joins.{drop_later, joined_more, part_fits, part_later, whole_joined}
+use Rattle.slh_core.proofs.Joins.{drop_later, joined_more, part_later, whole_joined}
 use Rattle.slh_core.proofs.suite.HashSuite.f_each.Goals as goal
 
 pub loop-k-preserved : goal.loop-k-preserved
@@ -18,14 +18,6 @@ loop-k-preserved g c =
       rest = c.put_part.ensures.rest ∙ drop_later c.loop-k.values old (k * m) ((k + 1) * m) (omega arith) i.rest;
       cost = omega (arith, c.f-next.ensures.step);
     }
-
-pub part_of-value-requires-clause-fits : goal.part_of-value-requires-clause-fits
-part_of-value-requires-clause-fits g c =
-    part_fits c.loop-k.k (length c.args.numbers.now) g.Self.N.ArraySize.USIZE _ (omega arith) (omega (arith, c.requires.room))
-
-pub put_part-requires-clause-fits : goal.put_part-requires-clause-fits
-put_part-requires-clause-fits g c =
-    part_fits c.loop-k.k (length c.args.numbers.now) c.USIZE-n.result _ (omega arith) (rw c.USIZE-n.ensures (omega (arith, c.requires.room)))
 
 pub returns-clause-value : goal.returns-clause-value
 returns-clause-value g c =

@@ -1,4 +1,4 @@
-use Rattle.std.proofs.Common.{◌≡◌, ◌≢◌, ◌<◌, ◌+◌, ◌*◌, ◌∙◌, ℕ, [], ap, arith, rules, inl, inr, length, refl, slice_index, sym}
+use Rattle.std.proofs.Common.{◌≡◌, ◌≢◌, ◌<◌, ◌≤◌, ◌+◌, ◌*◌, ◌∙◌, ℕ, [], ap, arith, rules, inl, inr, length, refl, slice_index, sym}
 use Rattle.std.proofs.lemmas.Bool.{cases_lt}
 use Rattle.std.proofs.lemmas.List.{length-replicate, length-take, length-take-le}
 use Rattle.std.proofs.lemmas.Nat.{mul-le}
@@ -7,7 +7,7 @@ use Rattle.slh_core.specs.Suite.{HasLength}
 use Rattle.slh_core.specs.Parameters.{chain_count}
 use Rattle.slh_core.specs.Wots.{wots_pk}
 use Rattle.slh_core.proofs.Chains.{key_of_ends, values_none}
-use Rattle.slh_core.proofs.Joins.{joined_more, part_fits, whole_joined}
+use Rattle.slh_core.proofs.Joins.{joined_more, whole_joined}
 use Rattle.slh_core.proofs.suite.HashSuite.pairs_eight.Goals.{then-k-signer, else-k-signer}
 use Rattle.slh_core.proofs.suite.HashSuite.pairs_eight.Goals as goal
 
@@ -36,7 +36,9 @@ t-key-requires g c =
 
 pub put_part-requires-clause-fits : goal.put_part-requires-clause-fits
 put_part-requires-clause-fits g c =
-    part_fits c.loop-k.k 8 c.USIZE-n.result _ (omega arith) (rw c.USIZE-n.ensures (omega (arith, c.requires.room)))
+    let n = c.USIZE-n.result in
+    let fits : (c.loop-k.k + 1) * n ≤ 8 * n = mul-le (c.loop-k.k + 1) n 8 n (omega arith) (omega arith) in
+    omega (arith, fits, c.USIZE-n.ensures, c.requires.room)
 
 pub loop-k-init : goal.loop-k-init
 unfolding joined

@@ -1,10 +1,6 @@
 use Rattle.std.proofs.Common.{arith, length, refl}
-use Rattle.slh_core.proofs.Joins.{joined_more, part_fits, whole_joined}
+use Rattle.slh_core.proofs.Joins.{joined_more, whole_joined}
 use Rattle.slh_core.proofs.suite.HashSuite.prf_each.Goals as goal
-
-pub put_part-requires-clause-fits : goal.put_part-requires-clause-fits
-put_part-requires-clause-fits g c =
-    part_fits c.loop-k.k (length c.args.numbers.now) c.USIZE-n.result _ (omega arith) (rw c.USIZE-n.ensures (omega (arith, c.requires)))
 
 pub loop-k-preserved : goal.loop-k-preserved
 loop-k-preserved g c = record {
