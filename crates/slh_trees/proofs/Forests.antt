@@ -1,7 +1,7 @@
 -- The opened secrets of a forest lead to its key.
-use Rattle.std.proofs.Common.{◌≡◌, ℕ, ◌+◌, ◌*◌, ◌/◌, ◌^◌, ◌<◌, List, ◌++◌, length, take, drop, arith, ap, ◌∙◌, length-append}
+use Rattle.std.proofs.Common.{◌≡◌, ℕ, ◌+◌, ◌*◌, ◌/◌, ◌^◌, ◌<◌, ◌≤◌, List, ◌++◌, length, take, drop, arith, ap, ◌∙◌, length-append}
 use Rattle.std.specs.Prelude.{slice_index}
-use Rattle.std.proofs.lemmas.Nat.{div-mul-add}
+use Rattle.std.proofs.lemmas.Nat.{div-mul-add, mul-le}
 use Rattle.slh_core.specs.Address.{address_bytes, fors_roots_type}
 use Rattle.slh_core.specs.Bytes.{joined, part}
 use Rattle.slh_core.specs.Digits.{digits}
@@ -54,3 +54,9 @@ unfolding opened_leaves
 length-fors_sig K sk t l k a md law =
     let x = digits md a k in
     length-joined (fors_opened K sk t l a x) ((1 + a) * K.n) k (λ i. length-fors_opened K sk t l a x i law)
+
+-- a leaf of a tree of a forest is a leaf of the forest
+pub index_in_forest : (i digit k a : ℕ) → i < k → digit < 2 ^ a → i * 2 ^ a + digit < k * 2 ^ a
+index_in_forest i digit k a tree below =
+    let whole : (i + 1) * 2 ^ a ≤ k * 2 ^ a = mul-le (i + 1) (2 ^ a) k (2 ^ a) (omega arith) (omega arith) in
+    omega (arith, whole)

@@ -24,3 +24,12 @@ returns-clause-before g c = λ j below.
     rw (← c.USIZE-n.ensures)
     (part_before n (2 * i + 1) j _ _ _ c.put_part-2.ensures.front (omega arith) fits kept
     ∙ part_before n (2 * i) j _ _ _ c.put_part.ensures.front below kept inside)
+
+pub returns-clause-right : goal.returns-clause-right
+returns-clause-right g c =
+    let n = c.USIZE-n.result in
+    let i = c.args.i in
+    let fits : (2 * i + 1 + 1) * n ≤ length c.put_part-2.new.out = rw c.USIZE-n.ensures (omega arith) in
+    let kept : (2 * i + 1) * n ≤ length c.put_part.new.out = rw c.USIZE-n.ensures (omega arith) in
+    rw (← c.USIZE-n.ensures)
+    (part_put n (2 * i + 1) _ _ _ c.put_part-2.ensures.front (omega (arith, c.as_slice-2.ensures.len)) fits kept ∙ c.as_slice-2.ensures.value)

@@ -1,4 +1,4 @@
-use Rattle.std.proofs.Common.{ℕ, rules, arith, ◌≡◌, ◌+◌, ◌-◌, ◌*◌, ◌<◌, ◌≤◌, ◌++◌, length, refl}
+use Rattle.std.proofs.Common.{ℕ, rules, arith, ◌≡◌, ◌∙◌, ◌+◌, ◌-◌, ◌*◌, ◌<◌, ◌≤◌, ◌++◌, length, refl}
 use Rattle.std.proofs.lemmas.List.{length-drop, length-take}
 use Rattle.std.proofs.lemmas.Nat.{mul-le}
 use Rattle.std.proofs.lemmas.Slice.{take-put_mid}
@@ -32,7 +32,7 @@ loop-i-init g c = record {
 pub slice_bounds-opened-end : goal.slice_bounds-opened-end
 slice_bounds-opened-end g c =
     let whole : length c.args.out.now ≡ g.P.ForsParams.K * c.opened_len-size.result = rw c.opened_len-size.ensures.value c.requires.room in
-    part_fits c.loop-i.i g.P.ForsParams.K c.opened_len-size.result _ (omega arith) (omega (arith, whole))
+    part_fits c.loop-i.i g.P.ForsParams.K c.opened_len-size.result _ (omega arith) (c.loop-i.auto.out ∙ whole)
 
 pub open_secret-requires-clause-room : goal.open_secret-requires-clause-room
 open_secret-requires-clause-room g c =
@@ -63,5 +63,5 @@ returns-clause-value g c =
     let k = g.P.ForsParams.K in
     let size = c.opened_len-size.result in
     let last : c.loop-i.i ≡ k = omega arith in
-    let whole : length c.loop-i.out ≡ k * size = rw c.opened_len-size.ensures.value (omega (arith, c.requires.room)) in
+    let whole : length c.loop-i.out ≡ k * size = rw c.opened_len-size.ensures.value (c.loop-i.auto.out ∙ c.requires.room) in
     rw last at (whole_front size k c.loop-i.i c.loop-i.out _ last whole c.loop-i.invariant.values)

@@ -1,4 +1,4 @@
-use Rattle.std.proofs.Common.{ℕ, rules, arith, ◌≡◌, ◌+◌, ◌-◌, ◌*◌, ◌<◌, ◌≤◌, [], length, refl}
+use Rattle.std.proofs.Common.{ℕ, rules, arith, ◌≡◌, ◌∙◌, ◌+◌, ◌-◌, ◌*◌, ◌<◌, ◌≤◌, [], length, refl}
 use Rattle.std.proofs.lemmas.List.{length-drop, length-take}
 use Rattle.std.proofs.lemmas.Nat.{mul-le}
 use Rattle.std.proofs.lemmas.Slice.{take-put_mid}
@@ -39,7 +39,7 @@ overflow_mul-layer-in-loop-j g c =
 pub slice_bounds-layer-end : goal.slice_bounds-layer-end
 slice_bounds-layer-end g c =
     let whole : length c.args.out.now ≡ g.P.HypertreeParams.D * c.layer_len-size.result = rw c.layer_len-size.ensures.value c.requires.room in
-    part_fits c.loop-j.j g.P.HypertreeParams.D c.layer_len-size.result _ (omega arith) (omega (arith, whole))
+    part_fits c.loop-j.j g.P.HypertreeParams.D c.layer_len-size.result _ (omega arith) (c.loop-j.auto.out ∙ whole)
 
 pub xmss_sign_root-message-requires-clause-room : goal.xmss_sign_root-message-requires-clause-room
 xmss_sign_root-message-requires-clause-room g c =
@@ -74,5 +74,5 @@ returns-clause-value g c =
     let d = g.P.HypertreeParams.D in
     let size = c.layer_len-size.result in
     let last : c.loop-j.j ≡ d = omega arith in
-    let whole : length c.loop-j.out ≡ d * size = rw c.layer_len-size.ensures.value (omega (arith, c.requires.room)) in
+    let whole : length c.loop-j.out ≡ d * size = rw c.layer_len-size.ensures.value (c.loop-j.auto.out ∙ c.requires.room) in
     rw last at (whole_front size d c.loop-j.j c.loop-j.out _ last whole c.loop-j.invariant.values)

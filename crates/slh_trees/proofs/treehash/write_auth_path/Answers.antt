@@ -1,4 +1,4 @@
-use Rattle.std.proofs.Common.{◌≡◌, ◌*◌, arith, length, refl}
+use Rattle.std.proofs.Common.{◌≡◌, ◌∙◌, ◌*◌, arith, length, refl}
 use Rattle.slh_core.proofs.Joins.{joined_more}
 use Rattle.slh_trees.proofs.CostSteps.{auth_path_cost-more}
 use Rattle.slh_trees.proofs.Layers.{part_fits}
@@ -15,7 +15,7 @@ loop-z-preserved g c = record {
 
 pub put_part-requires-clause-fits : goal.put_part-requires-clause-fits
 put_part-requires-clause-fits g c =
-    part_fits c.loop-z.z c.args.height c.USIZE-n.result _ (omega arith) (rw c.USIZE-n.ensures (omega (arith, c.requires.room)))
+    part_fits c.loop-z.z c.args.height c.USIZE-n.result _ c.loop-z-test.true (rw c.USIZE-n.ensures (c.loop-z.auto.out ∙ c.requires.room))
 
 pub treehash-value-requires-clause-node : goal.treehash-value-requires-clause-node
 treehash-value-requires-clause-node g c =
@@ -33,5 +33,5 @@ unfolding merkle_auth_path
 returns-clause-value g c =
     let n = c.USIZE-n.result in
     let last : c.loop-z.z ≡ c.args.height = omega arith in
-    let whole : length c.loop-z.out ≡ c.args.height * n = rw c.USIZE-n.ensures (omega (arith, c.requires.room)) in
+    let whole : length c.loop-z.out ≡ c.args.height * n = rw c.USIZE-n.ensures (c.loop-z.auto.out ∙ c.requires.room) in
     rw last at (whole_front n c.args.height c.loop-z.z c.loop-z.out _ last whole c.loop-z.invariant.values)

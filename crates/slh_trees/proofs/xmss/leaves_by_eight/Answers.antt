@@ -12,12 +12,12 @@ use Rattle.slh_trees.proofs.xmss.leaves_by_eight.Goals as goal
 
 pub overflow_mul-keys : goal.overflow_mul-keys
 overflow_mul-keys g c =
-    let most = eights_few c.loop-g.g c.args.groups c.USIZE-size.result (omega (arith, c.requires.inside)) (omega arith) (omega arith) in
+    let most = eights_few c.loop-g.g c.args.groups c.USIZE-size.result (omega (arith, c.requires.inside)) c.loop-g-test.true (omega arith) in
     let small : c.loop-g.g * (8 * c.USIZE-size.result) < 18446744073709551616 = omega (arith, most) in search rules
 
 pub overflow_mul-keys-in-loop-g : goal.overflow_mul-keys-in-loop-g
 overflow_mul-keys-in-loop-g g c =
-    let most = eights_few c.loop-g.g c.args.groups c.USIZE-size.result (omega (arith, c.requires.inside)) (omega arith) (omega arith) in
+    let most = eights_few c.loop-g.g c.args.groups c.USIZE-size.result (omega (arith, c.requires.inside)) c.loop-g-test.true (omega arith) in
     let small : (c.loop-g.g + 1) * (8 * c.USIZE-size.result) < 18446744073709551616 = omega (arith, most) in search rules
 
 pub loop-g-init : goal.loop-g-init
@@ -45,14 +45,14 @@ loop-g-preserved g c =
     let len = length c.args.digits.now in
     let none = c.no_digits-none in
     let whole : length c.args.out.now ≡ c.args.groups * size = rw c.USIZE-size.ensures c.requires.room in
-    let fits : (at + 1) * size ≤ length c.args.out.now = part_fits at c.args.groups size (length c.args.out.now) (omega arith) whole in
+    let fits : (at + 1) * size ≤ length c.args.out.now = part_fits at c.args.groups size (length c.args.out.now) c.loop-g-test.true whole in
     let next : (at + 1) * size ≡ at * size + length c.pairs_eight.new.out = omega (arith, c.pairs_eight.auto.out) in
     let more : 8 * (at + 1) ≡ 8 * at + 8 = omega arith in
     let long : length w ≡ len = elim c.if-signer-g.branch [
       | then-signer-g v ↦ rw v.asked-is refl
       | else-signer-g v ↦ rw v.asked-is none.ensures.len
     ] in
-    let room : length c.loop-g.sig ≡ len * K.n = rw bytes (omega (arith, c.loop-g.auto.sig, c.requires.whole)) in
+    let room : length c.loop-g.sig ≡ len * K.n = rw bytes (c.loop-g.auto.sig ∙ c.requires.whole) in
     let made = rw (c.key_pair_of-at.ensures, long) at c.pairs_eight.ensures.values in
     let kept : y / 8 ≢ at → c.pairs_eight.new.sig ≡ c.loop-g.sig = λ other. elim c.if-signer-g.branch [
       | then-signer-g v ↦ absurd (omega (arith, v.if-signer-g.true, other))
@@ -79,5 +79,27 @@ pub returns-clause-leaves : goal.returns-clause-leaves
 returns-clause-leaves g c =
     let size = 8 * c.USIZE-size.result in
     let last : c.loop-g.g ≡ c.args.groups = omega arith in
-    let whole : length c.loop-g.out ≡ c.args.groups * size = rw c.USIZE-size.ensures (omega (arith, c.requires.room)) in
+    let whole : length c.loop-g.out ≡ c.args.groups * size = rw c.USIZE-size.ensures (c.loop-g.auto.out ∙ c.requires.room) in
     rw last at (whole_front size c.args.groups c.loop-g.g c.loop-g.out _ last whole c.loop-g.invariant.leaves)
+
+pub slice_bounds-keys-end : goal.slice_bounds-keys-end
+slice_bounds-keys-end g c =
+    let size = 8 * c.USIZE-size.result in
+    let whole : length c.args.out.now ≡ c.args.groups * size = rw c.USIZE-size.ensures c.requires.room in
+    part_fits c.loop-g.g c.args.groups size _ c.loop-g-test.true (c.loop-g.auto.out ∙ whole)
+
+pub pairs_eight-requires-clause-count : goal.pairs_eight-requires-clause-count
+pairs_eight-requires-clause-count g c =
+    let long : length c.if-signer-g.asked.now ≡ length c.args.digits.now = elim c.if-signer-g.branch [
+      | then-signer-g v ↦ rw v.asked-is refl
+      | else-signer-g v ↦ rw v.asked-is c.no_digits-none.ensures.len
+    ] in
+    long ∙ c.requires.count ∙ c.tree_sizes.ensures.signature_len
+
+pub pairs_eight-requires-clause-whole : goal.pairs_eight-requires-clause-whole
+pairs_eight-requires-clause-whole g c =
+    let long : length c.if-signer-g.asked.now ≡ length c.args.digits.now = elim c.if-signer-g.branch [
+      | then-signer-g v ↦ rw v.asked-is refl
+      | else-signer-g v ↦ rw v.asked-is c.no_digits-none.ensures.len
+    ] in
+    rw long (c.loop-g.auto.sig ∙ c.requires.whole)

@@ -28,3 +28,8 @@ returns-clause-cost g c =
     let path = rw c.H_PRIME-height.ensures at c.write_auth_path.ensures.cost in
     let climbed = rw c.H_PRIME-height.ensures at c.root_from_auth_path.ensures.cost in
     omega (arith, node_cost-path (wots_pk_cost g.P.WotsParams.WOTS_SIG_LEN) g.P.XmssParams.H_PRIME, c.wots_sign_leaf-leaf.ensures.cost, path, climbed)
+
+pub root_from_auth_path-requires-clause-enough : goal.root_from_auth_path-requires-clause-enough
+root_from_auth_path-requires-clause-enough g c =
+    let back = rw c.ends_len.ensures.value at c.split_at_mut-chains.ensures.back_len in
+    rw c.H_PRIME-height.ensures (omega (arith, back, c.requires.room, c.write_auth_path.auto.out))

@@ -1,4 +1,4 @@
-use Rattle.std.proofs.Common.{◌≡◌, ◌≤◌, ◌+◌, ◌-◌, ◌*◌, arith, length, rules, ◌<◌}
+use Rattle.std.proofs.Common.{◌≡◌, ◌∙◌, ◌≤◌, ◌+◌, ◌-◌, ◌*◌, arith, length, rules, ◌<◌}
 use Rattle.std.proofs.lemmas.Slice.{take-put_mid}
 use Rattle.slh_trees.specs.Fors.{fors_leaf, fors_secret}
 use Rattle.slh_trees.proofs.Layers.{part_fits}
@@ -7,12 +7,12 @@ use Rattle.slh_trees.proofs.fors.ForsTreeLeaves.write_eights.Goals as goal
 
 pub overflow_mul-leaves : goal.overflow_mul-leaves
 overflow_mul-leaves g c =
-    let most = eights_few c.loop-g.g c.args.groups c.USIZE-size.result (omega (arith, c.requires.inside)) (omega arith) (omega arith) in
+    let most = eights_few c.loop-g.g c.args.groups c.USIZE-size.result (omega (arith, c.requires.inside)) c.loop-g-test.true (omega arith) in
     let small : c.loop-g.g * (8 * c.USIZE-size.result) < 18446744073709551616 = omega (arith, most) in search rules
 
 pub overflow_mul-leaves-in-loop-g : goal.overflow_mul-leaves-in-loop-g
 overflow_mul-leaves-in-loop-g g c =
-    let most = eights_few c.loop-g.g c.args.groups c.USIZE-size.result (omega (arith, c.requires.inside)) (omega arith) (omega arith) in
+    let most = eights_few c.loop-g.g c.args.groups c.USIZE-size.result (omega (arith, c.requires.inside)) c.loop-g-test.true (omega arith) in
     let small : (c.loop-g.g + 1) * (8 * c.USIZE-size.result) < 18446744073709551616 = omega (arith, most) in search rules
 
 pub loop-g-init : goal.loop-g-init
@@ -29,7 +29,7 @@ loop-g-preserved g c =
     let at = c.loop-g.g in
     let size = 8 * c.USIZE-size.result in
     let whole : length c.args.out.now ≡ c.args.groups * size = rw c.USIZE-size.ensures c.requires.room in
-    let fits : (at + 1) * size ≤ length c.args.out.now = part_fits at c.args.groups size (length c.args.out.now) (omega arith) whole in
+    let fits : (at + 1) * size ≤ length c.args.out.now = part_fits at c.args.groups size (length c.args.out.now) c.loop-g-test.true whole in
     let next : (at + 1) * size ≡ at * size + length c.leaves_eight.new.out = omega (arith, c.leaves_eight.auto.out) in
     let more : 8 * (at + 1) ≡ 8 * at + 8 = omega arith in
     record {
@@ -42,5 +42,5 @@ pub returns-clause-leaves : goal.returns-clause-leaves
 returns-clause-leaves g c =
     let size = 8 * c.USIZE-size.result in
     let last : c.loop-g.g ≡ c.args.groups = omega arith in
-    let whole : length c.loop-g.out ≡ c.args.groups * size = rw c.USIZE-size.ensures (omega (arith, c.requires.room)) in
+    let whole : length c.loop-g.out ≡ c.args.groups * size = rw c.USIZE-size.ensures (c.loop-g.auto.out ∙ c.requires.room) in
     rw last at (whole_front size c.args.groups c.loop-g.g c.loop-g.out _ last whole c.loop-g.invariant.leaves)

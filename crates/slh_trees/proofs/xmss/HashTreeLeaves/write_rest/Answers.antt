@@ -1,4 +1,4 @@
-use Rattle.std.proofs.Common.{◌≡◌, ◌*◌, arith, length, refl}
+use Rattle.std.proofs.Common.{◌≡◌, ◌∙◌, ◌*◌, arith, length, refl}
 use Rattle.slh_core.specs.Costs.{wots_pk_cost}
 use Rattle.slh_core.proofs.Joins.{joined_more}
 use Rattle.slh_trees.proofs.CostSteps.{one_more}
@@ -8,7 +8,7 @@ use Rattle.slh_trees.proofs.xmss.HashTreeLeaves.write_rest.Goals as goal
 
 pub put_part-requires-clause-fits : goal.put_part-requires-clause-fits
 put_part-requires-clause-fits g c =
-    part_fits c.loop-k.k c.args.count c.USIZE-n.result _ (omega arith) (rw c.USIZE-n.ensures (omega (arith, c.requires.room)))
+    part_fits c.loop-k.k c.args.count c.USIZE-n.result _ c.loop-k-test.true (rw c.USIZE-n.ensures (c.loop-k.auto.out ∙ c.requires.room))
 
 pub loop-k-init : goal.loop-k-init
 loop-k-init g c = record {
@@ -26,5 +26,5 @@ pub returns-clause-leaves : goal.returns-clause-leaves
 returns-clause-leaves g c =
     let n = c.USIZE-n.result in
     let last : c.loop-k.k ≡ c.args.count = omega arith in
-    let whole : length c.loop-k.out ≡ c.args.count * n = rw c.USIZE-n.ensures (omega (arith, c.requires.room)) in
+    let whole : length c.loop-k.out ≡ c.args.count * n = rw c.USIZE-n.ensures (c.loop-k.auto.out ∙ c.requires.room) in
     rw last at (whole_front n c.args.count c.loop-k.k c.loop-k.out _ last whole c.loop-k.invariant.leaves)
