@@ -1,8 +1,21 @@
 use Rattle.std.proofs.Common.{arith}
+use Rattle.std.proofs.lemmas.Grind.{common_steps}
 use Rattle.std.proofs.lemmas.Result.{on_ok_weaker, on_err_weaker}
 use Rattle.block_buffer.proofs.Streams.{part_first, takes_both}
 use Rattle.block_buffer.proofs.TwoBlocks.{length-filled, padded_twice}
 use Rattle.block_buffer.proofs.padding.hand_padded.Goals as goal
+
+pub hand_filled-requires : goal.hand_filled-requires
+hand_filled-requires g c = grind (arith, common_steps)
+
+pub returns-then-head-suffix : goal.returns-then-head-suffix
+returns-then-head-suffix g c = grind (arith, common_steps)
+
+pub hand_filled-requires-2 : goal.hand_filled-requires-2
+hand_filled-requires-2 g c = grind (arith, common_steps)
+
+pub hand_filled-requires-3 : goal.hand_filled-requires-3
+hand_filled-requires-3 g c = grind (arith, common_steps)
 
 pub returns-clause-padded : goal.returns-clause-padded
 returns-clause-padded g c =

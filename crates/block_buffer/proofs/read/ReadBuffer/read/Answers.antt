@@ -20,6 +20,9 @@ each_block-init g c =
           rw c.copy_cached-at.ensures.left (drop_all _ _ all);
     }
 
+pub write_block-requires : goal.write_block-requires
+write_block-requires g c = grind (arith, common_steps)
+
 pub each_block-preserved : goal.each_block-preserved
 each_block-preserved g c =
     let low : 1 ≤ g.BS.ArraySize.USIZE = omega arith in
@@ -37,3 +40,6 @@ each_block-preserved g c =
       reads = rw read (reads_more _ low _ _ _ _ _ _ _ some whole before gives);
       empty = λ left. unread_none c.write_block.new.out c.write_block.new.self (omega (arith, left, len, whole, count));
     }
+
+pub returns : goal.returns
+returns g c = grind (arith, common_steps)
