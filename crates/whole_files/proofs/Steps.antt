@@ -274,6 +274,14 @@ placing_is_making m n path part mode bytes apart placing = record {
   others = λ q _ ne. placing.others q ne;
 }
 
+-- what is left where the file wasn't placed
+pub placing_makes : (m n : Files) (path part : List ℕ) (mode : Mode) (bytes : List ℕ) (w : WriteError) → (part ≡ path → ⊥)
+    → Places m part mode bytes (Err w) n → MakesNew {A = Unit {0}} m path part mode bytes (Err w) n
+placing_makes m n path part mode bytes NothingLeft apart same = same
+placing_makes m n path part mode bytes Left apart placing = placing_is_making m n path part mode bytes apart placing
+placing_makes m n path part mode bytes Taken apart stays = (stays.0, inl stays.1)
+placing_makes m n path part mode bytes NotRegular apart never = absurd never
+
 pub same_is_making : (m b n : Files) (path part : List ℕ) (mode : Mode) (bytes : List ℕ) → (part ≡ path → ⊥)
     → IsPlaced m part mode bytes b → Same b n → IsMaking m path part mode bytes n
 same_is_making m b n path part mode bytes apart placed same =
@@ -319,6 +327,10 @@ made_is_making m n path part mode bytes apart made = record {
   beside = inl (made.others part apart);
   others = λ q ne _. made.others q ne;
 }
+
+pub untouched_is_making : (m n : Files) (path part : List ℕ) (mode : Mode) (bytes : List ℕ) → Same m n → IsMaking m path part mode bytes n
+untouched_is_making m n path part mode bytes same =
+    record { at = inl (same path); beside = inl (same part); others = λ q _ _. same q }
 
 pub making_same : (m a n : Files) (path part : List ℕ) (mode : Mode) (bytes : List ℕ)
     → IsMaking m path part mode bytes a → Same a n → IsMaking m path part mode bytes n
@@ -366,6 +378,13 @@ removal_makes m b c n path part mode bytes Left apart placed same stays =
 removal_makes m b c n path part mode bytes NotRegular apart placed same never = absurd never
 removal_makes m b c n path part mode bytes Taken apart placed same never = absurd never
 
+-- a placed file that is taken away, since something stood at the path
+pub not_linked_makes : (m b c n : Files) (path part : List ℕ) (mode : Mode) (bytes : List ℕ)
+    → (part ≡ path → ⊥) → IsPlaced m part mode bytes b → Same b c × (b path ≢ None) → Puts c part None n
+    → MakesNew {A = Unit {0}} m path part mode bytes (Err Taken) n
+not_linked_makes m b c n path part mode bytes apart placed stays puts =
+    (removed m b c n part mode bytes placed stays.0 puts, inr (λ none. stays.1 (placed.others path (λ e. apart (sym e)) ∙ none)))
+
 pub not_linked_is_making : (m b c n : Files) (path part : List ℕ) (mode : Mode) (bytes : List ℕ)
     → (part ≡ path → ⊥) → IsPlaced m part mode bytes b → Same b c → Same c n
     → IsMaking m path part mode bytes n
@@ -394,3 +413,11 @@ made_same m a n path part mode bytes made same = record {
   whole = subst (λ (o : Option Node). HasWhole mode bytes o) (sym (same path)) made.whole;
   others = λ q ne. same q ∙ made.others q ne;
 }
+
+-- whatever is left where the file wasn't made is what it is at some moment
+pub error_is_making : (m n : Files) (path part : List ℕ) (mode : Mode) (bytes : List ℕ) (w : WriteError)
+    → MakesNew {A = Unit {0}} m path part mode bytes (Err w) n → IsMaking m path part mode bytes n
+error_is_making m n path part mode bytes NothingLeft same = untouched_is_making m n path part mode bytes same
+error_is_making m n path part mode bytes Left making = making
+error_is_making m n path part mode bytes Taken stays = untouched_is_making m n path part mode bytes stays.0
+error_is_making m n path part mode bytes NotRegular never = absurd never

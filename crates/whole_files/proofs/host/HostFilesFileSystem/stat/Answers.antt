@@ -1,0 +1,12 @@
+use Rattle.std.proofs.Common.{arith}
+use Rattle.std.proofs.lemmas.Grind.{common_steps}
+use Rattle.whole_files.proofs.host.HostFilesFileSystem.stat.Goals as goal
+
+pub returns-in-Ok : goal.returns-in-Ok
+returns-in-Ok c = grind (arith, common_steps)
+
+pub returns-in-Err : goal.returns-in-Err
+returns-in-Err c = grind (arith, common_steps)
+
+pub returns-in-Err-2 : goal.returns-in-Err-2
+returns-in-Err-2 c = grind (arith, common_steps)
