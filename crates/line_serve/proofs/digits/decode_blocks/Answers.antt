@@ -1,9 +1,15 @@
 use Rattle.std.proofs.Common.{◌≡◌, ◌≤◌, ◌+◌, ◌-◌, arith, length, refl}
 use Rattle.std.proofs.lemmas.Grind.{common_steps}
 use Rattle.std.proofs.lemmas.Slice.{take-put_mid}
+use borrow.Rule.Slice.PartMut.{put_mid}
 use Rattle.line_serve.proofs.PairLanes.{block_added}
 use Rattle.line_serve.proofs.digits.decode_blocks.Goals as goal
-use borrow.Rule.Slice.PartMut.{put_mid}
+
+pub decode_block-requires : goal.decode_block-requires
+decode_block-requires c = grind (arith, common_steps)
+
+pub returns-then-not-decode_block : goal.returns-then-not-decode_block
+returns-then-not-decode_block c = grind (arith, common_steps)
 
 pub loop-out-preserved : goal.loop-out-preserved
 loop-out-preserved c =
@@ -19,3 +25,6 @@ loop-out-preserved c =
       same = len;
       bytes = block_added c.args.digits.now old _ block done c.loop-out.invariant.within grown c.loop-out.invariant.bytes (c.if-not-decode_block.ensures refl);
     }
+
+pub returns : goal.returns
+returns c = grind (arith, common_steps)
