@@ -1,5 +1,6 @@
 //! Arrays, on values worked by hand.
 
+use crate::shown::shows;
 use crate::texts::is_text;
 use hybrid_array::sizes::{U0, U2, U3, U4, U6};
 use hybrid_array::{
@@ -8,11 +9,6 @@ use hybrid_array::{
 };
 use std::alloc::{AllocError, Global};
 use std::boxed::BoxedSlice;
-
-// The array of a vector of these items.
-fn array<U: ArraySize>(alloc: Global, items: &[u8]) -> Option<Array<u8, U>> {
-    Array::from_vec(items.to_vec(alloc).ok()?).ok()
-}
 
 /// Whether there is an array, and holds these items.
 pub(crate) fn holds<T: PartialEq + Drop, U: ArraySize>(
@@ -52,7 +48,7 @@ fn is_example_right(alloc: Global) -> Result<bool, AllocError> {
 
 #[test]
 fn the_example_of_the_page(rt: HostRuntime) {
-    assert!(rt; is_example_right(rt.alloc()) == Ok(true));
+    shows(&rt, is_example_right(rt.alloc()) == Ok(true));
 }
 
 // Whether the items are these, one a call.
@@ -68,7 +64,10 @@ fn is_call_an_item<U: ArraySize>(alloc: Global, items: &[usize]) -> bool {
 #[test]
 fn from_fn_calls_once_for_each_item(rt: HostRuntime) {
     let alloc = rt.alloc();
-    assert!(rt; is_call_an_item::<U0>(alloc, &[]) && is_call_an_item::<U3>(alloc, &[0, 1, 2]));
+    shows(
+        &rt,
+        is_call_an_item::<U0>(alloc, &[]) && is_call_an_item::<U3>(alloc, &[0, 1, 2]),
+    );
 }
 
 // What a closure that refuses an item by 7 makes of halves, and how often it is called.
@@ -89,13 +88,13 @@ fn is_refused_after(alloc: Global, refused: usize, wanted: usize) -> bool {
     }
 }
 
-fn is_made_of_halves(alloc: Global) -> bool {
-    holds(halves_but(alloc, 3).0.ok(), &[0, 0, 1])
-}
-
 #[test]
 fn try_from_fn_stops_at_the_first_error(rt: HostRuntime) {
-    assert!(rt; is_refused_after(rt.alloc(), 1, 2) && is_made_of_halves(rt.alloc()));
+    let alloc = rt.alloc();
+    shows(
+        &rt,
+        is_refused_after(alloc, 1, 2) && holds(halves_but(alloc, 3).0.ok(), &[0, 0, 1]),
+    );
 }
 
 // Gives a number of items and then none, and counts how often it is asked.
@@ -131,42 +130,42 @@ fn is_asked(alloc: Global, left: u8, wanted: usize) -> bool {
     is_right && calls == wanted
 }
 
-fn is_asked_up_to_a_missing_item(alloc: Global) -> bool {
-    is_asked(alloc, 0, 1)
-        && is_asked(alloc, 2, 3)
-        && is_asked(alloc, 3, 4)
-        && is_asked(alloc, 4, 4)
-        && is_asked(alloc, 9, 4)
-}
-
 #[test]
 fn an_iterator_is_asked_up_to_the_first_item_that_is_missing(rt: HostRuntime) {
-    assert!(rt; is_asked_up_to_a_missing_item(rt.alloc()));
-}
-
-fn prints(alloc: Global, expected: &str) -> bool {
-    is_text(format!(in alloc; "{}", TryFromIteratorError), expected)
+    let alloc = rt.alloc();
+    shows(
+        &rt,
+        is_asked(alloc, 0, 1)
+            && is_asked(alloc, 2, 3)
+            && is_asked(alloc, 3, 4)
+            && is_asked(alloc, 4, 4)
+            && is_asked(alloc, 9, 4),
+    );
 }
 
 #[test]
 fn a_refused_count_prints_its_text(rt: HostRuntime) {
     let expected = "iterator did not contain the correct number of items for the array size";
-    assert!(rt; prints(rt.alloc(), expected));
+    let made = format!(in rt.alloc(); "{TryFromIteratorError}");
+    shows(&rt, is_text(made, expected));
 }
 
 // Items and their number, mapped by a closure that counts its calls.
-fn mapped(alloc: Global) -> Option<bool> {
+fn are_mapped(alloc: Global) -> bool {
+    let Ok(items) = Array::<u8, U3>::clone_from_slice(alloc, &[1, 2, 3]) else {
+        return false;
+    };
     let mut calls = 0usize;
-    let made = array::<U3>(alloc, &[1, 2, 3])?.map(alloc, |x| {
+    let made = items.map(alloc, |x| {
         calls = calls.wrapping_add(1);
         u16::from(x) + 1
     });
-    Some(holds(made.ok(), &[2, 3, 4]) && calls == 3)
+    holds(made.ok(), &[2, 3, 4]) && calls == 3
 }
 
 #[test]
 fn map_calls_once_for_each_item(rt: HostRuntime) {
-    assert!(rt; mapped(rt.alloc()) == Some(true));
+    shows(&rt, are_mapped(rt.alloc()));
 }
 
 // The array of a slice, as an owned slice in between.
@@ -184,23 +183,23 @@ fn copied(alloc: Global, array: &Array<u8, U6>) -> Result<BoxedSlice<u8>, AllocE
     copy.as_array_ref().to_array(alloc)?.to_boxed(alloc)
 }
 
-// The array of a vector, cut in two, joined, cut in runs and joined again. A size by a constant is
-// that by its name.
-fn rearranged(alloc: Global, items: Vec<u8>) -> Option<ArrayN<u8, 6>> {
-    let array = Array::<u8, U6>::from_vec(items).ok()?;
-    let (first, rest) = array.split::<U2, U4>(alloc).ok()?;
-    let joined: Array<u8, U6> = first.concat(alloc, rest).ok()?;
-    let rows: Array<Array<u8, U2>, U3> = joined.unflatten(alloc).ok()?;
-    rows.flatten(alloc).ok()
+// An array cut in two, joined, cut in runs and joined again. A size by a constant is that by its
+// name.
+fn rearranged(alloc: Global, array: Array<u8, U6>) -> Result<ArrayN<u8, 6>, AllocError> {
+    let (first, rest) = array.split::<U2, U4>(alloc)?;
+    let joined: Array<u8, U6> = first.concat(alloc, rest)?;
+    let rows: Array<Array<u8, U2>, U3> = joined.unflatten(alloc)?;
+    rows.flatten(alloc)
 }
 
 fn are_kept(alloc: Global, items: &[u8]) -> Option<bool> {
     let copy = copied(alloc, &reboxed(alloc, items).ok()?).ok()?;
-    Some(holds(rearranged(alloc, copy.into_vec()), items))
+    let array = Array::from_vec(copy.into_vec()).ok()?;
+    Some(holds(rearranged(alloc, array).ok(), items))
 }
 
 // All of these calls say what they make; here, that they make it where there is memory.
 #[test]
 fn items_are_moved_and_copied(rt: HostRuntime) {
-    assert!(rt; are_kept(rt.alloc(), &[1, 2, 3, 4, 5, 6]) == Some(true));
+    shows(&rt, are_kept(rt.alloc(), &[1, 2, 3, 4, 5, 6]) == Some(true));
 }

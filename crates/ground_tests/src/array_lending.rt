@@ -2,12 +2,13 @@
 
 ghost use Rattle.std.specs.Prelude.{◌≡◌, ◌≢◌, ◌==◌, ◌↔◌, ◌+◌, ◌≤◌, ◌++◌, ◌∷◌, [], length, take, drop, IsOk, OnOk, OnErr, slice_set};
 
+use crate::shown::shows;
 use hybrid_array::sizes::{U1, U2, U4};
 use hybrid_array::{
     Array, ArrayMut, ArraySize, ChunksMut, TryFromSliceError, chunks_and_rest_mut,
     first_and_rest_mut, halves_mut, whole_mut, with_part_mut, with_whole_mut,
 };
-use std::alloc::{AllocError, Global};
+use std::alloc::Global;
 
 // In place of `Array::slice_as_mut_array` and `ArrayMut::try_from`.
 fn copy_if<T: Copy, U: ArraySize>(slice: &mut [T], src: &[T]) -> bool
@@ -182,27 +183,28 @@ fn write_six(items: &mut [u8; 6]) {
     set_chunk_and_rest(&mut items[..5]);
 }
 
-fn are_slices_written() -> bool {
+#[test]
+fn callers_write_into_slices(rt: HostRuntime) {
     let mut four = [0; 4];
     let mut six = [0; 6];
     write_six(&mut six);
-    write_four(&mut four) && four == [1, 7, 3, 4] && six == [1, 2, 1, 2, 9, 0]
+    shows(
+        &rt,
+        write_four(&mut four) && four == [1, 7, 3, 4] && six == [1, 2, 1, 2, 9, 0],
+    );
 }
 
-#[test]
-fn callers_write_into_slices(rt: HostRuntime) {
-    assert!(rt; are_slices_written());
-}
-
-fn is_array_written(alloc: Global) -> Result<bool, AllocError> {
-    let mut array = Array::<u8, U4>::default(alloc)?;
+fn is_array_written(alloc: Global) -> bool {
+    let Ok(mut array) = Array::<u8, U4>::default(alloc) else {
+        return false;
+    };
     copy_halves::<u8, U4, U2, U2>(&mut array, &[1, 2], &[3, 4]);
     set_by_index(&mut array);
     set_by_view(&mut array);
-    Ok(array.as_slice() == [1, 7, 8, 7].as_slice())
+    array.as_slice() == [1, 7, 8, 7].as_slice()
 }
 
 #[test]
 fn callers_write_into_an_array(rt: HostRuntime) {
-    assert!(rt; is_array_written(rt.alloc()) == Ok(true));
+    shows(&rt, is_array_written(rt.alloc()));
 }

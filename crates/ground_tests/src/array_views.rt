@@ -1,9 +1,10 @@
 //! Slices and an array that are written through views which a call answers in an `Option`, a
 //! `Result` or a pair: a caller's own proof doesn't read what they hold afterwards.
 
+use crate::shown::shows;
 use hybrid_array::sizes::{U1, U2, U3};
 use hybrid_array::{Array, ArrayMut, SliceExt};
-use std::alloc::{AllocError, Global};
+use std::alloc::Global;
 
 // Writes the second chunk of two items and the first item of the rest, and raises all chunks by
 // five.
@@ -32,9 +33,9 @@ fn write_by_view(slice: &mut [u8]) {
 fn slices_are_written_by_their_views(rt: HostRuntime) {
     let mut items = [1u8, 2, 3, 4, 5];
     write_chunks_and_rest(&mut items);
-    assert!(rt; items == [6, 7, 12, 13, 9]);
+    shows(&rt, items == [6, 7, 12, 13, 9]);
     write_by_view(&mut items[..3]);
-    assert!(rt; items == [4, 8, 6, 13, 9]);
+    shows(&rt, items == [4, 8, 6, 13, 9]);
 }
 
 fn write_parts(array: &mut Array<u8, U3>) {
@@ -43,13 +44,15 @@ fn write_parts(array: &mut Array<u8, U3>) {
     rest.set(0, 5);
 }
 
-fn are_parts_written(alloc: Global) -> Result<bool, AllocError> {
-    let mut array = Array::<u8, U3>::default(alloc)?;
+fn are_parts_written(alloc: Global) -> bool {
+    let Ok(mut array) = Array::<u8, U3>::default(alloc) else {
+        return false;
+    };
     write_parts(&mut array);
-    Ok(array.as_slice() == [4, 5, 0].as_slice())
+    array.as_slice() == [4, 5, 0].as_slice()
 }
 
 #[test]
 fn an_array_is_written_by_views_of_its_parts(rt: HostRuntime) {
-    assert!(rt; are_parts_written(rt.alloc()) == Ok(true));
+    shows(&rt, are_parts_written(rt.alloc()));
 }

@@ -3,6 +3,7 @@
 ghost use Rattle.std.specs.Prelude.{◌≡◌, ◌+◌, ◌<◌, ◌≤◌, length};
 
 use crate::array_items::holds;
+use crate::shown::shows;
 use crate::texts::is_text;
 use block_buffer::{
     BlockBuffer, BlockSink, BufferKind, Eager, EagerBuffer, Error, Lazy, LazyBuffer, Refused,
@@ -79,7 +80,10 @@ fn is_example_cut(taken: &[u8], held: &[u8]) -> bool {
 // The blocks are those of the Rust crate's own example.
 #[test]
 fn example_of_the_page(rt: HostRuntime) {
-    assert!(rt; is_example_cut(&[0, 1, 2, 3, 4, 5, 6, 7, 8, 9, 10, 11], &[12]));
+    shows(
+        &rt,
+        is_example_cut(&[0, 1, 2, 3, 4, 5, 6, 7, 8, 9, 10, 11], &[12]),
+    );
 }
 
 // Whether a sink took these bytes once a lazy buffer has taken the input in, and the buffer holds
@@ -97,8 +101,14 @@ fn is_lazily_cut(held: &[u8], input: &[u8], taken: &[u8], rest: &[u8]) -> bool
 #[test]
 fn a_lazy_buffer_keeps_a_full_block_until_more_bytes_come(rt: HostRuntime) {
     let bytes = [0, 1, 2, 3, 4, 5, 6, 7, 8];
-    assert!(rt; is_lazily_cut(&bytes[..1], &bytes[1..8], &bytes[..4], &bytes[4..8]));
-    assert!(rt; is_lazily_cut(&bytes[..4], &bytes[4..5], &bytes[..4], &bytes[4..5]));
+    shows(
+        &rt,
+        is_lazily_cut(&bytes[..1], &bytes[1..8], &bytes[..4], &bytes[4..8]),
+    );
+    shows(
+        &rt,
+        is_lazily_cut(&bytes[..4], &bytes[4..5], &bytes[..4], &bytes[4..5]),
+    );
 }
 
 // Whether a buffer of these bytes is padded to this block.
@@ -123,8 +133,11 @@ fn an_array_is_made_of_a_buffer(rt: HostRuntime) {
     let alloc = rt.alloc();
     assert!(rt; is_serialized_as::<Eager, U4>(alloc, &[9, 8], &[2, 9, 8, 0]));
     assert!(rt; is_serialized_as::<Lazy, U5>(alloc, &[1, 2, 3, 4], &[4, 1, 2, 3, 4]));
-    assert!(rt; pads_to::<Eager>(alloc, &[12], &[12, 0, 0, 0]));
-    assert!(rt; pads_to::<Lazy>(alloc, &[8, 9, 10, 11], &[8, 9, 10, 11]));
+    shows(&rt, pads_to::<Eager>(alloc, &[12], &[12, 0, 0, 0]));
+    shows(
+        &rt,
+        pads_to::<Lazy>(alloc, &[8, 9, 10, 11], &[8, 9, 10, 11]),
+    );
 }
 
 // Whether a sink that refuses from a call on took these bytes of a padding by 7 and 8, 9 in blocks
@@ -163,16 +176,16 @@ fn are_streams_cut(blocks: &[u8; 8]) -> bool {
 #[test]
 fn what_a_sink_took_is_whole_blocks_up_to_its_refusal(rt: HostRuntime) {
     let blocks = [1, 2, 3, 4, 5, 6, 7, 0, 0, 0, 0, 0, 0, 0, 8, 9];
-    assert!(rt; are_streams_cut(&[1, 2, 3, 4, 5, 6, 7, 8]) && are_paddings_cut(&blocks));
-}
-
-fn prints(alloc: Global, expected: &str) -> bool {
-    is_text(format!(in alloc; "{Error}"), expected)
+    shows(
+        &rt,
+        are_streams_cut(&[1, 2, 3, 4, 5, 6, 7, 8]) && are_paddings_cut(&blocks),
+    );
 }
 
 #[test]
 fn the_error_has_a_text(rt: HostRuntime) {
-    assert!(rt; prints(rt.alloc(), "Block buffer error"));
+    let made = format!(in rt.alloc(); "{Error}");
+    shows(&rt, is_text(made, "Block buffer error"));
 }
 
 // Whether a sink in memory took these bytes of two pieces, and refused so often.
@@ -186,7 +199,13 @@ fn keeps(mut sink: VecSink, taken: &[u8], refusals: u64) -> bool {
 #[test]
 fn a_sink_in_memory_keeps_what_it_takes_up_to_its_refusal(rt: HostRuntime) {
     let alloc = rt.alloc();
-    assert!(rt; keeps(VecSink::new(alloc), &[0, 1, 2, 3, 4, 5, 6, 7], 0));
-    assert!(rt; keeps(VecSink::refusing_after(alloc, 1), &[0, 1, 2, 3], 1));
-    assert!(rt; keeps(VecSink::refusing_after(alloc, 0), &[], 2));
+    shows(
+        &rt,
+        keeps(VecSink::new(alloc), &[0, 1, 2, 3, 4, 5, 6, 7], 0),
+    );
+    shows(
+        &rt,
+        keeps(VecSink::refusing_after(alloc, 1), &[0, 1, 2, 3], 1),
+    );
+    shows(&rt, keeps(VecSink::refusing_after(alloc, 0), &[], 2));
 }

@@ -1,6 +1,7 @@
 //! Reading the blocks of a generator, on values worked by hand.
 
 use crate::array_items::holds;
+use crate::shown::shows;
 use block_buffer::{BlockGen, ReadBuffer};
 use hybrid_array::ArrayMut;
 use hybrid_array::sizes::U4;
@@ -43,7 +44,7 @@ fn is_serialized_as(alloc: Global, expected: &[u8]) -> bool {
 
 #[test]
 fn a_read_buffer_is_its_position_zeros_and_unread_bytes(rt: HostRuntime) {
-    assert!(rt; is_serialized_as(rt.alloc(), &[2, 0, 6, 7]));
+    shows(&rt, is_serialized_as(rt.alloc(), &[2, 0, 6, 7]));
 }
 
 // Whether the bytes count up from the first.
@@ -85,5 +86,5 @@ fn makes_blocks_as_needed() -> bool {
 
 #[test]
 fn pieces_follow_one_another_and_no_block_is_made_that_is_not_needed(rt: HostRuntime) {
-    assert!(rt; makes_blocks_as_needed());
+    shows(&rt, makes_blocks_as_needed());
 }

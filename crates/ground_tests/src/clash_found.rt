@@ -1,6 +1,7 @@
 //! Clashes that `merkle_clash` finds under a hash function that has them, worked by hand: it tells
 //! the first byte of an entry alone, and of a node that of the digest on its left.
 use crate::clash_hash::ByteHash;
+use crate::shown::shows;
 use merkle_clash::{
     EntryClash, are_short, entry_clash, growth_clash, inclusion_clash, leaves_clash, roots_clash,
 };
@@ -46,5 +47,5 @@ fn is_found_in_entries() -> bool {
 
 #[test]
 fn clashes_are_those_worked_by_hand(rt: HostRuntime) {
-    assert!(rt; are_found_in_nodes() && is_found_in_entries());
+    shows(&rt, are_found_in_nodes() && is_found_in_entries());
 }

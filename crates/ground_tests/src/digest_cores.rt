@@ -2,6 +2,7 @@
 
 ghost use Rattle.std.specs.Prelude.{◌≡◌, ℕ, ◌+◌, ◌%◌, ◌≤◌, ◌<◌, List, length, sum};
 
+use crate::shown::shows;
 use block_buffer::EagerBuffer;
 use digest_core::{
     Absorb, BlockSizeUser, CoreWrapper, FixedOutput, FixedOutputCore, FixedOutputReset,
@@ -119,7 +120,7 @@ fn is_digest_after_reset(mut hash: CoreWrapper<Summing>) -> bool
 // The example of the crate's first page.
 #[test]
 fn digests_on_the_way_and_after_a_reset(rt: HostRuntime) {
-    assert!(rt; are_digests_on_the_way());
+    shows(&rt, are_digests_on_the_way());
 }
 
 fn is_der(id: &ObjectIdentifier, expected: &[u8]) -> bool {
@@ -169,7 +170,6 @@ fn are_octets_of_third_arcs() -> bool {
 // The identifiers of the two hashes, and arcs at the bounds.
 #[test]
 fn octets_of_object_identifiers(rt: HostRuntime) {
-    assert!(rt; are_octets_of_hashes());
-    assert!(rt; are_octets_of_two_arcs() && are_octets_under_joint());
-    assert!(rt; are_octets_of_third_arcs());
+    shows(&rt, are_octets_of_hashes() && are_octets_of_two_arcs());
+    shows(&rt, are_octets_under_joint() && are_octets_of_third_arcs());
 }

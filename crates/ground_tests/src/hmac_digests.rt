@@ -4,6 +4,7 @@
 ghost use Rattle.std.specs.Prelude.{◌≤◌, ◌^◌, length};
 
 use crate::hexadecimal::is_hex;
+use crate::shown::shows;
 use hmac_sha256::{HMAC, Hash};
 
 fn has_digest(message: &[u8], text: &str) -> bool
@@ -12,20 +13,19 @@ fn has_digest(message: &[u8], text: &str) -> bool
     is_hex(text, &Hash::hash(message))
 }
 
-fn are_digests_of_the_standard() -> bool {
+// FIPS 180-4's examples, and the digest of nothing.
+#[test]
+fn digests_of_the_standard(rt: HostRuntime) {
     let of_abc = "ba7816bf8f01cfea414140de5dae2223b00361a396177a9cb410ff61f20015ad";
     let of_nothing = "e3b0c44298fc1c149afbf4c8996fb92427ae41e4649b934ca495991b7852b855";
     let of_two_blocks = "248d6a61d20638b8e5c026930c3e6039a33ce45964ff2167f6ecedd419db06c1";
     let two_blocks = b"abcdbcdecdefdefgefghfghighijhijkijkljklmklmnlmnomnopnopq";
-    has_digest(b"abc", of_abc)
-        && has_digest(b"", of_nothing)
-        && has_digest(two_blocks, of_two_blocks)
-}
-
-// FIPS 180-4's examples, and the digest of nothing.
-#[test]
-fn digests_of_the_standard(rt: HostRuntime) {
-    assert!(rt; are_digests_of_the_standard());
+    shows(
+        &rt,
+        has_digest(b"abc", of_abc)
+            && has_digest(b"", of_nothing)
+            && has_digest(two_blocks, of_two_blocks),
+    );
 }
 
 // The bytes of which byte `i` is `7 * i + 3`.
@@ -73,21 +73,20 @@ fn digest_of_blocks(message: &[u8; 4096]) -> [u8; 32] {
     digest
 }
 
-fn are_digests_in_turn() -> bool {
-    let of_lengths = "ba6f82458402eac3a7efe79237fa695b92dc91244efde7f934c5b707acac8974";
-    let of_pieces = "c098a17709a00fe41b39d7c8ea15bd3fd02fc78a6a5c7bda8e5c70defaad8829";
-    let of_blocks = "fca89b97d94f70774d9d82776121c16a89599b28157cc01948d003148083fa06";
-    let message = message();
-    is_hex(of_lengths, &digest_of_all_lengths(&message))
-        && is_hex(of_pieces, &digest_of_pieces(&message))
-        && is_hex(of_blocks, &digest_of_blocks(&message))
-}
-
 // Messages of up to 332 bytes, and of more than sixteen blocks, of which eight are taken at a time.
 // Each digest is of the one before it, too, and the last is from Python's `hashlib`.
 #[test]
 fn digests_of_all_lengths_and_of_long_messages(rt: HostRuntime) {
-    assert!(rt; are_digests_in_turn());
+    let of_lengths = "ba6f82458402eac3a7efe79237fa695b92dc91244efde7f934c5b707acac8974";
+    let of_pieces = "c098a17709a00fe41b39d7c8ea15bd3fd02fc78a6a5c7bda8e5c70defaad8829";
+    let of_blocks = "fca89b97d94f70774d9d82776121c16a89599b28157cc01948d003148083fa06";
+    let message = message();
+    shows(
+        &rt,
+        is_hex(of_lengths, &digest_of_all_lengths(&message))
+            && is_hex(of_pieces, &digest_of_pieces(&message))
+            && is_hex(of_blocks, &digest_of_blocks(&message)),
+    );
 }
 
 fn has_code(message: &[u8], key: &[u8], text: &str) -> bool
@@ -110,7 +109,7 @@ fn are_codes_of_the_rfc() -> bool {
 // The cases 1, 2 and 6 of RFC 4231.
 #[test]
 fn codes_of_the_rfc(rt: HostRuntime) {
-    assert!(rt; are_codes_of_the_rfc());
+    shows(&rt, are_codes_of_the_rfc());
 }
 
 fn is_code_of_two_pieces(code: &str) -> bool {
@@ -134,20 +133,19 @@ fn code_of_all_key_lengths() -> [u8; 32] {
     code
 }
 
-fn are_codes_of_others() -> bool {
-    let of_the_crate = "709c78d856194fd29bc120787486ed0ec60140297cc4675b6dd8248504eadae4";
-    let of_nothing = "b613679a0814d9ec772f95d778c35fc5ff1697c493715653c6c712144292c5ad";
-    let under_nothing = "e15823084eb9a506eb7c1cfa707c9f779f58b83d0725a6e5479a539997b5b648";
-    let of_all = "fa0801af4e06a6b58fb0711aef5fdfc8f7cb108a450bdb2324f8e69cc994cfbe";
-    is_code_of_two_pieces(of_the_crate)
-        && has_code(b"", &[0; 32], of_nothing)
-        && has_code(&[0x2a; 69], b"", under_nothing)
-        && is_hex(of_all, &code_of_all_key_lengths())
-}
-
 // The code of the Rust crate's own test, and from Python's `hmac` those of no message, under no key
 // and under keys of all lengths.
 #[test]
 fn codes_of_the_crate_and_of_python(rt: HostRuntime) {
-    assert!(rt; are_codes_of_others());
+    let of_the_crate = "709c78d856194fd29bc120787486ed0ec60140297cc4675b6dd8248504eadae4";
+    let of_nothing = "b613679a0814d9ec772f95d778c35fc5ff1697c493715653c6c712144292c5ad";
+    let under_nothing = "e15823084eb9a506eb7c1cfa707c9f779f58b83d0725a6e5479a539997b5b648";
+    let of_all = "fa0801af4e06a6b58fb0711aef5fdfc8f7cb108a450bdb2324f8e69cc994cfbe";
+    shows(
+        &rt,
+        is_code_of_two_pieces(of_the_crate)
+            && has_code(b"", &[0; 32], of_nothing)
+            && has_code(&[0x2a; 69], b"", under_nothing)
+            && is_hex(of_all, &code_of_all_key_lengths()),
+    );
 }

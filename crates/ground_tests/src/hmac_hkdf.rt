@@ -3,6 +3,7 @@
 ghost use Rattle.std.specs.Prelude.{◌≤◌, ◌^◌, length};
 
 use crate::hexadecimal::is_hex;
+use crate::shown::shows;
 use hmac_sha256::{HKDF, HMAC, Hash};
 
 const SALT: [u8; 13] = [0, 1, 2, 3, 4, 5, 6, 7, 8, 9, 10, 11, 12];
@@ -63,7 +64,7 @@ fn is_case_3() -> bool {
 
 #[test]
 fn cases_of_the_rfc(rt: HostRuntime) {
-    assert!(rt; is_case_1() && is_case_2() && is_case_3());
+    shows(&rt, is_case_1() && is_case_2() && is_case_3());
 }
 
 fn derived_key() -> [u8; 32] {
@@ -92,7 +93,7 @@ fn are_code_and_digest(key: &[u8; 32]) -> bool {
 // The example of the crate's first page. The values are from Python's `hmac` and `hashlib`.
 #[test]
 fn a_code_under_a_derived_key(rt: HostRuntime) {
-    assert!(rt; are_code_and_digest(&derived_key()));
+    shows(&rt, are_code_and_digest(&derived_key()));
 }
 
 // The SHA-256 of outputs, by their lengths, from Python's `hmac` and `hashlib`.
@@ -131,5 +132,5 @@ fn derives_each_length() -> bool {
 
 #[test]
 fn outputs_of_each_length(rt: HostRuntime) {
-    assert!(rt; derives_each_length());
+    shows(&rt, derives_each_length());
 }

@@ -4,6 +4,7 @@
 ghost use Rattle.std.specs.Prelude.{◌≡◌, ◌+◌, ◌≤◌, length};
 
 use crate::hexadecimal::is_hex;
+use crate::shown::shows;
 use digest_core::FixedOutput;
 use hmac_sha256::{Hash, WrappedHash};
 
@@ -28,16 +29,15 @@ fn is_digest(first: &[u8], second: &[u8], expected: &str) -> bool
         && is_hex(expected, &digest_of_two(wrapped, first, second))
 }
 
-fn are_digests() -> bool {
+#[test]
+fn core_and_hash_give_published_digests(rt: HostRuntime) {
     let of_abc = "ba7816bf8f01cfea414140de5dae2223b00361a396177a9cb410ff61f20015ad";
     let of_nothing = "e3b0c44298fc1c149afbf4c8996fb92427ae41e4649b934ca495991b7852b855";
     let of_200_bytes = "65c16504dd0dbd70f5c4e43865f85cbdb1639b42bcdd192408f96b38fba4b8d6";
-    is_digest(b"a", b"bc", of_abc)
-        && is_digest(b"", b"", of_nothing)
-        && is_digest(&[0x2a; 145], &[0x2a; 55], of_200_bytes)
-}
-
-#[test]
-fn core_and_hash_give_published_digests(rt: HostRuntime) {
-    assert!(rt; are_digests());
+    shows(
+        &rt,
+        is_digest(b"a", b"bc", of_abc)
+            && is_digest(b"", b"", of_nothing)
+            && is_digest(&[0x2a; 145], &[0x2a; 55], of_200_bytes),
+    );
 }

@@ -46,6 +46,8 @@ mod sha512_pieces;
 #[cfg(test)]
 mod sha512_tails;
 #[cfg(test)]
+mod shown;
+#[cfg(test)]
 mod stdio_ends;
 #[cfg(test)]
 mod texts;

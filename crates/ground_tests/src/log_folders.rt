@@ -1,4 +1,5 @@
 //! The folders of a log, and its lock.
+use crate::shown::{shows, shows_at};
 use crate::whole_memory::{COUNT, NEVER, files, has, is_free};
 use log_files::{FolderError, Piece, free_lock, make_folder, take_lock};
 use std::alloc::Global;
@@ -22,15 +23,19 @@ enum Fact {
 
 // One function owns the files, of which each that does has to drop all.
 fn holds(alloc: Global, fact: Fact, call: u64, stop: u64) -> bool {
-    let Ok(mut files) = files(alloc, call, stop) else {
-        return false;
-    };
+    match files(alloc, call, stop) {
+        Ok(mut files) => holds_of(&mut files, fact, call, stop),
+        Err(_) => false,
+    }
+}
+
+fn holds_of(files: &mut MemFiles, fact: Fact, call: u64, stop: u64) -> bool {
     match fact {
-        Fact::Made => folders_are_made(&mut files),
-        Fact::NewFails => folder_fails(&mut files, call),
-        Fact::OldFails => old_folder_fails(&mut files, call),
-        Fact::OneWriter => one_writer(&mut files),
-        Fact::LockStops => lock_stops(&mut files, stop),
+        Fact::Made => folders_are_made(files),
+        Fact::NewFails => folder_fails(files, call),
+        Fact::OldFails => old_folder_fails(files, call),
+        Fact::OneWriter => one_writer(files),
+        Fact::LockStops => lock_stops(files, stop),
     }
 }
 
@@ -99,17 +104,19 @@ fn lock_stops(files: &mut MemFiles, stop: u64) -> bool {
 
 #[test]
 fn folders_are_made_where_nothing_stands(rt: HostRuntime) {
-    assert!(rt; holds(rt.alloc(), Fact::Made, NEVER, NEVER));
+    let alloc = rt.alloc();
+    shows(&rt, holds(alloc, Fact::Made, NEVER, NEVER));
     for call in 0..4u64 {
-        assert!(rt; holds(rt.alloc(), Fact::NewFails, call, NEVER), "{call}");
-        assert!(rt; holds(rt.alloc(), Fact::OldFails, call, NEVER), "{call}");
+        shows_at(&rt, call, holds(alloc, Fact::NewFails, call, NEVER));
+        shows_at(&rt, call, holds(alloc, Fact::OldFails, call, NEVER));
     }
 }
 
 #[test]
 fn a_lock_has_one_holder(rt: HostRuntime) {
-    assert!(rt; holds(rt.alloc(), Fact::OneWriter, NEVER, NEVER));
+    let alloc = rt.alloc();
+    shows(&rt, holds(alloc, Fact::OneWriter, NEVER, NEVER));
     for stop in 0..8u64 {
-        assert!(rt; holds(rt.alloc(), Fact::LockStops, NEVER, stop), "{stop}");
+        shows_at(&rt, stop, holds(alloc, Fact::LockStops, NEVER, stop));
     }
 }

@@ -4,6 +4,7 @@ ghost use Rattle.std.specs.Prelude.{◌<◌, ◌++◌, ◌∷◌, [], Some, unwr
 ghost use Rattle.std.specs.Option.{option_map};
 ghost use Rattle.line_serve.specs.Fields.{fields};
 
+use crate::shown::shows;
 use line_serve::{
     ByteString, Failed, MemSink, MemSource, NullSink, QuietSource, Replier, Source, Words,
     all_fields, count_fields, field, field_at, hex_field, push_hex_line, push_number_line,
@@ -91,15 +92,6 @@ fn answers(alloc: Global, input: &[u8], output: &[u8]) -> bool {
     }
 }
 
-fn answers_in_turn(alloc: Global) -> bool {
-    answers(alloc, b"", b"")
-        && answers(alloc, b"\n\r\n \n", b"")
-        && answers(alloc, b"a b\nc", b"a\nc\n")
-        && answers(alloc, b" a \r\n\rb\r\r\n", b"a\n\rb\r\n")
-        && answers(alloc, b"a\n\nb\n", b"a\nb\n")
-        && answers_into_nothing(alloc)
-}
-
 fn answers_into_nothing(alloc: Global) -> bool {
     match b"a\n".to_vec(alloc) {
         Ok(input) => serve_lines(alloc, &First, &mut QuietSource::new(input), &mut NullSink) == 0,
@@ -109,7 +101,16 @@ fn answers_into_nothing(alloc: Global) -> bool {
 
 #[test]
 fn lines_are_answered_in_turn(rt: HostRuntime) {
-    assert!(rt; answers_in_turn(rt.alloc()));
+    let alloc = rt.alloc();
+    shows(
+        &rt,
+        answers(alloc, b"", b"")
+            && answers(alloc, b"\n\r\n \n", b"")
+            && answers(alloc, b"a b\nc", b"a\nc\n")
+            && answers(alloc, b" a \r\n\rb\r\r\n", b"a\n\rb\r\n")
+            && answers(alloc, b"a\n\nb\n", b"a\nb\n")
+            && answers_into_nothing(alloc),
+    );
 }
 
 // So many bytes `a`, and then these.
@@ -141,20 +142,17 @@ fn answers_long_by(alloc: Global, length: usize, end: &[u8], count: usize) -> bo
     }
 }
 
-fn are_too_long(alloc: Global) -> bool {
-    answers_long(alloc, LIMIT + 1, b"\nb\n", b"error line\nb\n")
-        && answers_long(alloc, LIMIT, b"\r\nb\n", b"error line\nb\n")
-        && answers_long(alloc, LIMIT + 1, b"", b"error line\n")
-}
-
-fn are_not_too_long(alloc: Global) -> bool {
-    answers_long_by(alloc, LIMIT, b"\n", LIMIT + 1)
-        && answers_long_by(alloc, LIMIT - 1, b"\r\n", LIMIT)
-}
-
 #[test]
 fn a_line_is_too_long_past_the_limit(rt: HostRuntime) {
-    assert!(rt; are_too_long(rt.alloc()) && are_not_too_long(rt.alloc()));
+    let alloc = rt.alloc();
+    shows(
+        &rt,
+        answers_long(alloc, LIMIT + 1, b"\nb\n", b"error line\nb\n")
+            && answers_long(alloc, LIMIT, b"\r\nb\n", b"error line\nb\n")
+            && answers_long(alloc, LIMIT + 1, b"", b"error line\n")
+            && answers_long_by(alloc, LIMIT, b"\n", LIMIT + 1)
+            && answers_long_by(alloc, LIMIT - 1, b"\r\n", LIMIT),
+    );
 }
 
 // A thousand lines of seven bytes are two pieces of at most 4096 bytes, and a third read finds the
@@ -227,7 +225,7 @@ fn is_cut_in_turn(alloc: Global) -> bool {
 
 #[test]
 fn each_fault_in_turn(rt: HostRuntime) {
-    assert!(rt; is_cut_in_turn(rt.alloc()));
+    shows(&rt, is_cut_in_turn(rt.alloc()));
 }
 
 fn slow_source(alloc: Global, bytes: &[u8]) -> Result<Slow, AllocError> {
@@ -237,15 +235,17 @@ fn slow_source(alloc: Global, bytes: &[u8]) -> Result<Slow, AllocError> {
     })
 }
 
-fn runs_slowly(alloc: Global) -> Result<bool, AllocError> {
-    let mut source = slow_source(alloc, b"ab c\r\n\nd\n  e f")?;
+fn runs_slowly(alloc: Global) -> bool {
+    let Ok(mut source) = slow_source(alloc, b"ab c\r\n\nd\n  e f") else {
+        return false;
+    };
     let mut sink = MemSink::new(alloc, Vec::new(alloc));
-    Ok(runs_to(alloc, &mut source, &mut sink, 0, b"ab\nd\ne\n") && source.most == 4096)
+    runs_to(alloc, &mut source, &mut sink, 0, b"ab\nd\ne\n") && source.most == 4096
 }
 
 #[test]
 fn one_byte_a_read(rt: HostRuntime) {
-    assert!(rt; runs_slowly(rt.alloc()) == Ok(true));
+    shows(&rt, runs_slowly(rt.alloc()));
 }
 
 // Whether a read of at most `most` bytes asks for so many.
@@ -261,16 +261,16 @@ fn asks_for(alloc: Global, most: u64, asked: usize) -> bool
 }
 
 // The last read before the limit asks for what is left up to it.
-fn asks_for_what_is_left(alloc: Global) -> bool {
-    asks_for(alloc, 5, 5)
-        && asks_for(alloc, 4095, 4095)
-        && asks_for(alloc, 4096, 4096)
-        && asks_for(alloc, 1 << 40, 4096)
-}
-
 #[test]
 fn no_read_asks_for_more_than_is_left(rt: HostRuntime) {
-    assert!(rt; asks_for_what_is_left(rt.alloc()));
+    let alloc = rt.alloc();
+    shows(
+        &rt,
+        asks_for(alloc, 5, 5)
+            && asks_for(alloc, 4095, 4095)
+            && asks_for(alloc, 4096, 4096)
+            && asks_for(alloc, 1 << 40, 4096),
+    );
 }
 
 fn is_cause(sink: &MemSink, status: u8) -> bool {
@@ -297,55 +297,51 @@ fn ends_by_its_cause(alloc: Global) -> Result<bool, AllocError> {
 // Run with each allocation failing in turn, too (`rt try --test --fail-alloc`).
 #[test]
 fn memory_that_a_sink_was_refused_is_its_fault(rt: HostRuntime) {
-    assert!(rt; ends_by_its_cause(rt.alloc()).unwrap_or(true));
+    shows(&rt, ends_by_its_cause(rt.alloc()).unwrap_or(true));
 }
 
 // Whether a whole program of lines ends with this status and text.
-fn serves(alloc: Global, words: &Words, input: Vec<u8>, status: u8, text: &[u8]) -> bool {
+fn serves(alloc: Global, words: &Words, status: u8, text: &[u8]) -> bool {
+    let Ok(input) = b"a b\nc".to_vec(alloc) else {
+        return false;
+    };
     let mut source = QuietSource::new(input);
     let mut sink = MemSink::new(alloc, Vec::new(alloc));
     serve_words(alloc, &First, b"usage: x\n", words, &mut source, &mut sink) == status
         && sink.bytes() == text
 }
 
-fn serves_lines(alloc: Global) -> bool {
-    match b"a b\nc".to_vec(alloc) {
-        Ok(input) => serves(alloc, &Words::new(alloc), input, 0, b"a\nc\n"),
-        Err(_) => false,
-    }
-}
-
-fn refuses(alloc: Global, word: &[u8]) -> Result<bool, AllocError> {
+fn refuses(alloc: Global, word: &[u8]) -> bool {
     let mut words = Words::new(alloc);
-    words.push(word)?;
-    let input = b"a b\nc".to_vec(alloc)?;
-    Ok(serves(alloc, &words, input, 2, b"usage: x\n"))
+    words.push(word).is_ok() && serves(alloc, &words, 2, b"usage: x\n")
 }
 
 #[test]
 fn a_program_of_lines_takes_no_words(rt: HostRuntime) {
-    assert!(rt; serves_lines(rt.alloc()));
-    assert!(rt; refuses(rt.alloc(), b"help") == Ok(true));
-    assert!(rt; refuses(rt.alloc(), b"") == Ok(true));
+    let alloc = rt.alloc();
+    shows(&rt, serves(alloc, &Words::new(alloc), 0, b"a\nc\n"));
+    shows(&rt, refuses(alloc, b"help") && refuses(alloc, b""));
 }
 
-// Long replies to the lines of one piece don't all wait for its end: the second write fails here.
-fn is_written_early(alloc: Global, mut source: QuietSource, fails: Vec<u64>) -> bool {
+// Long replies to 200 lines of one piece don't all wait for its end: the second write fails here.
+fn is_written_early(alloc: Global, lines: Vec<u8>, fails: Vec<u64>) -> bool {
+    let mut source = QuietSource::new(lines);
     let mut sink = MemSink::new(alloc, fails);
     serve_lines(alloc, &Zeros { count: 1000 }, &mut source, &mut sink) == 4
         && sink.bytes().len() == 66_000
         && sink.refused() == 0
 }
 
-fn writes_early(alloc: Global) -> Result<bool, AllocError> {
-    let source = QuietSource::new(vec![in alloc; b'\n'; 200]?);
-    let fails = vec![in alloc; 1]?;
-    Ok(is_written_early(alloc, source, fails))
+fn writes_early(alloc: Global) -> bool {
+    match (vec![in alloc; b'\n'; 200], vec![in alloc; 1]) {
+        (Ok(lines), Ok(fails)) => is_written_early(alloc, lines, fails),
+        _ => false,
+    }
 }
 
 #[test]
 fn long_replies_are_written_early(rt: HostRuntime) {
-    assert!(rt; writes_early(rt.alloc()) == Ok(true));
+    shows(&rt, writes_early(rt.alloc()));
 }
 
 fn reply_lines(alloc: Global) -> Result<ByteString, AllocError> {
@@ -374,13 +370,12 @@ fn second_bytes(alloc: Global, line: &[u8]) -> Result<ByteString, AllocError> {
 
 #[test]
 fn numbers_and_bytes_as_text(rt: HostRuntime) {
+    let alloc = rt.alloc();
     let wanted = b"differs 0\n18446744073709551615\nrecord 00ffab\nend\n";
-    assert!(rt; is_text(&reply_lines(rt.alloc()), wanted));
-    assert!(rt;
-        is_text(
-            &second_bytes(rt.alloc(), b"record 00fFAb\r"),
-            b"\x00\xff\xab"
-        )
+    shows(&rt, is_text(&reply_lines(alloc), wanted));
+    shows(
+        &rt,
+        is_text(&second_bytes(alloc, b"record 00fFAb\r"), b"\x00\xff\xab"),
     );
 }
 
@@ -408,13 +403,18 @@ fn replies(alloc: Global, input: &[u8]) -> Result<(u8, Vec<u8>), AllocError> {
     Ok((status, sink.bytes().to_vec(alloc)?))
 }
 
-fn is_reply_of_pairs(alloc: Global, input: &[u8], text: &[u8]) -> Result<bool, AllocError> {
-    let (status, written) = replies(alloc, input)?;
-    Ok(status == 0 && written.as_slice() == text)
+fn is_reply_of_pairs(alloc: Global, input: &[u8], text: &[u8]) -> bool {
+    match replies(alloc, input) {
+        Ok((status, written)) => status == 0 && written.as_slice() == text,
+        Err(_) => false,
+    }
 }
 
 #[test]
 fn example_of_the_page(rt: HostRuntime) {
     let text = b"pair\nother\nother\npair\n";
-    assert!(rt; is_reply_of_pairs(rt.alloc(), b"a b\n\nc d e\r\n f  g\r", text) == Ok(true));
+    shows(
+        &rt,
+        is_reply_of_pairs(rt.alloc(), b"a b\n\nc d e\r\n f  g\r", text),
+    );
 }

@@ -3,6 +3,7 @@
 ghost use Rattle.std.specs.Prelude.{◌≤◌};
 
 use crate::hexadecimal::{are_hex, is_hex};
+use crate::shown::shows;
 use hmac_sha256::Hash;
 use sha256_lanes::{BLOCK_BYTES, Begun, Eight, Heads, MAX_TAIL, Midstate};
 
@@ -49,7 +50,10 @@ fn are_digests_by_four(midstate: &Midstate) -> bool {
 #[test]
 fn digests_of_tails_side_by_side(rt: HostRuntime) {
     let midstate = after_block();
-    assert!(rt; are_digests_of_tails(&midstate) && are_digests_by_four(&midstate));
+    shows(
+        &rt,
+        are_digests_of_tails(&midstate) && are_digests_by_four(&midstate),
+    );
 }
 
 // 64 bytes 07 and then 582 bytes, as many as T hashes after the seed where values have 16 bytes.
@@ -108,7 +112,10 @@ fn is_digest_of_rows_of_all_lengths(midstate: &Midstate) -> bool {
 #[test]
 fn digests_of_rows_side_by_side(rt: HostRuntime) {
     let midstate = after_block();
-    assert!(rt; are_digests_of_rows(&midstate) && is_digest_of_rows_of_all_lengths(&midstate));
+    shows(
+        &rt,
+        are_digests_of_rows(&midstate) && is_digest_of_rows_of_all_lengths(&midstate),
+    );
 }
 
 // Whether the digest in lane 5 is that of what was begun, the number 258 in 4 bytes, and `n` bytes
@@ -145,15 +152,11 @@ fn are_steps(begun: &Begun, values: &Eight) -> bool {
         && is_step(begun, values, 32, of_32)
 }
 
-fn are_digests_of_steps() -> bool {
-    let (heads, values) = numbered_steps();
-    are_steps(&after_block().begin(&heads), &values)
-}
-
 // In lane 5: 64 bytes 07, 18 bytes 05, the number, and bytes 69. From Python's `hashlib`.
 #[test]
 fn digests_of_steps(rt: HostRuntime) {
-    assert!(rt; are_digests_of_steps());
+    let (heads, values) = numbered_steps();
+    shows(&rt, are_steps(&after_block().begin(&heads), &values));
 }
 
 // The bytes 00, 01, and so on.
@@ -181,7 +184,7 @@ fn are_digests_of_one(midstate: &Midstate) -> bool {
 
 #[test]
 fn one_alone(rt: HostRuntime) {
-    assert!(rt; are_digests_of_one(&Midstate::new(&counted())));
+    shows(&rt, are_digests_of_one(&Midstate::new(&counted())));
 }
 
 fn tail_of(bytes: &[u8; 3]) -> [u8; BLOCK_BYTES] {
@@ -210,5 +213,8 @@ const DIGESTS_OF_WORDS: &str = "\
 
 #[test]
 fn example_of_the_page(rt: HostRuntime) {
-    assert!(rt; are_hex(DIGESTS_OF_WORDS, &four_digests(&[7; BLOCK_BYTES])));
+    shows(
+        &rt,
+        are_hex(DIGESTS_OF_WORDS, &four_digests(&[7; BLOCK_BYTES])),
+    );
 }

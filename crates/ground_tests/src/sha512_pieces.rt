@@ -1,6 +1,7 @@
 //! SHA-512 in pieces: NIST's examples.
 
 use crate::hexadecimal::is_hex;
+use crate::shown::shows;
 use sha512_lanes::Hash512;
 
 fn are_examples_of_one_block() -> bool {
@@ -32,5 +33,8 @@ fn is_example_of_letters() -> bool {
 
 #[test]
 fn examples_of_the_standard(rt: HostRuntime) {
-    assert!(rt; are_examples_of_one_block() && is_example_of_896_bits() && is_example_of_letters());
+    shows(
+        &rt,
+        are_examples_of_one_block() && is_example_of_896_bits() && is_example_of_letters(),
+    );
 }

@@ -1,6 +1,7 @@
 //! Digests against those of Python's `hashlib`.
 
 use crate::hexadecimal::are_hex;
+use crate::shown::shows;
 use sha512_lanes::{BLOCK_BYTES, MAX_TAIL, Midstate};
 
 // The digests of 128 bytes 07 and then 86 bytes 00, 01, 02 or 03.
@@ -39,7 +40,7 @@ fn are_digests_of_one() -> bool {
 
 #[test]
 fn four_side_by_side_and_one_alone(rt: HostRuntime) {
-    assert!(rt; are_digests_of_tails() && are_digests_of_one());
+    shows(&rt, are_digests_of_tails() && are_digests_of_one());
 }
 
 fn tail_of(bytes: &[u8; 3]) -> [u8; BLOCK_BYTES] {
@@ -68,5 +69,8 @@ e09a0e2b52e72b257cba505fd6bd896fd9e1be6b8895c0a3a2d5f22108eadef7741cd09571e55400
 
 #[test]
 fn example_of_the_page(rt: HostRuntime) {
-    assert!(rt; are_hex(DIGESTS_OF_WORDS, &four_digests(&[7; BLOCK_BYTES])));
+    shows(
+        &rt,
+        are_hex(DIGESTS_OF_WORDS, &four_digests(&[7; BLOCK_BYTES])),
+    );
 }

@@ -1,6 +1,7 @@
 ghost use Rattle.std.specs.Prelude.{◌<◌};
 
 use crate::hexadecimal::digest;
+use crate::shown::shows;
 use log_tiles::GrowingTiles;
 use merkle_tree::{Sha256, TreeHash};
 
@@ -38,5 +39,5 @@ fn all_sizes() -> [u8; 32] {
 #[test]
 fn tiles_and_roots_of_sizes_up_to_300(rt: HostRuntime) {
     let expected = digest("b2755349d4d11de1c48fd997e0e4da4582d1b6a25922099ff622af02e4e2c771");
-    assert!(rt; all_sizes() == expected);
+    shows(&rt, all_sizes() == expected);
 }

@@ -1,6 +1,7 @@
 ghost use Rattle.std.specs.Prelude.{◌<◌, ◌≤◌};
 
 use crate::hexadecimal::digest;
+use crate::shown::shows;
 use log_tiles::{Tile, TileError, TileSource, prove_growth, prove_presence};
 use merkle_tree::{Sha256, TreeHash, root_of};
 use std::alloc::Global;
@@ -90,25 +91,43 @@ fn with_proof(before: &[u8; 32], proof: &[[u8; 32]]) -> [u8; 32] {
     all
 }
 
-// Three paths and three proofs of a log of so many entries, hashed into the digest.
-fn with_log(alloc: Global, before: &[u8; 32], size: u64) -> Option<[u8; 32]>
+fn with_paths(alloc: Global, before: &[u8; 32], leaves: &[[u8; 32]], size: u64) -> Option<[u8; 32]>
     requires { 0 < size }
 {
-    let leaves = leaves(alloc, size)?;
-    let root = front(&leaves, size);
-    let tiles = tiles_over(&leaves);
+    let (tiles, root) = (tiles_over(leaves), front(leaves, size));
     let mut all = *before;
     for i in [0, size / 2, size - 1] {
         let leaf = leaves.get(i as usize)?;
         let path = prove_presence::<Sha256, Made<'_>>(&tiles, i, size, leaf, &root, alloc).ok()?;
         all = with_proof(&all, &path);
     }
+    Some(all)
+}
+
+fn with_proofs(alloc: Global, before: &[u8; 32], leaves: &[[u8; 32]], size: u64) -> Option<[u8; 32]>
+    requires { 0 < size }
+{
+    let (tiles, root) = (tiles_over(leaves), front(leaves, size));
+    let mut all = *before;
     for m in [1, size / 2 + 1, size] {
-        let old = front(&leaves, m);
+        let old = front(leaves, m);
         let proof = prove_growth::<Sha256, Made<'_>>(&tiles, m, size, &old, &root, alloc).ok()?;
         all = with_proof(&all, &proof);
     }
     Some(all)
+}
+
+// Three paths and three proofs of a log of so many entries, hashed into the digest.
+fn with_log(alloc: Global, before: &[u8; 32], size: u64) -> Option<[u8; 32]>
+    requires { 0 < size }
+{
+    let leaves = leaves(alloc, size)?;
+    with_proofs(
+        alloc,
+        &with_paths(alloc, before, &leaves, size)?,
+        &leaves,
+        size,
+    )
 }
 
 const SIZES: [u64; 9] = [1, 2, 3, 7, 255, 256, 257, 300, 515];
@@ -126,7 +145,7 @@ fn all_logs(alloc: Global) -> Option<[u8; 32]> {
 #[test]
 fn paths_and_proofs_from_tiles(rt: HostRuntime) {
     let expected = digest("01e25513bb085a87111b98818c256f3d9e40da44b61b089f2bdcd1fb59dd79c3");
-    assert!(rt; all_logs(rt.alloc()) == Some(expected));
+    shows(&rt, all_logs(rt.alloc()) == Some(expected));
 }
 
 // Why the path of entry 3 of 600 isn't handed out.
@@ -156,16 +175,16 @@ fn is_refused_at(alloc: Global, place: Tile) -> bool {
         && refusal(alloc, None, Some(place)) == Some(TileError::Differs)
 }
 
-fn are_refused(alloc: Global) -> bool {
-    is_refused_at(alloc, tile(0, 0, 256))
-        && is_refused_at(alloc, tile(1, 0, 2))
-        && is_refused_at(alloc, tile(0, 2, 88))
-        && refusal(alloc, Some(tile(0, 1, 256)), None).is_none()
-}
-
 #[test]
 fn a_tile_that_is_missing_is_named(rt: HostRuntime) {
-    assert!(rt; are_refused(rt.alloc()));
+    let alloc = rt.alloc();
+    shows(
+        &rt,
+        is_refused_at(alloc, tile(0, 0, 256))
+            && is_refused_at(alloc, tile(1, 0, 2))
+            && is_refused_at(alloc, tile(0, 2, 88))
+            && refusal(alloc, Some(tile(0, 1, 256)), None).is_none(),
+    );
 }
 
 // The tiles of a log whose entries are all the same, and how many were read of them.
@@ -238,18 +257,16 @@ fn are_read(alloc: Global, index: u64, size: u64, most: u32) -> bool {
 }
 
 // 10^9 is below 2^30, which has four levels of tiles.
-fn are_few_read_of_10_9(alloc: Global) -> bool {
-    are_read(alloc, 0, 1_000_000_000, 8)
-        && are_read(alloc, 255, 1_000_000_000, 8)
-        && are_read(alloc, 536_870_911, 1_000_000_000, 8)
-        && are_read(alloc, 999_999_999, 1_000_000_000, 8)
-}
-
-fn are_few_read_of_the_longest(alloc: Global) -> bool {
-    are_read(alloc, 0, u64::MAX, 16) && are_read(alloc, u64::MAX - 1, u64::MAX, 16)
-}
-
 #[test]
 fn a_proof_reads_at_most_8_tiles_of_10_9_entries_and_16_of_the_most(rt: HostRuntime) {
-    assert!(rt; are_few_read_of_10_9(rt.alloc()) && are_few_read_of_the_longest(rt.alloc()));
+    let alloc = rt.alloc();
+    shows(
+        &rt,
+        are_read(alloc, 0, 1_000_000_000, 8)
+            && are_read(alloc, 255, 1_000_000_000, 8)
+            && are_read(alloc, 536_870_911, 1_000_000_000, 8)
+            && are_read(alloc, 999_999_999, 1_000_000_000, 8)
+            && are_read(alloc, 0, u64::MAX, 16)
+            && are_read(alloc, u64::MAX - 1, u64::MAX, 16),
+    );
 }

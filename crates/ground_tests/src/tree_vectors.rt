@@ -1,8 +1,7 @@
 use crate::hexadecimal::digest;
+use crate::shown::{shows, shows_at};
 use merkle_store::{Leaves, StoreError, push_path, push_proof};
-use merkle_tree::{
-    Frontier, Levels, MAX_LEAVES, Sha256, TreeHash, check_consistency, check_inclusion,
-};
+use merkle_tree::{Frontier, Levels, Sha256, TreeHash, check_consistency, check_inclusion};
 use std::alloc::{AllocError, Global};
 
 const ENTRIES: [&str; 8] = [
@@ -42,14 +41,14 @@ fn leaf(text: &str) -> [u8; 32] {
 #[test]
 fn roots_of_a_growing_tree(rt: HostRuntime) {
     let mut tree = Frontier::<Sha256>::new();
-    assert!(rt; tree.root() == digest(ROOTS[0]), "no entries");
+    shows(&rt, tree.root() == digest(ROOTS[0]));
     for n in 0..8usize {
         if tree.len() < 8 {
             tree.push(&leaf(ENTRIES[n]));
         }
-        assert!(rt; tree.root() == digest(ROOTS[n + 1]), "entry {n}");
+        shows_at(&rt, n, tree.root() == digest(ROOTS[n + 1]));
     }
-    assert!(rt; tree.len() == 8);
+    shows(&rt, tree.len() == 8);
 }
 
 // Whether a path shows that an entry is the one at an index.
@@ -76,7 +75,7 @@ fn are_paths_for_one_entry() -> bool {
 
 #[test]
 fn a_path_is_for_one_entry(rt: HostRuntime) {
-    assert!(rt; are_paths_for_one_entry());
+    shows(&rt, are_paths_for_one_entry());
 }
 
 // Whether the proof shows that the tree of m entries grew into that of n; no where there is no such
@@ -120,34 +119,37 @@ fn are_for_one_growth() -> bool {
 }
 
 // A full tree, an equal one, and no old tree.
-fn are_trees_at_the_bounds() -> bool {
-    let sibling = digest("837dbb152e9b079010717e84e865da4ebc0fa198a806d59d31bf15accef22d0e");
-    grew(4, 7, &[sibling])
-        && !grew(4, 7, &[])
-        && grew(5, 5, &[])
-        && !grew(5, 5, &[sibling])
-        && !grew(0, 5, &[])
-        && !check_consistency::<Sha256>(5, 5, &digest(ROOTS[5]), &digest(ROOTS[6]), &[])
-}
-
 #[test]
 fn a_proof_is_for_one_growth(rt: HostRuntime) {
-    assert!(rt; are_for_one_growth() && are_trees_at_the_bounds());
+    let sibling = digest("837dbb152e9b079010717e84e865da4ebc0fa198a806d59d31bf15accef22d0e");
+    shows(
+        &rt,
+        are_for_one_growth()
+            && grew(4, 7, &[sibling])
+            && !grew(4, 7, &[])
+            && grew(5, 5, &[])
+            && !grew(5, 5, &[sibling])
+            && !grew(0, 5, &[])
+            && !check_consistency::<Sha256>(5, 5, &digest(ROOTS[5]), &digest(ROOTS[6]), &[]),
+    );
+}
+
+fn leaves() -> [[u8; 32]; 8] {
+    let mut digests = [[0; 32]; 8];
+    for k in 0..8usize {
+        digests[k] = leaf(ENTRIES[k]);
+    }
+    digests
 }
 
 // The path of entry i, and the proof that the tree grew from m entries, for the tree of n; nothing
 // where there are no such entries.
 fn made(alloc: Global, n: usize, i: usize, m: usize) -> Result<Vec<[u8; 32]>, AllocError> {
-    let mut leaves = Vec::new(alloc);
-    for entry in &ENTRIES {
-        leaves.push(leaf(entry))?;
-    }
-    leaves.truncate(n);
     let mut out = Vec::new(alloc);
-    if leaves.is_empty() || leaves.len() > MAX_LEAVES {
+    if n == 0 || n > 8 {
         return Ok(out);
     }
-    let levels = Levels::<Sha256>::over(leaves)?;
+    let levels = Levels::<Sha256>::over(leaves()[..n].to_vec(alloc)?)?;
     if i >= levels.len() || m == 0 || m > levels.len() {
         return Ok(out);
     }
@@ -158,10 +160,7 @@ fn made(alloc: Global, n: usize, i: usize, m: usize) -> Result<Vec<[u8; 32]>, Al
 
 // The same from a store of all eight, for a tree over the first of them.
 fn stored(alloc: Global, n: u64, i: u64, m: u64) -> Result<Vec<[u8; 32]>, StoreError> {
-    let mut digests = [[0; 32]; 8];
-    for k in 0..8usize {
-        digests[k] = leaf(ENTRIES[k]);
-    }
+    let digests = leaves();
     let store = Leaves { digests: &digests };
     let mut out = Vec::new(alloc);
     if i >= n || m == 0 || m > n || n > 8 {
@@ -175,15 +174,20 @@ fn stored(alloc: Global, n: u64, i: u64, m: u64) -> Result<Vec<[u8; 32]>, StoreE
 // Whether what is made is these digests.
 fn is_made<E: Drop>(made: Result<Vec<[u8; 32]>, E>, making: &Making) -> bool {
     match made {
-        Ok(made) => are_digests(&made, making),
+        Ok(made) => are_path_and_proof(&made, making),
         Err(_) => false,
     }
 }
 
-fn are_digests(made: &[[u8; 32]], making: &Making) -> bool {
-    let mut all = made.len() == making.path.len() + making.proof.len();
-    for (text, made) in making.path.iter().chain(making.proof).zip(made) {
-        all = all && digest(text) == *made;
+fn are_path_and_proof(made: &[[u8; 32]], making: &Making) -> bool {
+    let (path, proof) = made.split_at(making.path.len().min(made.len()));
+    are_digests(path, making.path) && are_digests(proof, making.proof)
+}
+
+fn are_digests(made: &[[u8; 32]], texts: &[&str]) -> bool {
+    let mut all = made.len() == texts.len();
+    for (made, text) in made.iter().zip(texts) {
+        all = all && *made == digest(text);
     }
     all
 }
@@ -285,5 +289,5 @@ fn are_made(alloc: Global) -> bool {
 
 #[test]
 fn paths_and_proofs_are_made(rt: HostRuntime) {
-    assert!(rt; are_made(rt.alloc()));
+    shows(&rt, are_made(rt.alloc()));
 }

@@ -1,6 +1,8 @@
 //! Files that are written whole: each call failing in turn, and everything stopping at each.
+use crate::shown::{shows, shows_at};
+use crate::texts::is_text;
 use crate::whole_memory::{COUNT, NEVER, files, has, is_free};
-use std::alloc::{AllocError, Global};
+use std::alloc::Global;
 use whole_files::{
     FileSystem, Kind, MemFiles, Mode, WriteError, Written, is_input, is_part, make_pair,
     make_secret, part_name, write_whole,
@@ -37,23 +39,27 @@ enum Fact {
 
 // One function owns the files, of which each that does has to drop all.
 fn holds(alloc: Global, fact: Fact, call: u64, stop: u64) -> bool {
-    let Ok(mut files) = files(alloc, call, stop) else {
-        return false;
-    };
+    match files(alloc, call, stop) {
+        Ok(mut files) => holds_of(&mut files, fact, call, stop),
+        Err(_) => false,
+    }
+}
+
+fn holds_of(files: &mut MemFiles, fact: Fact, call: u64, stop: u64) -> bool {
     match fact {
-        Fact::Replaced => is_replaced(&mut files),
-        Fact::New => is_written(&mut files),
-        Fact::OthersRefused => are_others_refused(&mut files),
-        Fact::WriteFails => write_fails(&mut files, call),
-        Fact::WriteStops => write_stops(&mut files, stop),
-        Fact::SecretMade => is_made_once(&mut files),
-        Fact::SecretFails => secret_fails(&mut files, call),
-        Fact::SecretBegun => is_begun_secretly(&mut files),
-        Fact::PairFails => pair_fails(&mut files, call),
-        Fact::PairStops => pair_stops(&mut files, stop),
-        Fact::KeyAlone => is_alone(&mut files, "key"),
-        Fact::PublicAlone => is_alone(&mut files, "pub"),
-        Fact::AnyName => has_any_name(&mut files),
+        Fact::Replaced => is_replaced(files),
+        Fact::New => is_written(files),
+        Fact::OthersRefused => are_others_refused(files),
+        Fact::WriteFails => write_fails(files, call),
+        Fact::WriteStops => write_stops(files, stop),
+        Fact::SecretMade => is_made_once(files),
+        Fact::SecretFails => secret_fails(files, call),
+        Fact::SecretBegun => is_begun_secretly(files),
+        Fact::PairFails => pair_fails(files, call),
+        Fact::PairStops => pair_stops(files, stop),
+        Fact::KeyAlone => is_alone(files, "key"),
+        Fact::PublicAlone => is_alone(files, "pub"),
+        Fact::AnyName => has_any_name(files),
     }
 }
 
@@ -102,8 +108,9 @@ fn is_written(files: &mut MemFiles) -> bool {
 
 #[test]
 fn a_file_is_written(rt: HostRuntime) {
-    assert!(rt; holds(rt.alloc(), Fact::Replaced, NEVER, NEVER));
-    assert!(rt; holds(rt.alloc(), Fact::New, NEVER, NEVER));
+    let alloc = rt.alloc();
+    shows(&rt, holds(alloc, Fact::Replaced, NEVER, NEVER));
+    shows(&rt, holds(alloc, Fact::New, NEVER, NEVER));
 }
 
 // What is no regular file isn't written over, nor is what stands at the name of a part.
@@ -120,7 +127,7 @@ fn are_others_refused(files: &mut MemFiles) -> bool {
 
 #[test]
 fn a_link_and_a_folder_are_refused(rt: HostRuntime) {
-    assert!(rt; holds(rt.alloc(), Fact::OthersRefused, NEVER, NEVER));
+    shows(&rt, holds(rt.alloc(), Fact::OthersRefused, NEVER, NEVER));
 }
 
 // What comes of a write whose call with this number fails.
@@ -137,7 +144,7 @@ fn write_fails(files: &mut MemFiles, call: u64) -> bool {
 #[test]
 fn each_call_of_a_write_fails_in_turn(rt: HostRuntime) {
     for call in 0..=CALLS_OF_A_WRITE {
-        assert!(rt; holds(rt.alloc(), Fact::WriteFails, call, NEVER), "{call}");
+        shows_at(&rt, call, holds(rt.alloc(), Fact::WriteFails, call, NEVER));
     }
 }
 
@@ -160,7 +167,7 @@ fn write_stops(files: &mut MemFiles, stop: u64) -> bool {
 #[test]
 fn everything_stops_at_each_call_of_a_write(rt: HostRuntime) {
     for stop in 0..=CALLS_OF_A_WRITE {
-        assert!(rt; holds(rt.alloc(), Fact::WriteStops, NEVER, stop), "{stop}");
+        shows_at(&rt, stop, holds(rt.alloc(), Fact::WriteStops, NEVER, stop));
     }
 }
 
@@ -188,7 +195,7 @@ fn is_made_once(files: &mut MemFiles) -> bool {
 
 #[test]
 fn a_secret_is_made_once(rt: HostRuntime) {
-    assert!(rt; holds(rt.alloc(), Fact::SecretMade, NEVER, NEVER));
+    shows(&rt, holds(rt.alloc(), Fact::SecretMade, NEVER, NEVER));
 }
 
 // What comes of a secret whose call with this number fails.
@@ -206,7 +213,7 @@ fn secret_fails(files: &mut MemFiles, call: u64) -> bool {
 #[test]
 fn each_call_of_a_secret_fails_in_turn(rt: HostRuntime) {
     for call in 0..=CALLS_OF_A_SECRET {
-        assert!(rt; holds(rt.alloc(), Fact::SecretFails, call, NEVER), "{call}");
+        shows_at(&rt, call, holds(rt.alloc(), Fact::SecretFails, call, NEVER));
     }
 }
 
@@ -220,7 +227,7 @@ fn is_begun_secretly(files: &mut MemFiles) -> bool {
 #[test]
 fn a_secret_that_is_begun_is_secret(rt: HostRuntime) {
     for stop in 1..5u64 {
-        assert!(rt; holds(rt.alloc(), Fact::SecretBegun, NEVER, stop), "{stop}");
+        shows_at(&rt, stop, holds(rt.alloc(), Fact::SecretBegun, NEVER, stop));
     }
 }
 
@@ -251,7 +258,7 @@ fn pair_fails(files: &mut MemFiles, call: u64) -> bool {
 #[test]
 fn a_pair_is_made_or_nothing(rt: HostRuntime) {
     for call in 0..13u64 {
-        assert!(rt; holds(rt.alloc(), Fact::PairFails, call, NEVER), "{call}");
+        shows_at(&rt, call, holds(rt.alloc(), Fact::PairFails, call, NEVER));
     }
 }
 
@@ -267,7 +274,7 @@ fn pair_stops(files: &mut MemFiles, stop: u64) -> bool {
 #[test]
 fn everything_stops_at_each_call_of_a_pair(rt: HostRuntime) {
     for stop in 0..13u64 {
-        assert!(rt; holds(rt.alloc(), Fact::PairStops, NEVER, stop), "{stop}");
+        shows_at(&rt, stop, holds(rt.alloc(), Fact::PairStops, NEVER, stop));
     }
 }
 
@@ -281,8 +288,9 @@ fn is_alone(files: &mut MemFiles, path: &str) -> bool {
 
 #[test]
 fn half_a_pair_that_is_there_stays_alone(rt: HostRuntime) {
-    assert!(rt; holds(rt.alloc(), Fact::KeyAlone, NEVER, NEVER));
-    assert!(rt; holds(rt.alloc(), Fact::PublicAlone, NEVER, NEVER));
+    let alloc = rt.alloc();
+    shows(&rt, holds(alloc, Fact::KeyAlone, NEVER, NEVER));
+    shows(&rt, holds(alloc, Fact::PublicAlone, NEVER, NEVER));
 }
 
 fn has_any_name(files: &mut MemFiles) -> bool {
@@ -299,7 +307,7 @@ fn has_any_name(files: &mut MemFiles) -> bool {
 
 #[test]
 fn an_input_has_any_name(rt: HostRuntime) {
-    assert!(rt; holds(rt.alloc(), Fact::AnyName, NEVER, NEVER));
+    shows(&rt, holds(rt.alloc(), Fact::AnyName, NEVER, NEVER));
 }
 
 // Paths, and the names of their parts with the number 255.
@@ -310,10 +318,10 @@ notes.txt.sig 00000000000000ff.part
 a/b/../c a/b/../00000000000000ff.part
 00000000000000ff.part 00000000000000ff.part_";
 
-fn has_part(alloc: Global, row: &str) -> Result<bool, AllocError> {
+fn has_part(alloc: Global, row: &str) -> bool {
     match row.split_once(' ') {
-        Some((path, wanted)) => Ok(part_name(alloc, path, 255)?.as_str() == wanted),
-        None => Ok(false),
+        Some((path, wanted)) => is_text(part_name(alloc, path, 255), wanted),
+        None => false,
     }
 }
 
@@ -327,7 +335,7 @@ fn are_no_parts() -> bool {
 #[test]
 fn parts_have_short_names_in_the_same_folder(rt: HostRuntime) {
     for row in PARTS.lines() {
-        assert!(rt; has_part(rt.alloc(), row) == Ok(true), "{row}");
+        shows_at(&rt, row, has_part(rt.alloc(), row));
     }
-    assert!(rt; is_part("00000000000000ff.part") && are_no_parts());
+    shows(&rt, is_part("00000000000000ff.part") && are_no_parts());
 }
