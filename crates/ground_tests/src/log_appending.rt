@@ -208,30 +208,31 @@ enum Shown {
     NoPiece,
 }
 
-fn is_shown_by(files: &mut MemFiles, old: &[Piece<'_>], new: &[Piece<'_>], shown: Shown) -> bool {
-    match shown {
-        Shown::Appended => is_appended(files, old, new),
-        Shown::Mended(call) => is_mended(files, old, new, call),
-        Shown::Whole(stop) => is_whole(files, old, new, stop),
-        Shown::NoPiece => is_no_piece(files, old, new),
-    }
-}
-
-fn is_shown_of(alloc: Global, old: &Log, new: &Log, shown: Shown) -> Result<bool, AllocError> {
+fn is_shown_of(
+    alloc: Global,
+    old: &[Piece<'_>],
+    new: &[Piece<'_>],
+    shown: Shown,
+) -> Result<bool, AllocError> {
     let (call, stop) = match shown {
         Shown::Mended(call) => (call, NEVER),
         Shown::Whole(stop) => (NEVER, stop),
         _ => (NEVER, NEVER),
     };
-    let (old, new) = (pieces(alloc, old)?, pieces(alloc, new)?);
-    let mut files = files_of(alloc, &old, call, stop)?;
-    Ok(is_shown_by(&mut files, &old, &new, shown))
+    let mut files = files_of(alloc, old, call, stop)?;
+    Ok(match shown {
+        Shown::Appended => is_appended(&mut files, old, new),
+        Shown::Mended(call) => is_mended(&mut files, old, new, call),
+        Shown::Whole(stop) => is_whole(&mut files, old, new, stop),
+        Shown::NoPiece => is_no_piece(&mut files, old, new),
+    })
 }
 
 fn is_shown(alloc: Global, shown: Shown) -> Result<bool, AppendError> {
     let old = log_of(alloc, 255)?;
     let new = log_of(alloc, 257)?;
-    Ok(is_shown_of(alloc, &old, &new, shown)?)
+    let (before, after) = (pieces(alloc, &old)?, pieces(alloc, &new)?);
+    Ok(is_shown_of(alloc, before.as_slice(), after.as_slice(), shown)?)
 }
 
 #[test]

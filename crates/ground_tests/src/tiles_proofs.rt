@@ -91,43 +91,25 @@ fn with_proof(before: &[u8; 32], proof: &[[u8; 32]]) -> [u8; 32] {
     all
 }
 
-fn with_paths(alloc: Global, before: &[u8; 32], leaves: &[[u8; 32]], size: u64) -> Option<[u8; 32]>
+// Three paths and three proofs of a log of so many entries, hashed into the digest.
+fn with_log(alloc: Global, before: &[u8; 32], size: u64) -> Option<[u8; 32]>
     requires { 0 < size }
 {
-    let (tiles, root) = (tiles_over(leaves), front(leaves, size));
+    let leaves = leaves(alloc, size)?;
+    let root = front(&leaves, size);
+    let tiles = tiles_over(&leaves);
     let mut all = *before;
     for i in [0, size / 2, size - 1] {
         let leaf = leaves.get(i as usize)?;
         let path = prove_presence::<Sha256, Made<'_>>(&tiles, i, size, leaf, &root, alloc).ok()?;
         all = with_proof(&all, &path);
     }
-    Some(all)
-}
-
-fn with_proofs(alloc: Global, before: &[u8; 32], leaves: &[[u8; 32]], size: u64) -> Option<[u8; 32]>
-    requires { 0 < size }
-{
-    let (tiles, root) = (tiles_over(leaves), front(leaves, size));
-    let mut all = *before;
     for m in [1, size / 2 + 1, size] {
-        let old = front(leaves, m);
+        let old = front(&leaves, m);
         let proof = prove_growth::<Sha256, Made<'_>>(&tiles, m, size, &old, &root, alloc).ok()?;
         all = with_proof(&all, &proof);
     }
     Some(all)
-}
-
-// Three paths and three proofs of a log of so many entries, hashed into the digest.
-fn with_log(alloc: Global, before: &[u8; 32], size: u64) -> Option<[u8; 32]>
-    requires { 0 < size }
-{
-    let leaves = leaves(alloc, size)?;
-    with_proofs(
-        alloc,
-        &with_paths(alloc, before, &leaves, size)?,
-        &leaves,
-        size,
-    )
 }
 
 const SIZES: [u64; 9] = [1, 2, 3, 7, 255, 256, 257, 300, 515];

@@ -1,7 +1,5 @@
 //! The paths and proofs of all trees of up to 33 entries, against a reference program that follows
 //! RFC 9162 to the letter: all of them hashed into one digest.
-ghost use Rattle.std.specs.Prelude.{◌<◌, ◌≤◌, length};
-
 use crate::shown::shows;
 use merkle_store::{Leaves, StoreError, push_path, push_proof};
 use merkle_tree::{Sha256, TreeHash, check_consistency, check_inclusion, root_of};
@@ -18,35 +16,6 @@ fn digests() -> [[u8; 32]; COUNT] {
     digests
 }
 
-// A digest with a path or a proof, with each of its digests in turn.
-fn with_all(before: &[u8; 32], digests: &[[u8; 32]]) -> [u8; 32] {
-    let mut after = *before;
-    for digest in digests {
-        after = Sha256::node(&after, digest);
-    }
-    after
-}
-
-fn with_checked(
-    before: &[u8; 32],
-    digests: &[[u8; 32]],
-    m: usize,
-    path: &[[u8; 32]],
-    proof: &[[u8; 32]],
-) -> [u8; 32]
-    requires some { 0 < m }
-    requires of_all { m ≤ length digests.now }
-{
-    let n = digests.len();
-    let (old_root, root) = (root_of::<Sha256>(&digests[..m]), root_of::<Sha256>(digests));
-    if !check_inclusion::<Sha256>((m - 1) as u64, n as u64, &digests[m - 1], &root, path)
-        || !check_consistency::<Sha256>(m as u64, n as u64, &old_root, &root, proof)
-    {
-        return [0; 32];
-    }
-    Sha256::node(&with_all(&with_all(before, path), proof), &root)
-}
-
 // What the path of digest m - 1 of n and the proof for m of n add to a digest; all zeros where one
 // of them doesn't pass its check.
 fn add(
@@ -60,11 +29,25 @@ fn add(
         return Ok([0; 32]);
     }
     let store = Leaves { digests };
+    let root = root_of::<Sha256>(digests);
     let mut path = Vec::new(alloc);
     push_path::<Sha256, Leaves<'_>>(&store, &mut path, (m - 1) as u64, n as u64)?;
     let mut proof = Vec::new(alloc);
     push_proof::<Sha256, Leaves<'_>>(&store, &mut proof, m as u64, n as u64)?;
-    Ok(with_checked(before, digests, m, &path, &proof))
+    let old_root = root_of::<Sha256>(&digests[..m]);
+    if !check_inclusion::<Sha256>((m - 1) as u64, n as u64, &digests[m - 1], &root, &path)
+        || !check_consistency::<Sha256>(m as u64, n as u64, &old_root, &root, &proof)
+    {
+        return Ok([0; 32]);
+    }
+    let mut after = *before;
+    for digest in &path {
+        after = Sha256::node(&after, digest);
+    }
+    for digest in &proof {
+        after = Sha256::node(&after, digest);
+    }
+    Ok(Sha256::node(&after, &root))
 }
 
 fn all_shapes(alloc: Global) -> Result<[u8; 32], StoreError> {

@@ -11,15 +11,11 @@ pub(crate) const COUNT: usize = 4;
 /// A file, and what is none. Of the calls that with this number fails, and all from `stop` on.
 pub(crate) fn files(alloc: Global, call: u64, stop: u64) -> Result<MemFiles, AllocError> {
     let mut files = MemFiles::new(alloc, vec![in alloc; call]?, stop);
-    fill(&mut files)?;
-    Ok(files)
-}
-
-fn fill(files: &mut MemFiles) -> Result<(), AllocError> {
     files.put("at", Kind::Regular, 0o640, b"old")?;
     files.put("link", Kind::Link, 0o777, b"at")?;
     files.put("folder", Kind::Folder, 0o755, b"")?;
-    files.put("pipe", Kind::Other, 0o644, b"")
+    files.put("pipe", Kind::Other, 0o644, b"")?;
+    Ok(files)
 }
 
 /// Whether these bytes stand at a path.
