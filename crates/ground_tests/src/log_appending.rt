@@ -208,61 +208,61 @@ enum Shown {
     NoPiece,
 }
 
-fn is_shown_of(
-    alloc: Global,
-    old: &[Piece<'_>],
-    new: &[Piece<'_>],
-    shown: Shown,
-) -> Result<bool, AllocError> {
+fn is_shown_of(alloc: Global, old: &[Piece<'_>], new: &[Piece<'_>], shown: Shown) -> bool {
     let (call, stop) = match shown {
         Shown::Mended(call) => (call, NEVER),
         Shown::Whole(stop) => (NEVER, stop),
         _ => (NEVER, NEVER),
     };
-    let mut files = files_of(alloc, old, call, stop)?;
-    Ok(match shown {
-        Shown::Appended => is_appended(&mut files, old, new),
-        Shown::Mended(call) => is_mended(&mut files, old, new, call),
-        Shown::Whole(stop) => is_whole(&mut files, old, new, stop),
-        Shown::NoPiece => is_no_piece(&mut files, old, new),
-    })
+    match files_of(alloc, old, call, stop) {
+        Ok(mut files) => is_shown_by(&mut files, old, new, shown),
+        Err(_) => false,
+    }
 }
 
-fn is_shown(alloc: Global, shown: Shown) -> Result<bool, AppendError> {
-    let old = log_of(alloc, 255)?;
-    let new = log_of(alloc, 257)?;
-    let (before, after) = (pieces(alloc, &old)?, pieces(alloc, &new)?);
-    Ok(is_shown_of(alloc, before.as_slice(), after.as_slice(), shown)?)
+fn is_shown_by(files: &mut MemFiles, old: &[Piece<'_>], new: &[Piece<'_>], shown: Shown) -> bool {
+    match shown {
+        Shown::Appended => is_appended(files, old, new),
+        Shown::Mended(call) => is_mended(files, old, new, call),
+        Shown::Whole(stop) => is_whole(files, old, new, stop),
+        Shown::NoPiece => is_no_piece(files, old, new),
+    }
+}
+
+fn is_shown_of_logs(alloc: Global, old: &Log, new: &Log, shown: Shown) -> bool {
+    match (pieces(alloc, old), pieces(alloc, new)) {
+        (Ok(old), Ok(new)) => is_shown_of(alloc, &old, &new, shown),
+        _ => false,
+    }
+}
+
+fn is_shown(alloc: Global, shown: Shown) -> bool {
+    match (log_of(alloc, 255), log_of(alloc, 257)) {
+        (Ok(old), Ok(new)) => is_shown_of_logs(alloc, &old, &new, shown),
+        _ => false,
+    }
 }
 
 #[test]
 fn two_entries_are_appended(rt: HostRuntime) {
-    shows(&rt, is_shown(rt.alloc(), Shown::Appended) == Ok(true));
+    shows(&rt, is_shown(rt.alloc(), Shown::Appended));
 }
 
 #[test]
 fn an_append_that_fails_at_any_call_is_mended_by_the_next(rt: HostRuntime) {
     for call in 0..CALLS {
-        shows_at(
-            &rt,
-            call,
-            is_shown(rt.alloc(), Shown::Mended(call)) == Ok(true),
-        );
+        shows_at(&rt, call, is_shown(rt.alloc(), Shown::Mended(call)));
     }
 }
 
 #[test]
 fn a_log_is_whole_wherever_an_append_stops(rt: HostRuntime) {
     for stop in 0..=CALLS {
-        shows_at(
-            &rt,
-            stop,
-            is_shown(rt.alloc(), Shown::Whole(stop)) == Ok(true),
-        );
+        shows_at(&rt, stop, is_shown(rt.alloc(), Shown::Whole(stop)));
     }
 }
 
 #[test]
 fn a_link_is_no_piece(rt: HostRuntime) {
-    shows(&rt, is_shown(rt.alloc(), Shown::NoPiece) == Ok(true));
+    shows(&rt, is_shown(rt.alloc(), Shown::NoPiece));
 }
