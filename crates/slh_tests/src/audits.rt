@@ -1,6 +1,7 @@
 // The worked signature with bytes changed so that it is still accepted. All values were worked by
 // hand.
 use crate::page_of_audits::verdict;
+use crate::shown::shows;
 use crate::worked::changed;
 use slh_audit::{Evidence, Verdict};
 
@@ -45,5 +46,5 @@ fn is_layer_foreign() -> bool {
 
 #[test]
 fn accepted_bytes_that_were_not_made_are_foreign(rt: HostRuntime) {
-    assert!(rt; is_forest_foreign() && is_layer_foreign());
+    shows(&rt, is_forest_foreign() && is_layer_foreign());
 }

@@ -1,5 +1,6 @@
 //! Messages of a batch in pieces.
 use crate::digests::is_digest;
+use crate::shown::{shows, shows_at};
 use slh_batch::{Batch, MessageHasher};
 use std::alloc::Global;
 
@@ -35,8 +36,11 @@ fn is_taken(alloc: Global, len: usize) -> Option<bool> {
 
 #[test]
 fn digests_of_pieces_are_those_of_another_program(rt: HostRuntime) {
-    assert!(rt; is_digest(&MessageHasher::default().finish(), OF_NOTHING));
+    shows(
+        &rt,
+        is_digest(&MessageHasher::default().finish(), OF_NOTHING),
+    );
     for len in [1, 63, 64, 200] {
-        assert!(rt; is_taken(rt.alloc(), len) == Some(true), "{len}");
+        shows_at(&rt, len, is_taken(rt.alloc(), len) == Some(true));
     }
 }

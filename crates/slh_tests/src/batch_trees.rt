@@ -1,6 +1,7 @@
 //! Trees and paths of batches that another program computed.
 use crate::digests::{has_digest, is_digest};
 use crate::page_of_batches::{batch_of, sealed};
+use crate::shown::shows_at;
 use slh_batch::Sealed;
 use slh_dsa::{Sha2_128f, Signature};
 use std::alloc::Global;
@@ -61,6 +62,6 @@ fn have_row(alloc: Global, last: usize, row: &str) -> Option<bool> {
 #[test]
 fn roots_and_receipts_are_those_of_another_program(rt: HostRuntime) {
     for (last, row) in ROWS.lines().enumerate() {
-        assert!(rt; have_row(rt.alloc(), last, row) == Some(true), "{row}");
+        shows_at(&rt, row, have_row(rt.alloc(), last, row) == Some(true));
     }
 }

@@ -1,5 +1,6 @@
 //! The example of docs/KEYS.md: names of links that say until when, under which number and for what.
 use crate::keys_128f::{key, public};
+use crate::shown::shows;
 use slh_chain::Chain;
 use slh_dsa::ParameterSet;
 use std::alloc::Global;
@@ -59,5 +60,5 @@ fn are_judged(alloc: Global) -> Option<bool> {
 
 #[test]
 fn names_say_until_when_and_for_what(rt: HostRuntime) {
-    assert!(rt; are_judged(rt.alloc()) == Some(true));
+    shows(&rt, are_judged(rt.alloc()) == Some(true));
 }

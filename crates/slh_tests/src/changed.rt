@@ -1,6 +1,7 @@
 // Changes of a signature, a message and a context of SLH-DSA-SHA2-128f, none of which is accepted:
 // the cases of the Rust crate's own tests, with given bytes in place of random ones.
 use crate::keys_128f::key_of;
+use crate::shown::shows;
 use slh_dsa::{Error, Mode, Sha2_128f, VerifyingKey};
 
 // The root of the key whose secret seed is sixteen bytes 01 and whose public seed is sixteen 03.
@@ -43,18 +44,17 @@ fn is_invalid(pk_seed: u8, message: &[u8], context: &[u8], sig: &[u8; 17088]) ->
     verify(&public(pk_seed), message, context, sig) == Err(Error::Invalid)
 }
 
-fn is_for_its_message_and_key_alone() -> bool {
-    let sig = signed(1, None);
-    verify(&public(3), MESSAGE, CONTEXT, &sig) == Ok(())
-        && is_invalid(3, b"Goodbye, world!", CONTEXT, &sig)
-        && is_invalid(3, MESSAGE, b"Wrong context", &sig)
-        && is_invalid(4, MESSAGE, CONTEXT, &sig)
-        && is_invalid(3, MESSAGE, CONTEXT, &signed(4, None))
-}
-
 #[test]
 fn message_context_and_key_are_those_of_the_signature(rt: HostRuntime) {
-    assert!(rt; is_for_its_message_and_key_alone());
+    let sig = signed(1, None);
+    shows(
+        &rt,
+        verify(&public(3), MESSAGE, CONTEXT, &sig) == Ok(())
+            && is_invalid(3, b"Goodbye, world!", CONTEXT, &sig)
+            && is_invalid(3, MESSAGE, b"Wrong context", &sig)
+            && is_invalid(4, MESSAGE, CONTEXT, &sig)
+            && is_invalid(3, MESSAGE, CONTEXT, &signed(4, None)),
+    );
 }
 
 fn is_invalid_with_inverted(sig: &[u8; 17088], place: usize) -> bool {
@@ -65,20 +65,19 @@ fn is_invalid_with_inverted(sig: &[u8; 17088], place: usize) -> bool {
     is_invalid(3, MESSAGE, CONTEXT, &bytes)
 }
 
-fn are_invalid() -> bool {
-    let sig = signed(1, None);
-    is_invalid_with_inverted(&sig, 0)
-        && is_invalid_with_inverted(&sig, 16)
-        && is_invalid_with_inverted(&sig, 17087)
-}
-
 // A byte of the randomizer, of the forest's part and of the top layer's.
 #[test]
 fn a_changed_byte_is_refused(rt: HostRuntime) {
-    assert!(rt; are_invalid());
+    let sig = signed(1, None);
+    shows(
+        &rt,
+        is_invalid_with_inverted(&sig, 0)
+            && is_invalid_with_inverted(&sig, 16)
+            && is_invalid_with_inverted(&sig, 17087),
+    );
 }
 
 #[test]
 fn other_randomizers_make_other_signatures(rt: HostRuntime) {
-    assert!(rt; signed(1, Some(&[8; 16])) != signed(1, Some(&[9; 16])));
+    shows(&rt, signed(1, Some(&[8; 16])) != signed(1, Some(&[9; 16])));
 }

@@ -1,5 +1,6 @@
 //! Addresses and digits of `slh_core`, worked by hand, and the example of its page.
 
+use crate::shown::shows;
 use hybrid_array::TryFromSliceError;
 use hybrid_array::sizes::{U1, U16};
 use slh_core::address::{Address, WotsHash};
@@ -34,8 +35,11 @@ fn example_of_the_page(rt: HostRuntime) {
     let wanted = [
         0, 0, 0, 0, 0, 0, 0, 0, 2, 0, 0, 0, 0, 3, 0, 0, 0, 1, 0, 0, 0, 12,
     ];
-    assert!(rt; is_first_step(&[0x3c; 16], &wanted));
-    assert!(rt; first_step(&[0x3c; 15]).err() == Some(TryFromSliceError));
+    shows(&rt, is_first_step(&[0x3c; 16], &wanted));
+    shows(
+        &rt,
+        first_step(&[0x3c; 15]).err() == Some(TryFromSliceError),
+    );
 }
 
 fn has_digits(byte: u8, wanted: &[u16]) -> bool {
@@ -60,5 +64,5 @@ fn are_digits_of_bits() -> bool {
 
 #[test]
 fn digits_are_those_worked_by_hand(rt: HostRuntime) {
-    assert!(rt; are_digits_of_bytes() && are_digits_of_bits());
+    shows(&rt, are_digits_of_bytes() && are_digits_of_bits());
 }

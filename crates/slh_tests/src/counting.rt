@@ -8,6 +8,7 @@ ghost use Rattle.slh_core.specs.Suite.{seeded};
 ghost use Rattle.slh_core.specs.Steps.{IsFresh};
 ghost use Rattle.slh_trees.specs.ToySuite.{toy, toy_lengths, toy_bytes, toy_digest_length};
 
+use crate::shown::shows;
 use hybrid_array::sizes::U1;
 use slh_core::address::{Address, ForsTree, WotsHash};
 use slh_core::nbytes::NBytes;
@@ -274,5 +275,5 @@ fn are_calls<L: Ledger>(blank: Blank) -> bool
 
 #[test]
 fn calls_are_those_of_the_algorithms(rt: HostRuntime) {
-    assert!(rt; are_calls::<Brand>(Blank::new(1)));
+    shows(&rt, are_calls::<Brand>(Blank::new(1)));
 }

@@ -2,6 +2,7 @@
 // section 11.2.1.
 ghost use Rattle.slh_core.specs.Steps.{IsFresh};
 
+use crate::shown::shows;
 use hybrid_array::sizes::U16;
 use slh_core::address::WotsHash;
 use slh_core::nbytes::NBytes;
@@ -41,7 +42,7 @@ fn is_digest() -> bool {
 
 #[test]
 fn randomizer_and_digest_of_a_message(rt: HostRuntime) {
-    assert!(rt; is_randomizer() && is_digest());
+    shows(&rt, is_randomizer() && is_digest());
 }
 
 const SEED: [u8; 16] = [0, 1, 2, 3, 4, 5, 6, 7, 8, 9, 10, 11, 12, 13, 14, 15];
@@ -97,7 +98,7 @@ fn are_hashes<L: Ledger>(blank: Blank) -> bool
 // F is that of the page's example below.
 #[test]
 fn hashes_of_an_address(rt: HostRuntime) {
-    assert!(rt; are_hashes::<Brand>(Blank::new(1)));
+    shows(&rt, are_hashes::<Brand>(Blank::new(1)));
 }
 
 fn next_value<L: Ledger>(pk_seed: &[u8; 16], value: &[u8; 16], blank: Blank) -> NBytes<U16>
@@ -118,7 +119,7 @@ fn next_value<L: Ledger>(pk_seed: &[u8; 16], value: &[u8; 16], blank: Blank) -> 
 #[test]
 fn example_of_the_page(rt: HostRuntime) {
     let f = next_value::<Brand>(&SEED, &[7; 16], Blank::new(1));
-    assert!(rt; f.as_slice() == F_VALUE.as_slice());
+    shows(&rt, f.as_slice() == F_VALUE.as_slice());
 }
 
 // MGF1 of the four bytes of "seed": its first 33 bytes, and the last 32 of 256.
@@ -133,13 +134,12 @@ const MASK_END: [u8; 32] = [
     0xf3, 0xd0, 0xe5, 0x07, 0xd3, 0x06, 0xc5, 0xd0, 0xab, 0xbb, 0xed, 0x6a, 0xd1, 0xb4, 0xb5, 0x3d,
 ];
 
-fn is_mask() -> bool {
-    let mut mask = [0; 256];
-    mgf1_256(b"seed", &mut mask);
-    mask.starts_with(&MASK_START) && mask[224..] == MASK_END[..]
-}
-
 #[test]
 fn longest_mask(rt: HostRuntime) {
-    assert!(rt; is_mask());
+    let mut mask = [0; 256];
+    mgf1_256(b"seed", &mut mask);
+    shows(
+        &rt,
+        mask.starts_with(&MASK_START) && mask[224..] == MASK_END[..],
+    );
 }

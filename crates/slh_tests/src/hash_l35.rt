@@ -2,6 +2,7 @@
 // of FIPS 205, section 11.2.2, or stand where the test says.
 ghost use Rattle.slh_core.specs.Steps.{IsFresh};
 
+use crate::shown::shows;
 use hybrid_array::sizes::{U24, U32};
 use slh_core::address::WotsHash;
 use slh_core::nbytes::NBytes;
@@ -45,7 +46,7 @@ fn is_code_of_long_key() -> bool {
 
 #[test]
 fn codes_of_the_rfc(rt: HostRuntime) {
-    assert!(rt; is_code_of_short_key() && is_code_of_long_key());
+    shows(&rt, is_code_of_short_key() && is_code_of_long_key());
 }
 
 // The first 24 bytes of the HMAC-SHA-512 of 24 bytes 01 and 32 bytes 02 under 24 bytes 00.
@@ -85,7 +86,7 @@ fn is_wide_digest() -> bool {
 
 #[test]
 fn wide_randomizer_and_digest_of_a_message(rt: HostRuntime) {
-    assert!(rt; is_wide_randomizer() && is_wide_digest());
+    shows(&rt, is_wide_randomizer() && is_wide_digest());
 }
 
 const SEED: [u8; 24] = [
@@ -154,7 +155,7 @@ fn are_wide_hashes<L: Ledger>(blank: Blank) -> bool
 
 #[test]
 fn wide_hashes_of_an_address(rt: HostRuntime) {
-    assert!(rt; are_wide_hashes::<Brand>(Blank::new(1)));
+    shows(&rt, are_wide_hashes::<Brand>(Blank::new(1)));
 }
 
 // MGF1 of the four bytes of "seed": its first 65 bytes, and the last 32 of 256.
@@ -171,13 +172,12 @@ const MASK_END: [u8; 32] = [
     0xa3, 0x7d, 0xdb, 0x0c, 0x21, 0x34, 0xa3, 0x62, 0xf7, 0xcd, 0xfd, 0x41, 0xd0, 0xb9, 0xaa, 0xd6,
 ];
 
-fn is_wide_mask() -> bool {
-    let mut mask = [0; 256];
-    mgf1_512(b"seed", &mut mask);
-    mask.starts_with(&MASK_START) && mask[224..] == MASK_END[..]
-}
-
 #[test]
 fn longest_wide_mask(rt: HostRuntime) {
-    assert!(rt; is_wide_mask());
+    let mut mask = [0; 256];
+    mgf1_512(b"seed", &mut mask);
+    shows(
+        &rt,
+        mask.starts_with(&MASK_START) && mask[224..] == MASK_END[..],
+    );
 }

@@ -2,6 +2,7 @@
 // sections 11.2.1 and 11.2.2, value by value.
 ghost use Rattle.slh_core.specs.Steps.{IsFresh};
 
+use crate::shown::shows;
 use hybrid_array::sizes::U16;
 use slh_core::address::{ForsTree, HashTree, WotsHash};
 use slh_core::nbytes::NBytes;
@@ -135,7 +136,7 @@ fn are_rows<L: Ledger>(blank: Blank) -> bool
 
 #[test]
 fn steps_secrets_and_parents_of_a_row(rt: HostRuntime) {
-    assert!(rt; are_rows::<Brand>(Blank::new(1)));
+    shows(&rt, are_rows::<Brand>(Blank::new(1)));
 }
 
 // A whole group of four pairs and two of the next.
@@ -178,5 +179,5 @@ fn are_wide_parents<L: Ledger>(blank: Blank) -> bool
 
 #[test]
 fn wide_parents_of_a_row(rt: HostRuntime) {
-    assert!(rt; are_wide_parents::<Brand>(Blank::new(1)));
+    shows(&rt, are_wide_parents::<Brand>(Blank::new(1)));
 }

@@ -3,6 +3,7 @@
 ghost use Rattle.std.specs.Prelude.{◌≡◌, ◌+◌, ◌≤◌, OnOk};
 ghost use Rattle.slh_core.specs.Steps.{IsFresh};
 
+use crate::shown::shows;
 use crate::worked::{KEY, MESSAGE, SIGNATURE};
 use slh_core::steps::Steps;
 use slh_dsa::{Error, SigningKey, VerifyingKey};
@@ -55,5 +56,5 @@ fn are_key_and_signature<L: Ledger>(blank: Blank) -> bool
 
 #[test]
 fn a_key_and_its_signature_are_those_worked_by_hand(rt: HostRuntime) {
-    assert!(rt; are_key_and_signature::<Brand>(Blank::new(1)));
+    shows(&rt, are_key_and_signature::<Brand>(Blank::new(1)));
 }

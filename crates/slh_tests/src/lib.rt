@@ -70,6 +70,8 @@ mod run_faults;
 #[cfg(test)]
 mod sets;
 #[cfg(test)]
+mod shown;
+#[cfg(test)]
 mod signature_traits;
 #[cfg(test)]
 mod signatures;

@@ -1,6 +1,7 @@
 //! Entries of a manifest by their digests, and bodies that are signed elsewhere.
 use crate::keys_128f::{key, public};
 use crate::page_of_manifests::checked;
+use crate::shown::shows;
 use slh_dsa::Sha2_128f;
 use slh_manifest::{Builder, CONTEXT, MemStore};
 use std::alloc::Global;
@@ -46,5 +47,5 @@ fn is_accepted(alloc: Global) -> Option<bool> {
 
 #[test]
 fn a_body_of_digests_that_is_signed_elsewhere_is_accepted(rt: HostRuntime) {
-    assert!(rt; is_accepted(rt.alloc()) == Some(true));
+    shows(&rt, is_accepted(rt.alloc()) == Some(true));
 }

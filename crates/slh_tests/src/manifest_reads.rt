@@ -2,6 +2,7 @@
 //! not again after a read that failed.
 use crate::keys_128f::{key, public};
 use crate::page_of_manifests::{checked, manifest_of};
+use crate::shown::{shows, shows_at};
 use slh_manifest::{
     BuildError, Builder, CheckError, EntryError, Failed, Manifest, MemStore, Store,
 };
@@ -113,7 +114,7 @@ fn is_hashed(alloc: Global, row: &str) -> Option<bool> {
 #[test]
 fn bytes_are_hashed_in_their_order_whatever_a_read_gives(rt: HostRuntime) {
     for row in DIGESTS.lines() {
-        assert!(rt; is_hashed(rt.alloc(), row) == Some(true), "{row}");
+        shows_at(&rt, row, is_hashed(rt.alloc(), row) == Some(true));
     }
 }
 
@@ -201,15 +202,17 @@ fn checks_ask_for_one_byte_past_an_entry_at_most_and_end_with_a_fault(rt: HostRu
 }
 
 // Whether a check of a signed manifest of 3 bytes does what the rows of so many say.
-fn signed_asks(alloc: Global, manifest: &[u8], row: &[u64; 8]) -> Option<bool> {
-    let mut store = store_for(alloc, row)?;
+fn signed_asks(alloc: Global, manifest: &[u8], row: &[u64; 8]) -> bool {
+    let Some(mut store) = store_for(alloc, row) else {
+        return false;
+    };
     let answer = checked(&public(3), manifest, &mut store);
-    Some(is_wanted(answer, row) && has_seen(&store, row))
+    is_wanted(answer, row) && has_seen(&store, row)
 }
 
 fn all_ask_alike(alloc: Global, manifest: &[u8], rows: &[[u64; 8]]) -> bool {
     for row in rows {
-        if row[0] == 3 && signed_asks(alloc, manifest, row) != Some(true) {
+        if row[0] == 3 && !signed_asks(alloc, manifest, row) {
             return false;
         }
     }
@@ -224,7 +227,7 @@ fn asks_alike(alloc: Global, names: &[&[u8]], rows: &[[u64; 8]]) -> Option<bool>
 
 #[test]
 fn a_check_of_a_signed_manifest_asks_alike(rt: HostRuntime) {
-    assert!(rt; asks_alike(rt.alloc(), &[b"a"], &ASKED) == Some(true));
+    shows(&rt, asks_alike(rt.alloc(), &[b"a"], &ASKED) == Some(true));
 }
 
 // The same of two entries: nothing is asked for behind the first that isn't right.
@@ -250,24 +253,29 @@ fn opened_ask(alloc: Global) -> Option<bool> {
 
 #[test]
 fn a_check_ends_with_the_first_entry_that_is_not_right(rt: HostRuntime) {
-    assert!(rt; opened_ask(rt.alloc()) == Some(true));
-    assert!(rt; asks_alike(rt.alloc(), &[b"a", b"b"], &ASKED_OF_TWO) == Some(true));
+    shows(&rt, opened_ask(rt.alloc()) == Some(true));
+    shows(
+        &rt,
+        asks_alike(rt.alloc(), &[b"a", b"b"], &ASKED_OF_TWO) == Some(true),
+    );
 }
 
 // Whether an `add` that takes three reads ends with this one, if it fails.
-fn add_ends(alloc: Global, read: u64) -> Option<bool> {
-    let mut store = store_of(alloc, 5000, PIECE, read)?;
+fn add_ends(alloc: Global, read: u64) -> bool {
+    let Some(mut store) = store_of(alloc, 5000, PIECE, read) else {
+        return false;
+    };
     let answer = Builder::new(alloc).add(b"a", &mut store);
-    Some(if read < 3 {
+    if read < 3 {
         answer == Err(BuildError::Fault) && store.reads == read + 1
     } else {
         answer == Ok(()) && store.reads == 3
-    })
+    }
 }
 
 #[test]
 fn an_add_ends_with_a_fault(rt: HostRuntime) {
     for read in 0..4u64 {
-        assert!(rt; add_ends(rt.alloc(), read) == Some(true), "read {read}");
+        shows_at(&rt, read, add_ends(rt.alloc(), read));
     }
 }

@@ -1,4 +1,5 @@
 //! The example of the page of `slh_audit`.
+use crate::shown;
 use crate::worked::{SIGNATURE, changed};
 use slh_audit::{AuditError, Evidence, Verdict, audit, check_evidence};
 use slh_trees::toy::Toy;
@@ -29,6 +30,6 @@ fn is_foreign(sig: &[u8; 21]) -> bool {
 
 #[test]
 fn example_of_the_page_of_audits(rt: HostRuntime) {
-    assert!(rt; verdict(&SIGNATURE) == Ok(Verdict::Genuine));
-    assert!(rt; is_foreign(&changed(&[(9, 0x48)])));
+    shown::shows(&rt, verdict(&SIGNATURE) == Ok(Verdict::Genuine));
+    shown::shows(&rt, is_foreign(&changed(&[(9, 0x48)])));
 }

@@ -1,5 +1,6 @@
 //! The examples of the page of `slh_batch`.
 use crate::keys_128f::{key, public};
+use crate::shown::shows;
 use slh_batch::{Batch, BatchError, Head, HeadError, ReceiptError, Sealed, accept, accept_under};
 use slh_dsa::{Sha2_128f, SigningKey, VerifyingKey};
 use std::alloc::Global;
@@ -42,7 +43,7 @@ fn runs(alloc: Global) -> bool {
 
 #[test]
 fn example_of_the_page_of_batches(rt: HostRuntime) {
-    assert!(rt; runs(rt.alloc()));
+    shows(&rt, runs(rt.alloc()));
 }
 
 #[derive(Drop)]
@@ -118,5 +119,5 @@ fn runs_under_a_head(alloc: Global) -> Result<bool, BatchError> {
 
 #[test]
 fn example_of_heads_of_the_page_of_batches(rt: HostRuntime) {
-    assert!(rt; runs_under_a_head(rt.alloc()) == Ok(true));
+    shows(&rt, runs_under_a_head(rt.alloc()) == Ok(true));
 }

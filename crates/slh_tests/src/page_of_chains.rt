@@ -1,5 +1,6 @@
 //! The example of the page of `slh_chain`.
 use crate::keys_128f::{key, public};
+use crate::shown::shows;
 use slh_chain::{ChainError, LinkError, delegate, walk};
 use slh_dsa::{Sha2_128f, SigningKey, VerifyingKey};
 use std::alloc::Global;
@@ -31,5 +32,5 @@ fn leads_to_release(alloc: Global) -> Option<bool> {
 
 #[test]
 fn example_of_the_page_of_chains(rt: HostRuntime) {
-    assert!(rt; leads_to_release(rt.alloc()) == Some(true));
+    shows(&rt, leads_to_release(rt.alloc()) == Some(true));
 }

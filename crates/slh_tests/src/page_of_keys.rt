@@ -1,4 +1,5 @@
 // The example of the page of `slh_dsa`.
+use crate::shown::shows;
 use slh_dsa::{Error, Sha2_128f, Signature, SigningKey, VerifyingKey};
 use std::alloc::Global;
 
@@ -24,5 +25,5 @@ fn signed_and_verified(alloc: Global, seeds: &[u8; 48]) -> Result<(), Error> {
 
 #[test]
 fn example_of_the_page(rt: HostRuntime) {
-    assert!(rt; signed_and_verified(rt.alloc(), &[1; 48]) == Ok(()));
+    shows(&rt, signed_and_verified(rt.alloc(), &[1; 48]) == Ok(()));
 }

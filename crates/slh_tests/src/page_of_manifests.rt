@@ -1,6 +1,7 @@
 //! The example of the page of `slh_manifest`. A call that found no memory is made again, so that it
 //! holds with each allocation failing in turn, too (`rt try --test --fail-alloc`).
 use crate::keys_128f::{key, public};
+use crate::shown::shows;
 use slh_dsa::{Sha2_128f, SigningKey, VerifyingKey};
 use slh_manifest::{BuildError, Builder, CheckError, MemStore, Store, check};
 use std::alloc::Global;
@@ -59,5 +60,5 @@ fn holds_for_two_files(alloc: Global) -> Option<bool> {
 
 #[test]
 fn example_of_the_page_of_manifests(rt: HostRuntime) {
-    assert!(rt; holds_for_two_files(rt.alloc()) == Some(true));
+    shows(&rt, holds_for_two_files(rt.alloc()) == Some(true));
 }

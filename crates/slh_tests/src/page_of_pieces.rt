@@ -1,5 +1,6 @@
 // The example of the page of `slh_stream`.
 use crate::keys_128f::{key, public};
+use crate::shown::shows;
 use slh_dsa::{Error, Mode, Sha2_128f, SigningKey, VerifyingKey};
 use slh_stream::{FirstPass, MessageVerifier, PassError};
 
@@ -39,5 +40,5 @@ fn is_signed_and_verified() -> Result<bool, Error> {
 
 #[test]
 fn example_of_the_page(rt: HostRuntime) {
-    assert!(rt; is_signed_and_verified() == Ok(true));
+    shows(&rt, is_signed_and_verified() == Ok(true));
 }

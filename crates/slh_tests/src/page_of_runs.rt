@@ -1,4 +1,5 @@
 //! The example of the page of `slh_run`.
+use crate::shown::shows;
 use slh_run::{MemSink, MemSource, Words, serve};
 use std::alloc::{AllocError, Global};
 
@@ -25,5 +26,5 @@ fn is_answered(alloc: Global) -> bool {
 
 #[test]
 fn example_of_the_page_of_lines(rt: HostRuntime) {
-    assert!(rt; is_answered(rt.alloc()));
+    shows(&rt, is_answered(rt.alloc()));
 }

@@ -1,4 +1,5 @@
 //! The example of the page of `slh_internal`.
+use crate::shown::shows;
 use crate::worked::{SIGNATURE, changed};
 use slh_core::nbytes::NBytes;
 use slh_internal::SigView;
@@ -28,6 +29,9 @@ fn root_of(signature: &[u8]) -> Option<u8> {
 #[test]
 fn example_of_the_page_of_trees(rt: HostRuntime) {
     let other = changed(&[(18, 0x21)]);
-    assert!(rt; accepts(&SIGNATURE) && !accepts(&SIGNATURE[..20]) && !accepts(&other));
-    assert!(rt; root_of(&other) == Some(228));
+    shows(
+        &rt,
+        accepts(&SIGNATURE) && !accepts(&SIGNATURE[..20]) && !accepts(&other),
+    );
+    shows(&rt, root_of(&other) == Some(228));
 }

@@ -1,5 +1,6 @@
 //! A record that other programs made: its ring is copied, and its entry is read without the master.
 use crate::page_of_rings::is_derived;
+use crate::shown::shows;
 use slh_dsa::Sha2_128f;
 use slh_ring::{Path, Record, RecordEntry, Ring, recorded_set};
 use std::alloc::Global;
@@ -27,7 +28,13 @@ fn gives_its_key(master: u8) -> Option<bool> {
 
 #[test]
 fn a_record_gives_its_ring_and_its_key(rt: HostRuntime) {
-    assert!(rt; recorded_set(WORKED) == Some(b"SLH-DSA-SHA2-128f".as_slice()));
-    assert!(rt; is_copied(rt.alloc()) == Some(true));
-    assert!(rt; gives_its_key(0) == Some(true) && gives_its_key(1).is_none());
+    shows(
+        &rt,
+        recorded_set(WORKED) == Some(b"SLH-DSA-SHA2-128f".as_slice()),
+    );
+    shows(&rt, is_copied(rt.alloc()) == Some(true));
+    shows(
+        &rt,
+        gives_its_key(0) == Some(true) && gives_its_key(1).is_none(),
+    );
 }

@@ -1,4 +1,5 @@
 //! Paths of a ring as text.
+use crate::shown::shows_at;
 use line_serve::ByteString;
 use slh_ring::Path;
 use std::alloc::Global;
@@ -29,6 +30,6 @@ fn is_put(alloc: Global, text: &[u8]) -> Option<bool> {
 #[test]
 fn paths_are_put_as_they_are_read(rt: HostRuntime) {
     for text in TEXTS.lines() {
-        assert!(rt; is_put(rt.alloc(), text.as_bytes()) == Some(true), "{text}");
+        shows_at(&rt, text, is_put(rt.alloc(), text.as_bytes()) == Some(true));
     }
 }

@@ -1,5 +1,6 @@
 //! The words of a bench, against the reports that the Rust crate gives for them, and words that are
 //! none. In a text a bar stands between words.
+use crate::shown::shows_at;
 use slh_run::{MemSink, QuietSource, Words, serve};
 use std::alloc::{AllocError, Global};
 
@@ -42,7 +43,7 @@ const REPORTS: [(&str, &str); 3] = [
 #[test]
 fn reports_are_those_of_the_rust_crate(rt: HostRuntime) {
     for (words, report) in &REPORTS {
-        assert!(rt; tells(rt.alloc(), words, 0, report), "{words}");
+        shows_at(&rt, words, tells(rt.alloc(), words, 0, report));
     }
 }
 
@@ -79,6 +80,6 @@ bench|SLH-DSA-SHA2-128f|7|1a
 #[test]
 fn other_words_get_the_usage(rt: HostRuntime) {
     for words in OTHER_WORDS.lines() {
-        assert!(rt; tells(rt.alloc(), words, 2, USAGE), "{words}");
+        shows_at(&rt, words, tells(rt.alloc(), words, 2, USAGE));
     }
 }

@@ -1,4 +1,5 @@
 // The sets of `slh_sets` against FIPS 205, section 11, table 2.
+use crate::shown::shows;
 use slh_sets::Set;
 
 // Whether the set at this place of the table has this name, and the number after the place, and its
@@ -29,7 +30,7 @@ fn are_rows() -> bool {
 
 #[test]
 fn names_numbers_and_sizes_are_those_of_the_table(rt: HostRuntime) {
-    assert!(rt; are_rows());
+    shows(&rt, are_rows());
 }
 
 fn signature_len_of(name: &[u8]) -> Option<usize> {
@@ -38,5 +39,5 @@ fn signature_len_of(name: &[u8]) -> Option<usize> {
 
 #[test]
 fn example_of_the_page(rt: HostRuntime) {
-    assert!(rt; signature_len_of(b"SLH-DSA-SHA2-192s") == Some(16224));
+    shows(&rt, signature_len_of(b"SLH-DSA-SHA2-192s") == Some(16224));
 }

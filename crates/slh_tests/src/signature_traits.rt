@@ -2,6 +2,7 @@
 ghost use Rattle.std.specs.Prelude.{◌≡◌, ◌≢◌, ◌+◌, ◌%◌, ◌^◌, ◌≤◌, ◌<◌, ℕ, length};
 ghost use Rattle.slh_tests.specs.declared.signature_traits.TooLong.{TooLong};
 
+use crate::shown::shows;
 use signature_core::{KeypairRef, Signer, Verifier};
 use std::alloc::Global;
 
@@ -85,5 +86,8 @@ where
 #[test]
 fn example_of_the_page(rt: HostRuntime) {
     let key = Key { byte: 255 };
-    assert!(rt; accepts_own(rt.alloc(), &key, b"abc") && !accepts_own(rt.alloc(), &key, b"abcd"));
+    shows(
+        &rt,
+        accepts_own(rt.alloc(), &key, b"abc") && !accepts_own(rt.alloc(), &key, b"abcd"),
+    );
 }

@@ -1,6 +1,7 @@
 // Signatures and keys of the toy suite by value, and what is signed in each mode.
 ghost use Rattle.std.specs.Prelude.{◌≤◌, length};
 
+use crate::shown::shows;
 use crate::worked::{KEY, MESSAGE, SIGNATURE, signing_key};
 use hybrid_array::{Array, ArraySize};
 use signature_core::SignatureEncoding;
@@ -73,8 +74,8 @@ fn is_worked(alloc: Global, made: Result<Signature<Toy>, Error>) -> bool {
 
 #[test]
 fn a_framed_message_is_signed_as_in_pure_mode(rt: HostRuntime) {
-    assert!(rt; is_worked(rt.alloc(), made_as_it_stands(rt.alloc())));
-    assert!(rt; is_worked(rt.alloc(), made_in_pure_mode(rt.alloc())));
+    shows(&rt, is_worked(rt.alloc(), made_as_it_stands(rt.alloc())));
+    shows(&rt, is_worked(rt.alloc(), made_in_pure_mode(rt.alloc())));
 }
 
 fn are_bytes<P: ArrayLengths>(alloc: Global, key: &SigningKey<P>) -> bool {
@@ -92,7 +93,7 @@ fn are_keys_their_bytes(alloc: Global) -> bool {
 
 #[test]
 fn keys_give_their_bytes_back(rt: HostRuntime) {
-    assert!(rt; are_keys_their_bytes(rt.alloc()));
+    shows(&rt, are_keys_their_bytes(rt.alloc()));
 }
 
 // Whether what is signed of `abc` has these bytes before the context, and these after it.
@@ -107,7 +108,7 @@ fn is_frame(mode: Mode, ctx: &[u8], head: [u8; 2], tail: &[u8]) -> bool
 // that FIPS 180-4's examples give.
 #[test]
 fn a_frame_has_an_identifier_and_a_digest(rt: HostRuntime) {
-    assert!(rt; is_frame(Mode::Pure, &[7, 8], [0, 2], b"abc"));
-    assert!(rt; is_frame(Mode::Sha256, &[], [1, 0], &BY_SHA256));
-    assert!(rt; is_frame(Mode::Sha512, &[7, 8], [1, 2], &BY_SHA512));
+    shows(&rt, is_frame(Mode::Pure, &[7, 8], [0, 2], b"abc"));
+    shows(&rt, is_frame(Mode::Sha256, &[], [1, 0], &BY_SHA256));
+    shows(&rt, is_frame(Mode::Sha512, &[7, 8], [1, 2], &BY_SHA512));
 }

@@ -3,6 +3,7 @@
 ghost use Rattle.std.specs.Prelude.{◌≤◌};
 
 use crate::digests::has_digest;
+use crate::shown::shows;
 use crate::stream_pieces::{Signing, is_accepted, is_signed, key};
 use hmac_sha256::Hash;
 use hybrid_array::ArraySize;
@@ -130,7 +131,7 @@ fn known_signatures_of_128s(rt: HostRuntime) {
         "c9e54733c3a099b6dfa9ff4cca3efeffd7dc9a9225fe8bfa9db3c5df2cbd1a88",
         "dd39b882d2d426a293186de4471ac3465d0b71d9d8fb34cf6c7ad6939a1f2c20",
     ];
-    assert!(rt; are_known(Set::Sha2_128s, wanted));
+    shows(&rt, are_known(Set::Sha2_128s, wanted));
 }
 
 #[test]
@@ -140,7 +141,7 @@ fn known_signatures_of_128f(rt: HostRuntime) {
         "6ede90ccaf41b9fb616a9d264d2f3098bc6ebe374c12ea86c5c89b85084bef74",
         "cf156a3cbbea4b6726a994fbc1b5d11c2ec56d661a230319163b0a1333b99d65",
     ];
-    assert!(rt; are_known(Set::Sha2_128f, wanted));
+    shows(&rt, are_known(Set::Sha2_128f, wanted));
 }
 
 #[test]
@@ -150,7 +151,7 @@ fn known_signatures_of_192s(rt: HostRuntime) {
         "db5e01ad5214eb20fbf37ff3f46236f60fb5ec75103fdf8fb4725ef8b2bb919f",
         "477e9d4e31aaeab9da494fb19b36f8f2f8f99b5a248ae4f11a7b53968edebfe2",
     ];
-    assert!(rt; are_known(Set::Sha2_192s, wanted));
+    shows(&rt, are_known(Set::Sha2_192s, wanted));
 }
 
 #[test]
@@ -160,7 +161,7 @@ fn known_signatures_of_192f(rt: HostRuntime) {
         "176095491b7a1ebeb6b783525487f275dd2eac40c85dd2bfa2f6725c676a8a65",
         "ab9f477affcc4e24f8f8513b2990b839879afcee7f87d1c4dec2b49a689ada0a",
     ];
-    assert!(rt; are_known(Set::Sha2_192f, wanted));
+    shows(&rt, are_known(Set::Sha2_192f, wanted));
 }
 
 #[test]
@@ -170,7 +171,7 @@ fn known_signatures_of_256s(rt: HostRuntime) {
         "ca077538a8afce078fc20dd316efd2e505b6fd5d81fba2c65ece886f93679db6",
         "c9a4c1e9e9a62f17fad59befa324359191f4ce806053543a3221b1aec31afe96",
     ];
-    assert!(rt; are_known(Set::Sha2_256s, wanted));
+    shows(&rt, are_known(Set::Sha2_256s, wanted));
 }
 
 #[test]
@@ -180,5 +181,5 @@ fn known_signatures_of_256f(rt: HostRuntime) {
         "19bdb2cad368f264330b3ab1c9203e67aaa54718b3a42267ad7b258a7080b14f",
         "c2132921bd4857782fd0d8e301fa702029d039dc044054060dbfabd3183cb21b",
     ];
-    assert!(rt; are_known(Set::Sha2_256f, wanted));
+    shows(&rt, are_known(Set::Sha2_256f, wanted));
 }

@@ -1,4 +1,5 @@
 //! Keys and signatures by the bounds of `signature_core`, with bytes of a generator that counts.
+use crate::shown::shows;
 use crate::worked::{KEY, signing_key};
 use rand_core::Rng;
 use signature_core::counter::Counter;
@@ -56,5 +57,5 @@ fn is_own_accepted(alloc: Global) -> bool {
 
 #[test]
 fn signatures_by_the_bounds_are_accepted(rt: HostRuntime) {
-    assert!(rt; is_own_accepted(rt.alloc()));
+    shows(&rt, is_own_accepted(rt.alloc()));
 }
