@@ -1,5 +1,6 @@
 //! Chains, manifests and records that `slh_command` makes are taken by it, and keys of a ring.
 use crate::keys::{SET, signing, verifying};
+use crate::shown::shows;
 use slh_command::{
     RecordError, check_manifest, key_at, last_key, new_link, record_of, restored_paths,
     seal_manifest,
@@ -16,7 +17,7 @@ fn leads_to_its_subject(alloc: Global) -> Option<bool> {
 
 #[test]
 fn a_chain_ends_with_its_last_subject(rt: HostRuntime) {
-    assert!(rt; leads_to_its_subject(rt.alloc()) == Some(true));
+    shows(&rt, leads_to_its_subject(rt.alloc()) == Some(true));
 }
 
 fn is_of_its_files(alloc: Global) -> Option<bool> {
@@ -30,7 +31,7 @@ fn is_of_its_files(alloc: Global) -> Option<bool> {
 
 #[test]
 fn a_manifest_is_of_its_files(rt: HostRuntime) {
-    assert!(rt; is_of_its_files(rt.alloc()) == Some(true));
+    shows(&rt, is_of_its_files(rt.alloc()) == Some(true));
 }
 
 const MASTER: [u8; 32] = [1; 32];
@@ -49,7 +50,7 @@ fn is_of_its_master(alloc: Global) -> Option<bool> {
 
 #[test]
 fn a_record_gives_its_paths_under_its_own_master_alone(rt: HostRuntime) {
-    assert!(rt; is_of_its_master(rt.alloc()) == Some(true));
+    shows(&rt, is_of_its_master(rt.alloc()) == Some(true));
 }
 
 fn record_error(alloc: Global, texts: &[&str]) -> Option<RecordError> {
@@ -63,7 +64,7 @@ fn are_refused(alloc: Global) -> bool {
 
 #[test]
 fn a_text_that_is_no_path_or_stands_twice_is_refused_by_its_number(rt: HostRuntime) {
-    assert!(rt; are_refused(rt.alloc()));
+    shows(&rt, are_refused(rt.alloc()));
 }
 
 // The key at 1/2026/7 under 32 bytes from 0 on, by examples/python/second_reading.py.
@@ -81,5 +82,5 @@ fn is_derived(alloc: Global) -> Option<bool> {
 
 #[test]
 fn known_key_of_a_ring(rt: HostRuntime) {
-    assert!(rt; is_derived(rt.alloc()) == Some(true));
+    shows(&rt, is_derived(rt.alloc()) == Some(true));
 }

@@ -1,5 +1,6 @@
 //! A batch that `slh_command` seals, its head and its receipts.
 use crate::keys::{SET, signing, verifying};
+use crate::shown::shows;
 use slh_batch::{Batch, Place};
 use slh_command::{Receipts, SealError, accept_receipt, accept_receipt_under_head, seal_batch};
 use std::alloc::{AllocError, Global};
@@ -84,10 +85,13 @@ fn are_accepted(alloc: Global) -> Option<bool> {
 
 #[test]
 fn a_batch_has_the_head_of_another_program_and_its_receipts(rt: HostRuntime) {
-    assert!(rt; are_accepted(rt.alloc()) == Some(true));
+    shows(&rt, are_accepted(rt.alloc()) == Some(true));
 }
 
 #[test]
 fn a_taker_may_refuse_a_receipt(rt: HostRuntime) {
-    assert!(rt; matches!(sealed(rt.alloc(), 1), Some(Err(SealError::Receipts(_)))));
+    shows(
+        &rt,
+        matches!(sealed(rt.alloc(), 1), Some(Err(SealError::Receipts(_)))),
+    );
 }

@@ -1,4 +1,5 @@
 //! Verdicts of `slh_command` in JSON, by the text that RFC 8259 has for them.
+use crate::shown::shows;
 use slh_command::{Detail, verdict_json};
 use std::alloc::Global;
 
@@ -40,5 +41,5 @@ fn are_told(alloc: Global) -> bool {
 
 #[test]
 fn verdicts_are_words_with_what_they_have_besides(rt: HostRuntime) {
-    assert!(rt; are_told(rt.alloc()));
+    shows(&rt, are_told(rt.alloc()));
 }

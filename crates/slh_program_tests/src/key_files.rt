@@ -1,5 +1,6 @@
 //! Key files of `slh_files`, as OpenSSL writes them: those of examples/data/openssl_keys.pem.
 use crate::keys::{SET, signing, verifying};
+use crate::shown::shows;
 use slh_files::{Key, Kind, encode_key};
 use slh_jobs::ByteString;
 use std::alloc::Global;
@@ -29,5 +30,5 @@ fn are_written(alloc: Global) -> Option<bool> {
 
 #[test]
 fn key_files_are_those_of_openssl(rt: HostRuntime) {
-    assert!(rt; are_written(rt.alloc()) == Some(true));
+    shows(&rt, are_written(rt.alloc()) == Some(true));
 }

@@ -32,3 +32,5 @@ mod reader_refusals;
 mod reader_signatures;
 #[cfg(test)]
 mod readers;
+#[cfg(test)]
+mod shown;

@@ -1,4 +1,5 @@
 //! Heads of a log that are signed and opened by the bytes of keys.
+use crate::shown::shows_at;
 use hex::FromHex;
 use hmac_sha256::Hash;
 use slh_log::Checkpoint;
@@ -76,13 +77,13 @@ fn is_known(alloc: Global, row: &str) -> Option<bool> {
 #[test]
 fn heads_of_no_entries_of_6_and_of_the_most(rt: HostRuntime) {
     for row in SIZES.lines() {
-        assert!(rt; is_known(rt.alloc(), row) == Some(true), "{row}");
+        shows_at(&rt, row, is_known(rt.alloc(), row) == Some(true));
     }
 }
 
 #[test]
 fn heads_of_8_entries_with_a_randomizer_and_with_an_umlaut(rt: HostRuntime) {
     for row in OTHERS.lines() {
-        assert!(rt; is_known(rt.alloc(), row) == Some(true), "{row}");
+        shows_at(&rt, row, is_known(rt.alloc(), row) == Some(true));
     }
 }

@@ -1,6 +1,7 @@
 //! Texts of proofs of a log: those of a number, digests of bytes that are 0, 1 and so on, and a
 //! checkpoint have the SHA-256 digests of the texts that Python's standard library makes of them.
 use crate::log_heads::digest;
+use crate::shown::{shows, shows_at};
 use hmac_sha256::Hash;
 use slh_log_tasks::proof_files::{ProofError, Purpose, proof_text, read_proof};
 use std::alloc::Global;
@@ -69,9 +70,10 @@ fn is_known(alloc: Global, purpose: Purpose, row: &str) -> Option<bool> {
 #[test]
 fn texts_of_presence_are_known_and_read_back(rt: HostRuntime) {
     for row in PRESENCE.lines() {
-        assert!(rt;
+        shows_at(
+            &rt,
+            row,
             is_known(rt.alloc(), Purpose::Presence, row) == Some(true),
-            "{row}"
         );
     }
 }
@@ -79,9 +81,10 @@ fn texts_of_presence_are_known_and_read_back(rt: HostRuntime) {
 #[test]
 fn texts_of_growth_are_known_and_read_back(rt: HostRuntime) {
     for row in GROWTH.lines() {
-        assert!(rt;
+        shows_at(
+            &rt,
+            row,
             is_known(rt.alloc(), Purpose::Growth, row) == Some(true),
-            "{row}"
         );
     }
 }
@@ -124,6 +127,9 @@ fn have_no_form(alloc: Global, purpose: Purpose, texts: &str) -> bool {
 
 #[test]
 fn other_texts_have_no_form(rt: HostRuntime) {
-    assert!(rt; have_no_form(rt.alloc(), Purpose::Presence, OTHER_PRESENCE));
-    assert!(rt; have_no_form(rt.alloc(), Purpose::Growth, OTHER_GROWTH));
+    shows(
+        &rt,
+        have_no_form(rt.alloc(), Purpose::Presence, OTHER_PRESENCE),
+    );
+    shows(&rt, have_no_form(rt.alloc(), Purpose::Growth, OTHER_GROWTH));
 }

@@ -1,6 +1,7 @@
 //! The example of the page of `slh_log`: a client that has a head of six entries takes one of
 //! eight.
 use crate::log_heads::digest;
+use crate::shown::shows;
 use slh_dsa::{Sha2_128f, SigningKey, VerifyingKey};
 use slh_log::{CheckpointError, OpenError, check_growth, checkpoint, open};
 use std::alloc::Global;
@@ -45,5 +46,5 @@ fn is_taken(alloc: Global) -> Option<bool> {
 
 #[test]
 fn example_of_the_page_of_logs(rt: HostRuntime) {
-    assert!(rt; is_taken(rt.alloc()) == Some(true));
+    shows(&rt, is_taken(rt.alloc()) == Some(true));
 }

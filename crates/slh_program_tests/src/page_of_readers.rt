@@ -1,5 +1,6 @@
 //! The example of the page of `slh_readers`.
 use crate::readers::{public, signing};
+use crate::shown::shows;
 use slh_files::Key;
 use slh_jobs::{ByteString, Error, Mode};
 use slh_readers::{ReadError, sign_twice, verify};
@@ -26,5 +27,5 @@ fn is_signed_and_accepted(alloc: Global) -> Result<bool, Error> {
 
 #[test]
 fn example_of_the_page(rt: HostRuntime) {
-    assert!(rt; is_signed_and_accepted(rt.alloc()) == Ok(true));
+    shows(&rt, is_signed_and_accepted(rt.alloc()) == Ok(true));
 }

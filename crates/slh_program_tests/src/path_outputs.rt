@@ -1,6 +1,7 @@
 //! Outputs of `slh_paths` over files in memory: secrets are kept, and what can't be looked at, and
 //! what is none is replaced.
 use crate::path_fronts::MemFronts;
+use crate::shown::{shows, shows_at};
 use slh_jobs::ByteString;
 use slh_paths::{Fronts, PutError, put_whole};
 use std::alloc::{AllocError, Global};
@@ -70,7 +71,7 @@ fn is_put(
 fn a_secret_is_not_replaced(rt: HostRuntime) {
     for old in SECRETS.split('|') {
         let kept = is_put(rt.alloc(), old, Err(PutError::Secret), 1, old);
-        assert!(rt; kept == Ok(true), "{old}");
+        shows_at(&rt, old, kept == Ok(true));
     }
 }
 
@@ -79,7 +80,7 @@ fn a_secret_is_not_replaced(rt: HostRuntime) {
 fn what_is_no_secret_is_replaced(rt: HostRuntime) {
     for old in OTHERS.split('|') {
         let replaced = is_put(rt.alloc(), old, Ok(Written::Settled), 7, "new");
-        assert!(rt; replaced == Ok(true), "{old}");
+        shows_at(&rt, old, replaced == Ok(true));
     }
 }
 
@@ -116,5 +117,5 @@ fn are_kept(alloc: Global) -> Result<bool, AllocError> {
 
 #[test]
 fn what_cannot_be_looked_at_is_not_replaced(rt: HostRuntime) {
-    assert!(rt; are_kept(rt.alloc()) == Ok(true));
+    shows(&rt, are_kept(rt.alloc()) == Ok(true));
 }

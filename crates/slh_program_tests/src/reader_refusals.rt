@@ -1,5 +1,6 @@
 //! What `slh_readers` refuses, and faults of readers.
 use crate::readers::{Broken, is_broken, is_refused, public, signing};
+use crate::shown::shows;
 use slh_jobs::{Error, Mode};
 use slh_readers::{sign_digest, sign_twice, verify};
 use std::alloc::Global;
@@ -27,7 +28,7 @@ fn are_refused(alloc: Global) -> Result<bool, Error> {
 
 #[test]
 fn sizes_are_refused(rt: HostRuntime) {
-    assert!(rt; are_refused(rt.alloc()) == Ok(true));
+    shows(&rt, are_refused(rt.alloc()) == Ok(true));
 }
 
 fn are_told(alloc: Global) -> Result<bool, Error> {
@@ -43,5 +44,5 @@ fn are_told(alloc: Global) -> Result<bool, Error> {
 
 #[test]
 fn faults_of_readers_are_told(rt: HostRuntime) {
-    assert!(rt; are_told(rt.alloc()) == Ok(true));
+    shows(&rt, are_told(rt.alloc()) == Ok(true));
 }

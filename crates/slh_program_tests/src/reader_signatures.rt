@@ -1,6 +1,7 @@
 //! Signatures that another program made of what readers give: the SHA-256 of each. And messages
 //! that change meanwhile.
 use crate::readers::{is_changed, public, signing, slowly};
+use crate::shown::shows;
 use hmac_sha256::Hash;
 use slh_files::{Key, evidence_of};
 use slh_jobs::{ByteString, Error, Mode, Verdict};
@@ -69,17 +70,26 @@ fn is_known(
 #[test]
 fn known_signature_of_a_message(rt: HostRuntime) {
     let wanted = "2349cc54f79b5c1b7d51f2352cf6872bb947ebeb165d1c9f808e7e5a6163df44";
-    assert!(rt; is_known(rt.alloc(), Mode::Pure, b"", None, b"Hello", wanted) == Ok(true));
+    shows(
+        &rt,
+        is_known(rt.alloc(), Mode::Pure, b"", None, b"Hello", wanted) == Ok(true),
+    );
 }
 
 #[test]
 fn known_signatures_of_digests(rt: HostRuntime) {
     let wanted = "6ede90ccaf41b9fb616a9d264d2f3098bc6ebe374c12ea86c5c89b85084bef74";
     let (context, hello) = (b"Test context!", b"Hello, world!");
-    assert!(rt; is_known(rt.alloc(), Mode::Sha256, context, None, hello, wanted) == Ok(true));
+    shows(
+        &rt,
+        is_known(rt.alloc(), Mode::Sha256, context, None, hello, wanted) == Ok(true),
+    );
     let wanted = "cf156a3cbbea4b6726a994fbc1b5d11c2ec56d661a230319163b0a1333b99d65";
     let rand = Some(NUMBERS.as_slice());
-    assert!(rt; is_known(rt.alloc(), Mode::Sha512, b"", rand, b"abc", wanted) == Ok(true));
+    shows(
+        &rt,
+        is_known(rt.alloc(), Mode::Sha512, b"", rand, b"abc", wanted) == Ok(true),
+    );
 }
 
 // Some 200 pieces, each of which has a byte more than the one before.
@@ -88,7 +98,10 @@ const LONG: [u8; 20_000] = [b'a'; 20_000];
 #[test]
 fn known_signature_of_a_long_message(rt: HostRuntime) {
     let wanted = "166ef1f8f7ce80555372b5d2d214587d7a448aea213f6113fbe225ac9ceb938c";
-    assert!(rt; is_known(rt.alloc(), Mode::Pure, b"", None, &LONG, wanted) == Ok(true));
+    shows(
+        &rt,
+        is_known(rt.alloc(), Mode::Pure, b"", None, &LONG, wanted) == Ok(true),
+    );
 }
 
 fn is_undisputed(alloc: Global) -> Result<bool, Error> {
@@ -109,7 +122,7 @@ fn is_undisputed(alloc: Global) -> Result<bool, Error> {
 
 #[test]
 fn evidence_shows_nothing_against_an_own_signature(rt: HostRuntime) {
-    assert!(rt; is_undisputed(rt.alloc()) == Ok(true));
+    shows(&rt, is_undisputed(rt.alloc()) == Ok(true));
 }
 
 // Two readings of a message, which differ.
@@ -141,5 +154,5 @@ fn are_seen(alloc: Global) -> Result<bool, Error> {
 
 #[test]
 fn other_bytes_are_seen(rt: HostRuntime) {
-    assert!(rt; are_seen(rt.alloc()) == Ok(true));
+    shows(&rt, are_seen(rt.alloc()) == Ok(true));
 }
