@@ -286,7 +286,7 @@ fn takes_more(sink: &mut MemSink) -> bool {
 }
 
 // Whether a run over a sink in memory ends with 4 where the sink found no memory, with 6 where
-// something else found none, and with 0 where all had enough, and whether its ends go on afterwards.
+// Long replies to 200 lines of one piece don't wait for its end: the second write fails here.
 fn ends_by_its_cause(alloc: Global) -> Result<bool, AllocError> {
     let mut source = QuietSource::new(b"a b\nc\n".to_vec(alloc)?);
     let mut sink = MemSink::new(alloc, Vec::new(alloc));
