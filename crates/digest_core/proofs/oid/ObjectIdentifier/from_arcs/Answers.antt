@@ -1,4 +1,5 @@
 use Rattle.std.proofs.Common.{◌∙◌, arith, rules}
+use Rattle.std.proofs.lemmas.Grind.{common_steps}
 use Rattle.digest_core.proofs.Decoding.{two_and_rest}
 use Rattle.digest_core.proofs.oid.ObjectIdentifier.from_arcs.Goals as goal
 
@@ -8,3 +9,6 @@ invariant_of-result c k =
 
 pub returns-clause-arcs : goal.returns-clause-arcs
 returns-clause-arcs c = c.in_ok-octets.ensures.arcs ∙ two_and_rest c.args.arcs.now (omega arith)
+
+pub returns-then-arcs-lt2 : goal.returns-then-arcs-lt2
+returns-then-arcs-lt2 c = grind (arith, common_steps)
