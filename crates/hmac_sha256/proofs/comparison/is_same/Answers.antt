@@ -1,4 +1,5 @@
 use Rattle.std.proofs.Common.{◌≡◌, ℕ, bit_or, bit_xor, slice_index, refl, ap, arith}
+use Rattle.std.proofs.lemmas.Grind.{common_steps}
 use Rattle.std.proofs.lemmas.List.{take_more_same}
 use Rattle.std.proofs.lemmas.Nat.Bits.{bit_at-lt, bit_at-zero, bit_at_or, bit_at_xor, same_from_bits}
 use Rattle.std.specs.Int.{bit_at}
@@ -27,3 +28,9 @@ each_byte-preserved c =
       none = λ same.
           rw (before.none same, same, xor_self (slice_index c.args.y.now i)) refl;
     }
+
+pub returns-then-x-y : goal.returns-then-x-y
+returns-then-x-y c = grind (arith, common_steps)
+
+pub returns : goal.returns
+returns c = grind (arith, common_steps)
