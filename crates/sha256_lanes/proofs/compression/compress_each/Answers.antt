@@ -1,7 +1,11 @@
 use Rattle.std.proofs.Common.{◌∙◌, ap, sym, List, ℕ, [], arith, below_more, rules, slice_index_or}
+use Rattle.std.proofs.lemmas.Grind.{common_steps}
 use Rattle.std.proofs.lemmas.List.{ext_get_or, get_or-map, get_or-set_same, get_or-set_other, length-map}
 use Rattle.sha256_lanes.specs.Sha256.{compress}
 use Rattle.sha256_lanes.proofs.compression.compress_each.Goals as goal
+
+pub rows-init : goal.rows-init
+rows-init g c = grind (arith, common_steps)
 
 pub rows-preserved : goal.rows-preserved
 rows-preserved g c =
