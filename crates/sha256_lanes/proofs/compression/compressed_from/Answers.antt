@@ -1,8 +1,12 @@
 use Rattle.std.proofs.Common.{ap, arith}
+use Rattle.std.proofs.lemmas.Grind.{common_steps}
 use Rattle.sha256_lanes.specs.Lanes.{variables}
 use Rattle.sha256_lanes.specs.Sha256.{added_words}
 use Rattle.sha256_lanes.proofs.Schedule.{IsBefore_at, compress-rounds_until, window_word}
 use Rattle.sha256_lanes.proofs.compression.compressed_from.Goals as goal
+
+pub turns-init : goal.turns-init
+turns-init g c = grind (arith, common_steps)
 
 pub turns-preserved : goal.turns-preserved
 turns-preserved g c j l b before =

@@ -1,7 +1,11 @@
 use Rattle.std.proofs.Common.{ℕ, List, [], ◌∙◌, arith, sym}
+use Rattle.std.proofs.lemmas.Grind.{common_steps}
 use Rattle.std.proofs.lemmas.List.{ext_get_or, get_or-map, length-map}
 use Rattle.sha2.specs.Sha512.{digest_bytes}
 use Rattle.sha512_lanes.proofs.hashing.digests_of.Goals as goal
+
+pub each_digest-init : goal.each_digest-init
+each_digest-init g c = grind (arith, common_steps)
 
 pub returns : goal.returns
 returns g c =
