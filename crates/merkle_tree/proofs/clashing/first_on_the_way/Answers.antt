@@ -29,8 +29,8 @@ each_side-preserved g c =
       clash = rw (above_x, above_y) (sym (clash_step H l.node_x l.node_y sides p r l.h (omega arith) (omega arith) (omega arith) none) ∙ l.invariant.clash);
     }
 
-pub returns-then-is_clash-clause-height : goal.returns-then-is_clash-clause-height
-returns-then-is_clash-clause-height g c =
+pub returns-then-is_clash : goal.returns-then-is_clash
+returns-then-is_clash g c =
     let H = g.H.TreeHash.hash in
     let l = c.each_side in
     let sides = c.args.sides.now in
@@ -42,22 +42,11 @@ returns-then-is_clash-clause-height g c =
     let above_y : c.digest_of-above_y.result ≡ H (input_at sides r l.h l.node_y) = c.digest_of-above_y.ensures ∙ ap H second in
     let here : clashes H (input_at sides p l.h l.node_x) (input_at sides r l.h l.node_y) ≡ true
     = rw (← above_x, ← above_y, ← first, ← second, ← c.are_same.ensures) (sym c.is_clash.ensures ∙ c.if-is_clash.true) in
-    sym l.invariant.place ∙ place_here H l.node_x l.node_y sides p r l.h (omega arith) (omega arith) (omega arith) here
-
-pub returns-then-is_clash-clause-inputs : goal.returns-then-is_clash-clause-inputs
-returns-then-is_clash-clause-inputs g c =
-    let H = g.H.TreeHash.hash in
-    let l = c.each_side in
-    let sides = c.args.sides.now in
-    let p = c.args.path_x.now in
-    let r = c.args.path_y.now in
-    let first : c.input_of-first.result ≡ input_at sides p l.h l.node_x = rw (← c.is_left-left.ensures) c.input_of-first.ensures in
-    let second : c.input_of-second.result ≡ input_at sides r l.h l.node_y = rw (← c.is_left-left.ensures) c.input_of-second.ensures in
-    let above_x : c.digest_of-above_x.result ≡ H (input_at sides p l.h l.node_x) = c.digest_of-above_x.ensures ∙ ap H first in
-    let above_y : c.digest_of-above_y.result ≡ H (input_at sides r l.h l.node_y) = c.digest_of-above_y.ensures ∙ ap H second in
-    let here : clashes H (input_at sides p l.h l.node_x) (input_at sides r l.h l.node_y) ≡ true
-    = rw (← above_x, ← above_y, ← first, ← second, ← c.are_same.ensures) (sym c.is_clash.ensures ∙ c.if-is_clash.true) in
-    sym l.invariant.clash ∙ clash_here H l.node_x l.node_y sides p r l.h (omega arith) (omega arith) (omega arith) here ∙ rw (first, second) refl
+    record {
+      low = omega arith;
+      height = sym l.invariant.place ∙ place_here H l.node_x l.node_y sides p r l.h (omega arith) (omega arith) (omega arith) here;
+      inputs = sym l.invariant.clash ∙ clash_here H l.node_x l.node_y sides p r l.h (omega arith) (omega arith) (omega arith) here ∙ rw (first, second) refl;
+    }
 
 pub returns-clause-height : goal.returns-clause-height
 returns-clause-height g c =
