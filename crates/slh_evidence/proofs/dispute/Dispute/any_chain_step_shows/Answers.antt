@@ -1,4 +1,5 @@
 use Rattle.std.proofs.Common.{arith}
+use Rattle.std.proofs.lemmas.Grind.{common_steps}
 use Rattle.std.proofs.lemmas.Bool.{false≢true}
 use Rattle.slh_evidence.proofs.Shown.{told}
 use Rattle.slh_evidence.proofs.Meaning.{IsShown}
@@ -13,3 +14,6 @@ pub returns-then-chain-WOTS_SIG_LEN : goal.returns-then-chain-WOTS_SIG_LEN
 unfolding IsShown
 returns-then-chain-WOTS_SIG_LEN g c =
     told _ _ _ ((λ t. absurd (false≢true t)), (λ shows. absurd (omega (arith, c.if-chain-WOTS_SIG_LEN.true, shows.0))))
+
+pub returns : goal.returns
+returns g c = grind (arith, common_steps)

@@ -1,3 +1,5 @@
+use Rattle.std.proofs.Common.{arith}
+use Rattle.std.proofs.lemmas.Grind.{common_steps}
 use Rattle.slh_trees.specs.Checking.{checked_message}
 use Rattle.slh_trees.proofs.Layers.{checked_message-more}
 use Rattle.slh_evidence.proofs.dispute.Dispute.checked_message.Goals as goal
@@ -10,3 +12,6 @@ pub loop-j-preserved : goal.loop-j-preserved
 loop-j-preserved g c =
     rw (c.xmss_pk_from_sig-message.ensures.value, c.self.invariant.5, c.adrs_at-adrs.ensures.value, c.layer_sig-sig.ensures.value, c.loop-j.invariant, ← c.self.view_is)
     (checked_message-more _ g.P.XmssParams.H_PRIME c.self.inside.tree c.self.inside.leaf c.self.inside.layers.now _ c.loop-j.j)
+
+pub returns : goal.returns
+returns g c = grind (arith, common_steps)
