@@ -1,4 +1,5 @@
 use Rattle.std.proofs.Common.{arith, ◌∙◌}
+use Rattle.std.proofs.lemmas.Grind.{common_steps}
 use Rattle.slh_trees.specs.Checking.{checked_message}
 use Rattle.slh_evidence.proofs.dispute.Dispute.own_from.Goals as goal
 
@@ -10,3 +11,6 @@ loop-layer-init g c = record {
   low = omega arith;
   made = λ i low below. absurd (omega arith);
 }
+
+pub returns : goal.returns
+returns g c = grind (arith, common_steps)
