@@ -5,29 +5,29 @@ use Rattle.slh_evidence.specs.Evidence.{dispute_on}
 use Rattle.slh_core.specs.Parameters.{scheme_of}
 use Rattle.slh_evidence.proofs.dispute.Dispute.layer_up.Goals as goal
 
-pub returns-then-is_own-clause-made : goal.returns-then-is_own-clause-made
-returns-then-is_own-clause-made g c =
+pub returns-then-is_own : goal.returns-then-is_own
+returns-then-is_own g c =
     let D = dispute_on (scheme_of g.P.HashSuite.suite g.P.N.ArraySize.USIZE g.P.XmssParams.H_PRIME g.P.HypertreeParams.D g.P.ForsParams.A g.P.ForsParams.K) c.args.self.now in
     let made = layer_made D _ _ _ _ (rw (← c.self.view_is) c.self.invariant.5) (rw (← c.self.view_is) refl) refl _ _ _ refl c.requires.own (rw c.adrs_at-adrs.ensures.value at c.xmss_sign_root-root.ensures.value) in
-    own_layer_told D c.args.layer c.both_same-is_own.result _ _ _ _
-    (c.as_slice.ensures.value ∙ c.requires.checked) (c.as_slice-2.ensures.value ∙ c.requires.own) c.layer_sig-sig.ensures.value made c.both_same-is_own.ensures
-
-pub returns-else-is_own-clause-made : goal.returns-else-is_own-clause-made
-returns-else-is_own-clause-made g c =
-    let D = dispute_on (scheme_of g.P.HashSuite.suite g.P.N.ArraySize.USIZE g.P.XmssParams.H_PRIME g.P.HypertreeParams.D g.P.ForsParams.A g.P.ForsParams.K) c.args.self.now in
-    let made = layer_made D _ _ _ _ (rw (← c.self.view_is) c.self.invariant.5) (rw (← c.self.view_is) refl) refl _ _ _ refl c.requires.own (rw c.adrs_at-adrs.ensures.value at c.xmss_sign_root-root.ensures.value) in
-    own_layer_told D c.args.layer c.both_same-is_own.result _ _ _ _
-    (c.as_slice.ensures.value ∙ c.requires.checked) (c.as_slice-2.ensures.value ∙ c.requires.own) c.layer_sig-sig.ensures.value made c.both_same-is_own.ensures
-
-pub returns-then-is_own-clause-checked : goal.returns-then-is_own-clause-checked
-returns-then-is_own-clause-checked g c =
-    let D = dispute_on (scheme_of g.P.HashSuite.suite g.P.N.ArraySize.USIZE g.P.XmssParams.H_PRIME g.P.HypertreeParams.D g.P.ForsParams.A g.P.ForsParams.K) c.args.self.now in
-    let law = g.met.P.HashSuite.lengths g.met.P.WotsParams.valid_wots.n_high in
-    let made = (returns-then-is_own-clause-made g c).0 c.if-is_own.true in
+    let is_own = own_layer_told D c.args.layer c.both_same-is_own.result _ _ _ _
+    (c.as_slice.ensures.value ∙ c.requires.checked) (c.as_slice-2.ensures.value ∙ c.requires.own) c.layer_sig-sig.ensures.value made c.both_same-is_own.ensures in
     let root = layer_root D _ _ _ _ (rw (← c.self.view_is) c.self.invariant.5) (rw (← c.self.view_is) refl) refl _ (rw c.adrs_at-adrs.ensures.value at c.xmss_sign_root-root.ensures.root) in
-    c.copy.ensures ∙ root ∙ checked_up D c.args.layer law made (rw c.adrs_at-adrs.ensures.value at c.adrs_at-adrs.ensures.leaf)
+    let law = g.met.P.HashSuite.lengths g.met.P.WotsParams.valid_wots.n_high in
+    record {
+      made = is_own;
+      checked = c.copy.ensures ∙ root ∙ checked_up D c.args.layer law (is_own.0 c.if-is_own.true) (rw c.adrs_at-adrs.ensures.value at c.adrs_at-adrs.ensures.leaf);
+      own = root;
+    }
 
-pub returns-else-is_own-clause-checked : goal.returns-else-is_own-clause-checked
-returns-else-is_own-clause-checked g c =
+pub returns-else-is_own : goal.returns-else-is_own
+returns-else-is_own g c =
     let D = dispute_on (scheme_of g.P.HashSuite.suite g.P.N.ArraySize.USIZE g.P.XmssParams.H_PRIME g.P.HypertreeParams.D g.P.ForsParams.A g.P.ForsParams.K) c.args.self.now in
-    layer_checked D _ _ _ _ _ _ _ (rw (← c.self.view_is) c.self.invariant.5) refl refl c.layer_sig-sig.ensures.value c.requires.checked (rw c.adrs_at-adrs.ensures.value at c.xmss_pk_from_sig.ensures.value)
+    let made = layer_made D _ _ _ _ (rw (← c.self.view_is) c.self.invariant.5) (rw (← c.self.view_is) refl) refl _ _ _ refl c.requires.own (rw c.adrs_at-adrs.ensures.value at c.xmss_sign_root-root.ensures.value) in
+    let is_own = own_layer_told D c.args.layer c.both_same-is_own.result _ _ _ _
+    (c.as_slice.ensures.value ∙ c.requires.checked) (c.as_slice-2.ensures.value ∙ c.requires.own) c.layer_sig-sig.ensures.value made c.both_same-is_own.ensures in
+    let root = layer_root D _ _ _ _ (rw (← c.self.view_is) c.self.invariant.5) (rw (← c.self.view_is) refl) refl _ (rw c.adrs_at-adrs.ensures.value at c.xmss_sign_root-root.ensures.root) in
+    record {
+      made = is_own;
+      checked = layer_checked D _ _ _ _ _ _ _ (rw (← c.self.view_is) c.self.invariant.5) refl refl c.layer_sig-sig.ensures.value c.requires.checked (rw c.adrs_at-adrs.ensures.value at c.xmss_pk_from_sig.ensures.value);
+      own = root;
+    }
