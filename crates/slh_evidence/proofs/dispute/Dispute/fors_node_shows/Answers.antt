@@ -1,4 +1,5 @@
 use Rattle.std.proofs.Common.{arith, refl, ◌∙◌, ◌+◌, ◌-◌, length}
+use Rattle.std.proofs.lemmas.Grind.{common_steps}
 use Rattle.slh_evidence.proofs.Forested.{fors_node_shown_by}
 use Rattle.slh_evidence.proofs.Told.{rows_fit, up_below_of}
 use Rattle.slh_evidence.specs.Evidence.{dispute_on}
@@ -6,29 +7,41 @@ use Rattle.slh_core.specs.Parameters.{scheme_of}
 use Rattle.slh_trees.proofs.Powers.{sibling_below_of}
 use Rattle.slh_evidence.proofs.dispute.Dispute.fors_node_shows.Goals as goal
 
-pub root_from_auth_path-below-requires-clause-enough : goal.root_from_auth_path-below-requires-clause-enough
-root_from_auth_path-below-requires-clause-enough g c =
-    rows_fit (c.args.height - 1) g.P.ForsParams.A g.P.N.ArraySize.USIZE (length c.opened_parts.result.1.now) (omega (arith, c.requires.high)) c.opened_parts.ensures.path_len
+pub root_from_auth_path-below-requires : goal.root_from_auth_path-below-requires
+root_from_auth_path-below-requires g c = record {
+  few = grind (arith, common_steps);
+  enough = rows_fit (c.args.height - 1) g.P.ForsParams.A g.P.N.ArraySize.USIZE (length c.opened_parts.result.1.now) (omega (arith, c.requires.high)) c.opened_parts.ensures.path_len;
+}
 
-pub part_of-beside-requires-clause-fits : goal.part_of-beside-requires-clause-fits
-part_of-beside-requires-clause-fits g c =
-    rows_fit (c.args.height - 1 + 1) g.P.ForsParams.A g.P.N.ArraySize.USIZE (length c.opened_parts.result.1.now) (omega (arith, c.requires.high, c.requires.low)) c.opened_parts.ensures.path_len
+pub part_of-beside-requires : goal.part_of-beside-requires
+part_of-beside-requires g c = record {
+  small = grind (arith, common_steps);
+  fits = rows_fit (c.args.height - 1 + 1) g.P.ForsParams.A g.P.N.ArraySize.USIZE (length c.opened_parts.result.1.now) (omega (arith, c.requires.high, c.requires.low)) c.opened_parts.ensures.path_len;
+}
 
-pub root_from_auth_path-node-requires-clause-enough : goal.root_from_auth_path-node-requires-clause-enough
-root_from_auth_path-node-requires-clause-enough g c =
-    rows_fit c.args.height g.P.ForsParams.A g.P.N.ArraySize.USIZE (length c.opened_parts.result.1.now) c.requires.high c.opened_parts.ensures.path_len
+pub root_from_auth_path-node-requires : goal.root_from_auth_path-node-requires
+root_from_auth_path-node-requires g c = record {
+  few = grind (arith, common_steps);
+  enough = rows_fit c.args.height g.P.ForsParams.A g.P.N.ArraySize.USIZE (length c.opened_parts.result.1.now) c.requires.high c.opened_parts.ensures.path_len;
+}
 
-pub fors_node-own_below-requires-clause-node : goal.fors_node-own_below-requires-clause-node
-fors_node-own_below-requires-clause-node g c =
-    up_below_of c.named_leaf-y.result (c.args.height - 1) g.P.ForsParams.A g.P.ForsParams.K (omega (arith, c.requires.high)) c.named_leaf-y.ensures.below
+pub fors_node-own_below-requires : goal.fors_node-own_below-requires
+fors_node-own_below-requires g c = record {
+  height = grind (arith, common_steps);
+  node = up_below_of c.named_leaf-y.result (c.args.height - 1) g.P.ForsParams.A g.P.ForsParams.K (omega (arith, c.requires.high)) c.named_leaf-y.ensures.below;
+}
 
-pub fors_node-own_beside-requires-clause-node : goal.fors_node-own_beside-requires-clause-node
-fors_node-own_beside-requires-clause-node g c =
-    rw c.sibling.ensures (sibling_below_of c.named_leaf-y.result (c.args.height - 1) g.P.ForsParams.A g.P.ForsParams.K (omega (arith, c.requires.high, c.requires.low)) c.named_leaf-y.ensures.below)
+pub fors_node-own_beside-requires : goal.fors_node-own_beside-requires
+fors_node-own_beside-requires g c = record {
+  height = grind (arith, common_steps);
+  node = rw c.sibling.ensures (sibling_below_of c.named_leaf-y.result (c.args.height - 1) g.P.ForsParams.A g.P.ForsParams.K (omega (arith, c.requires.high, c.requires.low)) c.named_leaf-y.ensures.below);
+}
 
-pub fors_node-own_node-requires-clause-node : goal.fors_node-own_node-requires-clause-node
-fors_node-own_node-requires-clause-node g c =
-    up_below_of c.named_leaf-y.result c.args.height g.P.ForsParams.A g.P.ForsParams.K c.requires.high c.named_leaf-y.ensures.below
+pub fors_node-own_node-requires : goal.fors_node-own_node-requires
+fors_node-own_node-requires g c = record {
+  height = grind (arith, common_steps);
+  node = up_below_of c.named_leaf-y.result c.args.height g.P.ForsParams.A g.P.ForsParams.K c.requires.high c.named_leaf-y.ensures.below;
+}
 
 pub returns : goal.returns
 returns g c =

@@ -1,4 +1,5 @@
 use Rattle.std.proofs.Common.{arith, refl, ◌+◌, ◌-◌, length}
+use Rattle.std.proofs.lemmas.Grind.{common_steps}
 use Rattle.slh_evidence.proofs.Climbed.{tree_node_shown}
 use Rattle.slh_evidence.proofs.Nearby.{sibling_below}
 use Rattle.slh_evidence.proofs.Told.{rows_fit, sibling_room, up_below}
@@ -6,33 +7,45 @@ use Rattle.slh_evidence.specs.Evidence.{dispute_on}
 use Rattle.slh_core.specs.Parameters.{scheme_of}
 use Rattle.slh_evidence.proofs.layer.LayerCheck.tree_node_shows.Goals as goal
 
-pub root_from_auth_path-below-requires-clause-enough : goal.root_from_auth_path-below-requires-clause-enough
-root_from_auth_path-below-requires-clause-enough g c =
-    rows_fit (c.args.height - 1) g.P.XmssParams.H_PRIME g.P.N.ArraySize.USIZE (length c.layer_parts.result.1.now) (omega (arith, c.requires.high)) c.layer_parts.ensures.path_len
+pub root_from_auth_path-below-requires : goal.root_from_auth_path-below-requires
+root_from_auth_path-below-requires g c = record {
+  few = grind (arith, common_steps);
+  enough = rows_fit (c.args.height - 1) g.P.XmssParams.H_PRIME g.P.N.ArraySize.USIZE (length c.layer_parts.result.1.now) (omega (arith, c.requires.high)) c.layer_parts.ensures.path_len;
+}
 
-pub part_of-beside-requires-clause-fits : goal.part_of-beside-requires-clause-fits
-part_of-beside-requires-clause-fits g c =
-    rows_fit (c.args.height - 1 + 1) g.P.XmssParams.H_PRIME g.P.N.ArraySize.USIZE (length c.layer_parts.result.1.now) (omega (arith, c.requires.high, c.requires.low)) c.layer_parts.ensures.path_len
+pub part_of-beside-requires : goal.part_of-beside-requires
+part_of-beside-requires g c = record {
+  small = grind (arith, common_steps);
+  fits = rows_fit (c.args.height - 1 + 1) g.P.XmssParams.H_PRIME g.P.N.ArraySize.USIZE (length c.layer_parts.result.1.now) (omega (arith, c.requires.high, c.requires.low)) c.layer_parts.ensures.path_len;
+}
 
-pub root_from_auth_path-node-requires-clause-enough : goal.root_from_auth_path-node-requires-clause-enough
-root_from_auth_path-node-requires-clause-enough g c =
-    rows_fit c.args.height g.P.XmssParams.H_PRIME g.P.N.ArraySize.USIZE (length c.layer_parts.result.1.now) c.requires.high c.layer_parts.ensures.path_len
+pub root_from_auth_path-node-requires : goal.root_from_auth_path-node-requires
+root_from_auth_path-node-requires g c = record {
+  few = grind (arith, common_steps);
+  enough = rows_fit c.args.height g.P.XmssParams.H_PRIME g.P.N.ArraySize.USIZE (length c.layer_parts.result.1.now) c.requires.high c.layer_parts.ensures.path_len;
+}
 
 pub sibling-requires : goal.sibling-requires
 sibling-requires g c =
     sibling_room c.args.self.now.adrs.key_pair_adrs (c.args.height - 1) g.P.XmssParams.H_PRIME c.tree_sizes.ensures.height_high (omega (arith, c.requires.high)) c.args.self.now.below
 
-pub xmss_node-own_below-requires-clause-node : goal.xmss_node-own_below-requires-clause-node
-xmss_node-own_below-requires-clause-node g c =
-    up_below c.args.self.now.adrs.key_pair_adrs (c.args.height - 1) g.P.XmssParams.H_PRIME (omega (arith, c.requires.high)) c.args.self.now.below
+pub xmss_node-own_below-requires : goal.xmss_node-own_below-requires
+xmss_node-own_below-requires g c = record {
+  height = grind (arith, common_steps);
+  node = up_below c.args.self.now.adrs.key_pair_adrs (c.args.height - 1) g.P.XmssParams.H_PRIME (omega (arith, c.requires.high)) c.args.self.now.below;
+}
 
-pub xmss_node-own_beside-requires-clause-node : goal.xmss_node-own_beside-requires-clause-node
-xmss_node-own_beside-requires-clause-node g c =
-    rw c.sibling.ensures (sibling_below c.args.self.now.adrs.key_pair_adrs (c.args.height - 1) g.P.XmssParams.H_PRIME (omega (arith, c.requires.high, c.requires.low)) c.args.self.now.below)
+pub xmss_node-own_beside-requires : goal.xmss_node-own_beside-requires
+xmss_node-own_beside-requires g c = record {
+  height = grind (arith, common_steps);
+  node = rw c.sibling.ensures (sibling_below c.args.self.now.adrs.key_pair_adrs (c.args.height - 1) g.P.XmssParams.H_PRIME (omega (arith, c.requires.high, c.requires.low)) c.args.self.now.below);
+}
 
-pub xmss_node-own_node-requires-clause-node : goal.xmss_node-own_node-requires-clause-node
-xmss_node-own_node-requires-clause-node g c =
-    up_below c.args.self.now.adrs.key_pair_adrs c.args.height g.P.XmssParams.H_PRIME c.requires.high c.args.self.now.below
+pub xmss_node-own_node-requires : goal.xmss_node-own_node-requires
+xmss_node-own_node-requires g c = record {
+  height = grind (arith, common_steps);
+  node = up_below c.args.self.now.adrs.key_pair_adrs c.args.height g.P.XmssParams.H_PRIME c.requires.high c.args.self.now.below;
+}
 
 pub returns : goal.returns
 returns g c =
