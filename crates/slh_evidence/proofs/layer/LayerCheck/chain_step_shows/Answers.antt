@@ -1,5 +1,7 @@
-use Rattle.std.proofs.Common.{arith, refl}
+use Rattle.std.proofs.Common.{arith, refl, ◌+◌, length}
+use Rattle.std.proofs.lemmas.Grind.{common_steps}
 use Rattle.slh_evidence.proofs.Answered.{chain_step_shown, step_after, step_before}
+use Rattle.slh_evidence.proofs.Told.{rows_fit}
 use Rattle.slh_evidence.specs.Evidence.{dispute_on}
 use Rattle.slh_core.specs.Parameters.{scheme_of}
 use Rattle.slh_evidence.proofs.layer.LayerCheck.chain_step_shows.Goals as goal
@@ -12,6 +14,12 @@ returns-then-step-digit g c =
 pub returns-then-step-gt14 : goal.returns-then-step-gt14
 returns-then-step-gt14 g c =
     step_after (dispute_on (scheme_of g.P.HashSuite.suite g.P.N.ArraySize.USIZE g.P.XmssParams.H_PRIME g.P.HypertreeParams.D g.P.ForsParams.A g.P.ForsParams.K) c.args.self.now.dispute.now) _ _ _ (omega (arith, c.if-step-gt14.true))
+
+pub part_of-value-requires : goal.part_of-value-requires
+part_of-value-requires g c = record {
+  small = grind (arith, common_steps);
+  fits = rows_fit (c.args.chain + 1) g.P.WotsParams.WOTS_SIG_LEN g.P.N.ArraySize.USIZE (length c.layer_parts.result.0.now) (omega (arith, c.requires)) c.layer_parts.ensures.chains_len;
+}
 
 pub returns : goal.returns
 returns g c =

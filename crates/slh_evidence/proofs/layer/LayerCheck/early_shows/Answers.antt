@@ -1,5 +1,7 @@
-use Rattle.std.proofs.Common.{arith, refl}
+use Rattle.std.proofs.Common.{arith, refl, ◌+◌, length}
+use Rattle.std.proofs.lemmas.Grind.{common_steps}
 use Rattle.slh_evidence.proofs.Answered.{early_shown, not_early}
+use Rattle.slh_evidence.proofs.Told.{rows_fit}
 use Rattle.slh_evidence.specs.Evidence.{dispute_on}
 use Rattle.slh_core.specs.Parameters.{scheme_of}
 use Rattle.slh_evidence.proofs.layer.LayerCheck.early_shows.Goals as goal
@@ -8,6 +10,12 @@ pub returns-then-digit-digit_of : goal.returns-then-digit-digit_of
 returns-then-digit-digit_of g c =
     let s = c.args.self.now in
     not_early (dispute_on (scheme_of g.P.HashSuite.suite g.P.N.ArraySize.USIZE g.P.XmssParams.H_PRIME g.P.HypertreeParams.D g.P.ForsParams.A g.P.ForsParams.K) s.dispute.now) _ _ _ _ _ _ s.checked c.requires.own c.digit_of-digit.ensures.value c.digit_of.ensures.value (omega (arith, c.if-digit-digit_of.true))
+
+pub part_of-value-requires : goal.part_of-value-requires
+part_of-value-requires g c = record {
+  small = grind (arith, common_steps);
+  fits = rows_fit (c.args.chain + 1) g.P.WotsParams.WOTS_SIG_LEN g.P.N.ArraySize.USIZE (length c.layer_parts.result.0.now) (omega (arith, c.requires.chain)) c.layer_parts.ensures.chains_len;
+}
 
 pub returns : goal.returns
 returns g c =
