@@ -1,13 +1,19 @@
-use Rattle.std.proofs.Common.{refl}
+use Rattle.std.proofs.Common.{arith, refl}
+use Rattle.std.proofs.lemmas.Grind.{common_steps}
 use Rattle.slh_evidence.proofs.Climbed.{leaf_shown}
 use Rattle.slh_evidence.specs.Evidence.{dispute_on}
 use Rattle.slh_core.proofs.DigitSteps.{wots_digits_below}
 use Rattle.slh_core.specs.Parameters.{scheme_of}
 use Rattle.slh_evidence.proofs.layer.LayerCheck.leaf_shows.Goals as goal
 
-pub finish_each-requires-clause-below : goal.finish_each-requires-clause-below
-finish_each-requires-clause-below g c =
-    rw (c.WOTS_SIG_LEN-len.ensures, c.tree_sizes.ensures.signature_len, c.message_digits-all.ensures) (λ k below. wots_digits_below _ _ k)
+pub finish_each-requires : goal.finish_each-requires
+finish_each-requires g c = record {
+  small = grind (arith, common_steps);
+  count = grind (arith, common_steps);
+  below = rw (c.WOTS_SIG_LEN-len.ensures, c.tree_sizes.ensures.signature_len, c.message_digits-all.ensures) (λ k below. wots_digits_below _ _ k);
+  whole = grind (arith, common_steps);
+  room = grind (arith, common_steps);
+}
 
 pub returns : goal.returns
 returns g c =
