@@ -12,3 +12,9 @@ loop-i-preserved g c =
       count = rw c.push_reserved.ensures.items (grind (arith, common_steps));
       made = rw c.push_reserved.ensures.items (Answers-push _ 0 _ _ _ _ _ c.loop-i.invariant.made (rw at (search of_calls)));
     }
+
+pub returns-in_err-answers : goal.returns-in_err-answers
+returns-in_err-answers g c = grind (arith, common_steps)
+
+pub returns : goal.returns
+returns g c = grind (arith, common_steps)

@@ -14,11 +14,12 @@ loop-x-preserved g c =
       made = rw c.push_reserved.ensures.items (Maps-push _ _ _ _ _ _ _ _ c.loop-x.invariant.made (search of_calls));
     }
 
-pub returns-in_err-items-clause-len : goal.returns-in_err-items-clause-len
-returns-in_err-items-clause-len g c = IfOk-from_err _ _ c.from_residual.ensures.0
-
-pub returns-in_err-items-clause-value : goal.returns-in_err-items-clause-value
-returns-in_err-items-clause-value g c = IfOk-from_err _ _ c.from_residual.ensures.0
+pub returns-in_err-items : goal.returns-in_err-items
+returns-in_err-items g c = record {
+  len = IfOk-from_err _ _ c.from_residual.ensures.0;
+  value = IfOk-from_err _ _ c.from_residual.ensures.0;
+  uncalled = grind (arith, common_steps);
+}
 
 pub loop-x-init : goal.loop-x-init
 loop-x-init g c = record {
@@ -33,3 +34,6 @@ pub push_reserved-requires : goal.push_reserved-requires
 push_reserved-requires g c =
     let whole = rw c.in-Some.ensures.steps.0 at c.loop-x.invariant.whole in
     omega (arith, simp length-append at (ap length whole))
+
+pub returns : goal.returns
+returns g c = grind (arith, common_steps)

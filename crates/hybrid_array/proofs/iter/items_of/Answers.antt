@@ -4,12 +4,17 @@ use Rattle.hybrid_array.specs.Gives.GivesOther.{fewer, more}
 use Rattle.hybrid_array.proofs.CallLemmas.{Yields-push}
 use Rattle.hybrid_array.proofs.iter.items_of.Goals as goal
 
-pub returns-in-None-clause-count : goal.returns-in-None-clause-count
-returns-in-None-clause-count g c = fewer c.loop-i.items.items (omega arith) (record {
-  rest = c.loop-i.it;
-  given = c.loop-i.invariant.given;
-  none = c.in-None.ensures.gives;
-})
+pub returns-in-None : goal.returns-in-None
+returns-in-None g c = record {
+  len = grind (arith, common_steps);
+  value = grind (arith, common_steps);
+  count = fewer c.loop-i.items.items (omega arith) (record {
+    rest = c.loop-i.it;
+    given = c.loop-i.invariant.given;
+    none = c.in-None.ensures.gives;
+  });
+  unasked = grind (arith, common_steps);
+}
 
 pub loop-i-preserved : goal.loop-i-preserved
 loop-i-preserved g c = record {
@@ -19,5 +24,16 @@ loop-i-preserved g c = record {
   given = rw c.push_reserved.ensures.items (Yields-push g.I.Iterator.next_gives c.args.it.now c.loop-i.items.items c.loop-i.it c.in-Some.item c.next_of.new.it c.loop-i.invariant.given c.in-Some.ensures.gives);
 }
 
-pub returns-in-Some-next_of-clause-count : goal.returns-in-Some-next_of-clause-count
-returns-in-Some-next_of-clause-count g c = more _ c.in-Some-next_of.field-0 _ c.loop-i.invariant.given (omega arith) (search rules)
+pub returns-in-Some-next_of : goal.returns-in-Some-next_of
+returns-in-Some-next_of g c = record {
+  len = grind (arith, common_steps);
+  value = grind (arith, common_steps);
+  count = more _ c.in-Some-next_of.field-0 _ c.loop-i.invariant.given (omega arith) (search rules);
+  unasked = grind (arith, common_steps);
+}
+
+pub returns-in-Err : goal.returns-in-Err
+returns-in-Err g c = grind (arith, common_steps)
+
+pub returns-in-None-next_of : goal.returns-in-None-next_of
+returns-in-None-next_of g c = grind (arith, common_steps)

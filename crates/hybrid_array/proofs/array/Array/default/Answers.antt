@@ -15,3 +15,6 @@ loop-i-preserved g c = record {
   count = rw c.push_reserved.ensures.items (grind (arith, common_steps));
   made = rw c.push_reserved.ensures.items (grind (arith, common_steps));
 }
+
+pub returns : goal.returns
+returns g c = grind (arith, common_steps)

@@ -1,4 +1,5 @@
 use Rattle.std.proofs.Common.{◌≡◌, ◌/◌, ◌*◌, ◌≤◌, length, arith}
+use Rattle.std.proofs.lemmas.Grind.{common_steps}
 use Rattle.std.proofs.Math.Nat.{div-mul-le_self}
 use Rattle.hybrid_array.proofs.ChunkLemmas.{taken-whole}
 use Rattle.hybrid_array.proofs.array.Array.slice_as_chunks.Goals as goal
@@ -11,3 +12,6 @@ split_at-requires g c = rw (c.USIZE.ensures, c.USIZE-2.ensures) (div-mul-le_self
 
 pub invariant_of-chunks : goal.invariant_of-chunks
 invariant_of-chunks g c = rw (c.split_at.ensures.front, c.USIZE.ensures, c.USIZE-2.ensures) (taken-whole g.U.ArraySize.USIZE c.args.buf.now c.requires)
+
+pub returns : goal.returns
+returns g c = grind (arith, common_steps)
