@@ -286,7 +286,8 @@ fn takes_more(sink: &mut MemSink) -> bool {
 }
 
 // Whether a run over a sink in memory ends with 4 where the sink found no memory, with 6 where
-// Long replies to 200 lines of one piece don't wait for its end: the second write fails here.
+// something else found none, and with 0 where all had enough, and whether its ends go on
+// afterwards.
 fn ends_by_its_cause(alloc: Global) -> Result<bool, AllocError> {
     let mut source = QuietSource::new(b"a b\nc\n".to_vec(alloc)?);
     let mut sink = MemSink::new(alloc, Vec::new(alloc));
@@ -323,7 +324,8 @@ fn a_program_of_lines_takes_no_words(rt: HostRuntime) {
     shows(&rt, refuses(alloc, b"help") && refuses(alloc, b""));
 }
 
-// Long replies to 200 lines of one piece don't all wait for its end: the second write fails here.
+// Long replies to 200 lines of one piece don't all wait for its end: the second write fails
+// here.
 fn is_written_early(alloc: Global, lines: Vec<u8>, fails: Vec<u64>) -> bool {
     let mut source = QuietSource::new(lines);
     let mut sink = MemSink::new(alloc, fails);
