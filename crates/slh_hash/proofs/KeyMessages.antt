@@ -1,10 +1,12 @@
 -- The messages of T for key pairs side by side, and the public keys that it gives.
-use Rattle.std.proofs.Common.{◌≡◌, ℕ, ◌+◌, ◌-◌, ◌*◌, ◌<◌, ◌≤◌, ◌∙◌, List, [], ◌++◌, length, slice_index_or, take, drop, ap, sym, refl, arith, length-append}
+use Rattle.std.proofs.Common.{◌≡◌, ℕ, ◌+◌, ◌-◌, ◌*◌, ◌<◌, ◌≤◌, ◌∙◌, List, [], ◌++◌, length, slice_index_or, take, drop, ap, sym, refl, arith, replicate, length-append, length-take}
+use Rattle.std.proofs.lemmas.List.{length-replicate}
 use Rattle.std.proofs.lemmas.Nat.{mul-le}
 use Rattle.std.proofs.lemmas.Slice.{take-put_mid}
 use borrow.Rule.Slice.PartMut.{put_mid}
 use Rattle.slh_core.specs.Address.{address_bytes, compressed_address, wots_pk_type}
 use Rattle.slh_core.specs.Bytes.{joined, part}
+use Rattle.slh_core.specs.Parameters.{chain_count}
 use Rattle.slh_core.proofs.Joins.{joined_more, joined_same, length-joined_below, length-part, part-joined_below}
 use Rattle.slh_hash.proofs.Grouped.{joined_add}
 
@@ -59,6 +61,19 @@ module _ (n count : ℕ) (ends : List ℕ) (j t l : ℕ) where
       let row : take len (drop (k * len) rows) ≡ f k =
       ap (λ (m : ℕ). take m (drop (k * len) rows)) (sym next) ∙ ap (λ (xs : List ℕ). part len xs k) laid ∙ part-joined_below f len many k sizes low in
       ap (take n) (hashed k low ∙ ap (λ (x : List ℕ). digest (block ++ x)) row))
+
+-- the ends of a key pair's chains, and the front of a buffer
+pub ends_fit : (count m n : ℕ) → m ≡ n → n ≤ 32 → count ≤ 67 → count * m ≤ 2144
+ends_fit count m n same small few = omega (arith, mul-le count m 67 32 few (omega (arith, same, small)))
+
+pub eight_ends_fit : (count m n : ℕ) → m ≡ n → n ≤ 32 → count ≡ chain_count n → 8 * count * m ≤ 17152
+eight_ends_fit count m n same small all =
+    omega (arith, mul-le (8 * count) m 536 32 (omega (arith, all, small)) (omega (arith, same, small)))
+
+pub length-front : (k many : ℕ) → k ≤ many → length {A = ℕ} (take k (replicate many 0)) ≡ k
+length-front k many fits =
+    let zeros : List ℕ = replicate many 0 in
+    omega (arith, fits, length-take k zeros, length-replicate {A = ℕ} many 0)
 
 -- four and four are eight
 pub two_fours : (f g h : ℕ → List ℕ) (a b : List ℕ) → a ≡ joined g 4 → b ≡ joined h 4 → ((k : ℕ) → g k ≡ f k) → ((k : ℕ) → h k ≡ f (4 + k)) → a ++ b ≡ joined f 8

@@ -12,13 +12,13 @@ ghost use Rattle.slh_core.specs.Wots.{chain_value, value_or};
 ghost use Rattle.slh_hash.specs.Pairs.{IsRow, short_suite};
 ghost use Rattle.slh_hash.specs.Sha2.{seed_block, tweaked_hash_256};
 
+use crate::chain_ends::put_first_lanes;
 use crate::keyed::Sha2Keyed;
 use crate::messages::{MAX_MESSAGE_LEN, put_messages};
 use crate::rows_256::{ADDRESS_LEN, put_hashes};
 use hybrid_array::ArraySize;
 use sha256_lanes::{Begun, Eight, Heads};
 use slh_core::address::{Address, ForsTree, WotsHash};
-use slh_core::equal_parts::put_part;
 use slh_core::nbytes::NBytes;
 use slh_core::params::{MAX_CHAINS, MAX_ENDS_LEN};
 use slh_core::steps::Steps;
@@ -103,17 +103,12 @@ pub(crate) fn count_steps<L: Ledger>(count: usize, steps: &mut Steps<L>)
 }
 
 /// Writes the first `n` bytes of each value, one after the other.
-#[tactic(auto, unfolding(slh_core::specs::Bytes::joined))]
 pub(crate) fn put_lanes(values: &Eight, n: usize, out: &mut [u8])
     requires small { n ≤ 32 }
     requires room { length out.old ≡ 8 * n }
     ensures { out.new ≡ joined (λ k. take n (lane_bytes values.now k)) 8 }
 {
-    'each_lane: for k in 0..8 {
-        let mut value = [0u8; 32];
-        values.write_lane(k, &mut value[..n]);
-        put_part(out, n, k, &value[..n]);
-    }
+    put_first_lanes(values, 8, n, out);
 }
 
 // Takes chain `c` of eight key pairs from the secrets to the ends. The value of key pair number

@@ -1,9 +1,8 @@
-use Rattle.std.proofs.Common.{◌≡◌, ◌+◌, ◌∙◌, ℕ, List, ap, arith}
-use Rattle.std.proofs.lemmas.Nat.{mul-le}
+use Rattle.std.proofs.Common.{◌≡◌, ◌+◌, ◌*◌, ◌∙◌, ℕ, List, ap, arith, sym}
 use Rattle.sha256_lanes.specs.Sha256.{sha256}
 use Rattle.slh_core.proofs.Joins.{joined_same}
 use Rattle.slh_hash.specs.Sha2.{seed_block, tweaked_hash_256}
-use Rattle.slh_hash.proofs.KeyMessages.{ends_of, keys_hashed, pk_at}
+use Rattle.slh_hash.proofs.KeyMessages.{ends_fit, ends_of, keys_hashed, length-front, pk_at}
 use Rattle.slh_hash.proofs.pairs.keys_of_ends.Goals as goal
 
 pub returns-clause-keys : goal.returns-clause-keys
@@ -23,13 +22,28 @@ returns-clause-keys g c =
     ∙ joined_same (λ k. key (0 + k)) key 8 (λ k low. ap key (none k))
 
 pub overflow_mul-len : goal.overflow_mul-len
-overflow_mul-len g c = omega (arith, mul-le c.args.count c.USIZE-n.result 67 32 (omega (arith, c.requires.few)) (omega (arith, c.USIZE-n.ensures, c.requires.small)))
+overflow_mul-len g c = omega (arith, ends_fit c.args.count c.USIZE-n.result g.N.ArraySize.USIZE c.USIZE-n.ensures c.requires.small c.requires.few)
 
 pub overflow_add-len : goal.overflow_add-len
-overflow_add-len g c = omega (arith, mul-le c.args.count c.USIZE-n.result 67 32 (omega (arith, c.requires.few)) (omega (arith, c.USIZE-n.ensures, c.requires.small)))
+overflow_add-len g c = omega (arith, ends_fit c.args.count c.USIZE-n.result g.N.ArraySize.USIZE c.USIZE-n.ensures c.requires.small c.requires.few)
 
 pub overflow_mul-store : goal.overflow_mul-store
-overflow_mul-store g c = omega (arith, mul-le c.args.count c.USIZE-n.result 67 32 (omega (arith, c.requires.few)) (omega (arith, c.USIZE-n.ensures, c.requires.small)))
+overflow_mul-store g c = omega (arith, ends_fit c.args.count c.USIZE-n.result g.N.ArraySize.USIZE c.USIZE-n.ensures c.requires.small c.requires.few)
 
 pub slice_bounds-store-end : goal.slice_bounds-store-end
-slice_bounds-store-end g c = omega (arith, mul-le c.args.count c.USIZE-n.result 67 32 (omega (arith, c.requires.few)) (omega (arith, c.USIZE-n.ensures, c.requires.small)))
+slice_bounds-store-end g c = omega (arith, ends_fit c.args.count c.USIZE-n.result g.N.ArraySize.USIZE c.USIZE-n.ensures c.requires.small c.requires.few)
+
+pub slice_bounds-messages-end : goal.slice_bounds-messages-end
+slice_bounds-messages-end g c = sym (length-front (8 * (22 + c.args.count * c.USIZE-n.result)) 17328 (omega (arith, ends_fit c.args.count c.USIZE-n.result g.N.ArraySize.USIZE c.USIZE-n.ensures c.requires.small c.requires.few)))
+
+pub put_messages-requires-clause-whole : goal.put_messages-requires-clause-whole
+put_messages-requires-clause-whole g c = c.requires.whole ∙ ap (λ q. 8 * c.args.count * q) (sym c.USIZE-n.ensures)
+
+pub put_messages-requires-clause-room : goal.put_messages-requires-clause-room
+put_messages-requires-clause-room g c = length-front (8 * (22 + c.args.count * c.USIZE-n.result)) 17328 (omega (arith, ends_fit c.args.count c.USIZE-n.result g.N.ArraySize.USIZE c.USIZE-n.ensures c.requires.small c.requires.few))
+
+pub finalize_rows-digests-requires : goal.finalize_rows-digests-requires
+finalize_rows-digests-requires g c = record {
+  short = omega (arith, ends_fit c.args.count c.USIZE-n.result g.N.ArraySize.USIZE c.USIZE-n.ensures c.requires.small c.requires.few);
+  whole = c.put_messages.auto.out ∙ length-front (8 * (22 + c.args.count * c.USIZE-n.result)) 17328 (omega (arith, ends_fit c.args.count c.USIZE-n.result g.N.ArraySize.USIZE c.USIZE-n.ensures c.requires.small c.requires.few));
+}

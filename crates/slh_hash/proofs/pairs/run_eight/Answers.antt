@@ -1,9 +1,10 @@
-use Rattle.std.proofs.Common.{◌≡◌, ℕ, ◌+◌, ◌*◌, ◌∙◌, List, length, nat_lt, slice_index, if◌then◌else◌, ap, arith, refl, sym, take}
-use Rattle.std.proofs.lemmas.List.{take_all}
+use Rattle.std.proofs.Common.{◌≡◌, ℕ, ◌+◌, ◌-◌, ◌*◌, ◌/◌, ◌%◌, ◌≤◌, ◌∙◌, List, length, nat_lt, slice_index, if◌then◌else◌, ap, arith, refl, sym, take}
+use Rattle.std.proofs.lemmas.Nat.{mul-le}
 use Rattle.sha256_lanes.specs.Eight.{lane_bytes}
 use Rattle.slh_core.specs.Wots.{chain_value, value_or}
 use Rattle.slh_core.proofs.Joins.{part_later}
 use Rattle.slh_hash.specs.Pairs.{short_suite}
+use Rattle.slh_hash.proofs.Grouped.{group_within, groups_done, length-parts}
 use Rattle.slh_hash.proofs.PairRows.{ends_put, none_put, part_put}
 use Rattle.slh_hash.proofs.pairs.run_eight.Goals as goal
 
@@ -53,11 +54,50 @@ loop-c-preserved g c =
       cost = omega (arith, c.count_steps.ensures, i.cost);
     }
 
-pub returns-clause-ends : goal.returns-clause-ends
-returns-clause-ends g c =
+pub slice_bounds-place-end : goal.slice_bounds-place-end
+slice_bounds-place-end g c =
+    group_within g.N.ArraySize.USIZE c.USIZE-n.result (c.loop-c.c + 1) (length c.args.digits.now) (length c.loop-c.sig) c.USIZE-n.ensures (omega (arith, c.loop-c-test.true)) (c.loop-c.auto.sig ∙ c.requires.whole)
+
+pub overflow_mul-c-in-loop-c : goal.overflow_mul-c-in-loop-c
+overflow_mul-c-in-loop-c g c =
+    omega (arith, mul-le (8 * c.loop-c.c) c.USIZE-n.result 536 32 (omega (arith, c.loop-c-test.true, c.requires.few)) (omega (arith, c.USIZE-n.ensures, c.args.keyed.now.small)))
+
+pub overflow_mul-c-in-loop-c-3 : goal.overflow_mul-c-in-loop-c-3
+overflow_mul-c-in-loop-c-3 g c =
+    omega (arith, mul-le (8 * c.loop-c.c + 8) c.USIZE-n.result 536 32 (omega (arith, c.loop-c-test.true, c.requires.few)) (omega (arith, c.USIZE-n.ensures, c.args.keyed.now.small)))
+
+pub slice_bounds-put_lanes-end : goal.slice_bounds-put_lanes-end
+slice_bounds-put_lanes-end g c =
+    group_within g.N.ArraySize.USIZE c.USIZE-n.result (8 * c.loop-c.c + 8) (8 * length c.args.digits.now) (length c.loop-c.ends) c.USIZE-n.ensures (omega (arith, c.loop-c-test.true)) (c.loop-c.auto.ends ∙ c.requires.room)
+
+pub put_lanes-requires : goal.put_lanes-requires
+put_lanes-requires g c =
     let m = c.USIZE-n.result in
+    let x = c.loop-c.c in
+    let eight : 8 * x + 8 - 8 * x ≡ 8 = omega arith in
+    record {
+      small = omega (arith, c.USIZE-n.ensures, c.args.keyed.now.small);
+      room = length-parts m (8 * x) (8 * x + 8) c.loop-c.ends (omega arith)
+          (group_within g.N.ArraySize.USIZE m (8 * x + 8) (8 * length c.args.digits.now) (length c.loop-c.ends) c.USIZE-n.ensures (omega (arith, c.loop-c-test.true)) (c.loop-c.auto.ends ∙ c.requires.room))
+          ∙ ap (λ q. q * m) eight;
+    }
+
+pub returns : goal.returns
+returns g c =
+    let n = g.N.ArraySize.USIZE in
+    let m = c.USIZE-n.result in
+    let same = c.USIZE-n.ensures in
+    let K = short_suite n c.args.keyed.now.pk_seed in
+    let a = c.args.adrs.now in
+    let sk = c.args.sk_seed.now in
     let len = length c.args.digits.now in
-    let last : c.loop-c.c ≡ len = omega (arith, c.loop-c-test.false, c.loop-c.auto.c-end) in
-    let same : m ≡ g.N.ArraySize.USIZE = c.USIZE-n.ensures in
-    let whole : length c.loop-c.ends ≡ 8 * len * m = c.loop-c.auto.ends ∙ rw same c.requires.room in
-    sym (take_all (8 * len * m) c.loop-c.ends (omega arith)) ∙ (rw last at c.loop-c.invariant.ends)
+    let x = c.loop-c.c in
+    let low : x ≤ len = omega (arith, c.loop-c.auto.c-end) in
+    let end : ℕ → List ℕ = λ i. chain_value K sk a.layer_adrs a.tree_adrs_low (a.key_pair_adrs + i % 8) (i / 8) 15 in
+    record {
+      values = groups_done (value_or K sk a.layer_adrs a.tree_adrs_low (a.key_pair_adrs + c.args.signer) c.args.sig.now c.args.digits.now) m x len c.loop-c.sig c.loop-c.invariant.values low c.loop-c-test.false
+          (c.loop-c.auto.sig ∙ c.requires.whole ∙ ap (λ q. len * q) (sym same));
+      ends = groups_done end m (8 * x) (8 * len) c.loop-c.ends c.loop-c.invariant.ends (omega (arith, low)) (omega (arith, c.loop-c-test.false))
+          (c.loop-c.auto.ends ∙ c.requires.room ∙ ap (λ q. 8 * len * q) (sym same));
+      cost = omega (arith, low, c.loop-c-test.false, c.loop-c.invariant.cost);
+    }

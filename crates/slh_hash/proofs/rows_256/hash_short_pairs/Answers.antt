@@ -1,4 +1,4 @@
-use Rattle.std.proofs.Common.{◌≤◌, ◌-◌, ◌*◌, ◌∙◌, length, slice_index, ap, arith, lit<, refl, sym}
+use Rattle.std.proofs.Common.{◌≤◌, ◌*◌, ◌∙◌, length, slice_index, ap, arith, refl, sym}
 use Rattle.slh_core.specs.Bytes.{joined, part}
 use Rattle.slh_hash.specs.Sha2.{tweaked_hash_256}
 use Rattle.slh_hash.proofs.Grouped.{group_done_256, group_within, groups_done, length-cut, none_done}
@@ -11,12 +11,6 @@ loop-done-init g c = record { hashes = none_done g.N.ArraySize.USIZE c.args.out.
 pub digests_of-digests-requires-clause-whole : goal.digests_of-digests-requires-clause-whole
 digests_of-digests-requires-clause-whole g c =
     c.parts_between-inputs.ensures.len ∙ ap (λ q. q * (2 * c.USIZE-width.result)) (sym (length-cut c.args.numbers.now c.loop-done.done c.min-end.result (omega (arith, c.min-end.ensures)) (omega (arith, c.min-end.ensures))))
-
-pub put_hashes_between-requires : goal.put_hashes_between-requires
-put_hashes_between-requires g c =
-    let low : c.loop-done.done ≤ c.min-end.result = omega (arith, c.min-end.ensures) in
-    let few : c.min-end.result - c.loop-done.done ≤ 8 = omega (arith, c.min-end.ensures) in
-    (lit< tt, (lit< tt, (c.args.keyed.now.small, (low, (few, group_within g.N.ArraySize.USIZE g.N.ArraySize.USIZE c.min-end.result (length c.args.numbers.now) (length c.loop-done.out) refl (omega (arith, c.min-end.ensures)) (c.loop-done.auto.out ∙ c.requires.room))))))
 
 pub loop-done-preserved : goal.loop-done-preserved
 loop-done-preserved g c =
@@ -32,3 +26,9 @@ loop-done-preserved g c =
 pub returns-clause-value : goal.returns-clause-value
 returns-clause-value g c =
     groups_done (λ k. tweaked_hash_256 g.N.ArraySize.USIZE c.args.keyed.now.pk_seed (g.A.RowAddress.numbered c.args.adrs.now (slice_index c.args.numbers.now k)) (part (2 * g.N.ArraySize.USIZE) c.args.pairs.now k)) g.N.ArraySize.USIZE c.loop-done.done (length c.args.numbers.now) c.loop-done.out c.loop-done.invariant.hashes c.loop-done.invariant.within c.loop-done-test.false (c.loop-done.auto.out ∙ c.requires.room)
+
+pub parts_between-inputs-requires : goal.parts_between-inputs-requires
+parts_between-inputs-requires g c = record {
+  order = omega (arith, c.min-end.ensures, c.loop-done-test.true);
+  inside = group_within (2 * g.N.ArraySize.USIZE) (2 * c.USIZE-width.result) c.min-end.result (length c.args.numbers.now) (length c.args.pairs.now) (ap (λ q. 2 * q) c.USIZE-width.ensures) (omega (arith, c.min-end.ensures)) c.requires.pairs;
+}

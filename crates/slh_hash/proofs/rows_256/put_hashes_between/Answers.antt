@@ -6,15 +6,15 @@ pub put_hashes-requires : goal.put_hashes-requires
 put_hashes-requires g c =
     (search rules, (search rules, (c.requires.small, (c.requires.few, length-between c.USIZE-n.result g.N.ArraySize.USIZE c.args.done c.args.end c.args.out.now c.USIZE-n.ensures c.requires.order c.requires.room))))
 
-pub returns-clause-front : goal.returns-clause-front
-returns-clause-front g c =
+pub returns : goal.returns
+returns g c =
     let n = g.N.ArraySize.USIZE in
-    let size = c.put_hashes.auto.out ∙ length-between c.USIZE-n.result n c.args.done c.args.end c.args.out.now c.USIZE-n.ensures c.requires.order c.requires.room in
-    put_between c.USIZE-n.result n c.args.done c.args.end c.args.out.now c.put_hashes.new.out c.USIZE-n.ensures c.requires.order c.requires.room size
-    ∙ ap (λ (xs : List ℕ). take (c.args.done * n) c.args.out.now ++ xs) c.put_hashes.ensures.value
-
-pub returns-clause-rest : goal.returns-clause-rest
-returns-clause-rest g c =
-    let n = g.N.ArraySize.USIZE in
-    let size = c.put_hashes.auto.out ∙ length-between c.USIZE-n.result n c.args.done c.args.end c.args.out.now c.USIZE-n.ensures c.requires.order c.requires.room in
-    kept_behind c.USIZE-n.result n c.args.done c.args.end c.args.out.now c.put_hashes.new.out c.USIZE-n.ensures c.requires.order c.requires.room size
+    let m = c.USIZE-n.result in
+    let same = c.USIZE-n.ensures in
+    let size = c.put_hashes.auto.out ∙ length-between m n c.args.done c.args.end c.args.out.now same c.requires.order c.requires.room in
+    record {
+      front = put_between m n c.args.done c.args.end c.args.out.now c.put_hashes.new.out same c.requires.order c.requires.room size
+          ∙ ap (λ (xs : List ℕ). take (c.args.done * n) c.args.out.now ++ xs) c.put_hashes.ensures.value;
+      rest = kept_behind m n c.args.done c.args.end c.args.out.now c.put_hashes.new.out same c.requires.order c.requires.room size;
+      step = c.put_hashes.ensures.step;
+    }

@@ -1,8 +1,8 @@
-use Rattle.std.proofs.Common.{◌*◌, arith, length, refl}
-use Rattle.std.proofs.lemmas.Nat.{mul-le}
+use Rattle.std.proofs.Common.{◌*◌, ◌∙◌, ap, arith, length, refl, sym}
 use Rattle.slh_core.specs.Suite.{seeded}
 use Rattle.slh_hash.specs.Lengths.{sha2_category_3_5_lengths}
 use Rattle.slh_hash.specs.Sha2.{sha2_category_3_5}
+use Rattle.slh_hash.proofs.KeyMessages.{eight_ends_fit, length-front}
 use Rattle.slh_hash.proofs.PairRows.{keys_same, left_same}
 use Rattle.slh_hash.proofs.sha2_l35.Sha2L35HashSuite.pairs_eight.Goals as goal
 
@@ -28,7 +28,19 @@ returns-clause-values g c =
     (length c.args.digits.now) c.args.sig.now c.args.digits.now c.run_eight.new.sig c.run_eight.ensures.values
 
 pub overflow_mul-store-2 : goal.overflow_mul-store-2
-overflow_mul-store-2 g c = omega (arith, mul-le (8 * length c.args.digits.now) c.USIZE.result (8 * 67) 32 (omega arith) (omega (arith, c.USIZE.ensures)))
+overflow_mul-store-2 g c = omega (arith, eight_ends_fit (length c.args.digits.now) c.USIZE.result g.N.ArraySize.USIZE c.USIZE.ensures c.requires.small c.requires.count)
+
+pub overflow_mul-store : goal.overflow_mul-store
+overflow_mul-store g c = omega arith
 
 pub slice_bounds-store-end : goal.slice_bounds-store-end
-slice_bounds-store-end g c = omega (arith, mul-le (8 * length c.args.digits.now) c.USIZE.result (8 * 67) 32 (omega arith) (omega (arith, c.USIZE.ensures)))
+slice_bounds-store-end g c = omega (arith, eight_ends_fit (length c.args.digits.now) c.USIZE.result g.N.ArraySize.USIZE c.USIZE.ensures c.requires.small c.requires.count)
+
+pub slice_bounds-ends-end : goal.slice_bounds-ends-end
+slice_bounds-ends-end g c = sym (length-front (8 * length c.args.digits.now * c.USIZE.result) 17152 (omega (arith, eight_ends_fit (length c.args.digits.now) c.USIZE.result g.N.ArraySize.USIZE c.USIZE.ensures c.requires.small c.requires.count)))
+
+pub run_eight-requires-clause-room : goal.run_eight-requires-clause-room
+run_eight-requires-clause-room g c = length-front (8 * length c.args.digits.now * c.USIZE.result) 17152 (omega (arith, eight_ends_fit (length c.args.digits.now) c.USIZE.result g.N.ArraySize.USIZE c.USIZE.ensures c.requires.small c.requires.count)) ∙ ap (λ q. 8 * length c.args.digits.now * q) c.USIZE.ensures
+
+pub keys_of_ends_512-requires-clause-whole : goal.keys_of_ends_512-requires-clause-whole
+keys_of_ends_512-requires-clause-whole g c = c.run_eight.auto.ends ∙ length-front (8 * length c.args.digits.now * c.USIZE.result) 17152 (omega (arith, eight_ends_fit (length c.args.digits.now) c.USIZE.result g.N.ArraySize.USIZE c.USIZE.ensures c.requires.small c.requires.count)) ∙ ap (λ q. 8 * length c.args.digits.now * q) c.USIZE.ensures
