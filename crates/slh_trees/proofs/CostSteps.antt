@@ -48,3 +48,7 @@ rows_cost s a b x count whole = rw whole (omega arith)
 -- all leaves of a tree, and a step for each node above them
 pub node_cost-leaves : (s leaf z made hashed : ℕ) → made ≡ s + 2 ^ z * leaf → hashed + 1 ≡ made + 2 ^ z → hashed ≡ s + node_cost leaf z
 node_cost-leaves s leaf z made hashed first above = omega (arith, node_cost-whole leaf z, first, above)
+
+-- a hash of each tree, and one at each of its heights
+pub trees_climbed : (k a : ℕ) → k + a * k ≡ k * (1 + a)
+trees_climbed k a = grind arith

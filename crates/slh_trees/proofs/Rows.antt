@@ -1,7 +1,7 @@
 -- Rows of leaves, and rows of the nodes above them.
-use Rattle.std.proofs.Common.{◌≡◌, ℕ, zero, suc, ◌+◌, ◌*◌, ◌/◌, ◌^◌, ◌<◌, ◌≤◌, List, [], ◌++◌, length, take, drop, arith, ap, sym, refl, ◌∙◌, add-one, add-suc, add-zero, append_assoc}
+use Rattle.std.proofs.Common.{◌≡◌, ℕ, zero, suc, ◌+◌, ◌-◌, ◌*◌, ◌/◌, ◌^◌, ◌<◌, ◌≤◌, List, [], ◌++◌, length, take, drop, arith, ap, sym, refl, ◌∙◌, add-one, add-suc, add-zero, append_assoc}
 use Rattle.std.proofs.lemmas.List.{append-nil, take_all}
-use Rattle.std.proofs.lemmas.List.{take-append-drop, length-take-le}
+use Rattle.std.proofs.lemmas.List.{length-drop, length-take, take-append-drop, length-take-le}
 use Rattle.std.proofs.lemmas.Nat.{mul-le}
 use Rattle.slh_core.specs.Bytes.{joined, part}
 use Rattle.slh_core.proofs.Joins.{joined_same, range_left}
@@ -70,3 +70,8 @@ eights_few g groups n few below small =
 
 pub in_eights : (count q r n : ℕ) → count ≡ 8 * q + r → count * n ≡ q * (8 * n) + r * n
 in_eights count q r n parts = rw parts (omega arith)
+
+-- the bytes between two places of a list
+pub length-cut : (a b size : ℕ) (xs : List ℕ) → b ≡ a + size → b ≤ length xs → length (take (b - a) (drop a xs)) ≡ size
+length-cut a b size xs next fits =
+    omega (arith, length-take {A = ℕ}, length-drop {A = ℕ})

@@ -15,9 +15,22 @@ slice_bounds-put_part-end g c =
     let room : n ≤ length opened = rw (c.piece-opened.ensures.len, c.opened_len-size.ensures.value, c.USIZE-n.ensures) (omega arith) in
     sym (length-take-le n opened room)
 
-pub put_part-requires-clause-fits : goal.put_part-requires-clause-fits
-put_part-requires-clause-fits g c =
-    part_fits c.loop-i.i g.P.ForsParams.K c.USIZE-n.result _ (omega arith) (rw c.USIZE-n.ensures (omega (arith, c.requires.room)))
+pub put_part-requires : goal.put_part-requires
+put_part-requires g c =
+    let n = c.USIZE-n.result in
+    let opened = c.piece-opened.result.now in
+    let room : n ≤ length opened = rw (c.piece-opened.ensures.len, c.opened_len-size.ensures.value, c.USIZE-n.ensures) (omega arith) in
+    record {
+      fits = part_fits c.loop-i.i g.P.ForsParams.K n _ (omega arith) (rw c.USIZE-n.ensures (omega (arith, c.requires.room)));
+      len = length-take-le n opened room;
+    }
+
+pub loop-i-init : goal.loop-i-init
+loop-i-init g c = λ k below. absurd (omega (arith, below))
+
+pub returns : goal.returns
+returns g c = λ k low.
+    (rw (c.USIZE-n.ensures, c.opened_len-size.ensures.value) at (c.loop-i.invariant k (omega (arith, low))))
 
 pub loop-i-preserved : goal.loop-i-preserved
 loop-i-preserved g c =

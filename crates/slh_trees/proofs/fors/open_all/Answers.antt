@@ -1,5 +1,4 @@
-use Rattle.std.proofs.Common.{ℕ, rules, arith, ◌≡◌, ◌∙◌, ◌+◌, ◌-◌, ◌*◌, ◌<◌, ◌≤◌, ◌++◌, length, refl}
-use Rattle.std.proofs.lemmas.List.{length-drop, length-take}
+use Rattle.std.proofs.Common.{rules, arith, ◌≡◌, ◌∙◌, ◌+◌, ◌-◌, ◌*◌, ◌<◌, ◌≤◌, ◌++◌, length, refl}
 use Rattle.std.proofs.lemmas.Nat.{mul-le}
 use Rattle.std.proofs.lemmas.Slice.{take-put_mid}
 use Rattle.slh_core.specs.Bytes.{joined}
@@ -8,7 +7,7 @@ use Rattle.slh_trees.specs.Fors.{fors_opened, opened_leaves}
 use Rattle.slh_core.specs.Costs.{auth_path_cost, fors_leaf_cost}
 use Rattle.slh_trees.proofs.CostSteps.{one_more}
 use Rattle.slh_trees.proofs.Layers.{part_fits}
-use Rattle.slh_trees.proofs.Rows.{none_joined, whole_front}
+use Rattle.slh_trees.proofs.Rows.{length-cut, none_joined, whole_front}
 use Rattle.slh_trees.proofs.fors.open_all.Goals as goal
 
 pub overflow_mul-opened : goal.overflow_mul-opened
@@ -34,12 +33,16 @@ slice_bounds-opened-end g c =
     let whole : length c.args.out.now ≡ g.P.ForsParams.K * c.opened_len-size.result = rw c.opened_len-size.ensures.value c.requires.room in
     part_fits c.loop-i.i g.P.ForsParams.K c.opened_len-size.result _ (omega arith) (c.loop-i.auto.out ∙ whole)
 
+pub open_secret-requires-clause-leaf : goal.open_secret-requires-clause-leaf
+open_secret-requires-clause-leaf g c = c.index_of-y.ensures.below
+
 pub open_secret-requires-clause-room : goal.open_secret-requires-clause-room
 open_secret-requires-clause-room g c =
+    let at = c.loop-i.i in
     let size = c.opened_len-size.result in
     let whole : length c.args.out.now ≡ g.P.ForsParams.K * size = rw c.opened_len-size.ensures.value c.requires.room in
-    let fits = part_fits c.loop-i.i g.P.ForsParams.K size _ (omega arith) whole in
-    rw (← c.opened_len-size.ensures.value) (omega (arith, fits, length-take {A = ℕ}, length-drop {A = ℕ}))
+    let next : (at + 1) * size ≡ at * size + size = omega arith in
+    length-cut (at * size) ((at + 1) * size) size c.loop-i.out next (part_fits at g.P.ForsParams.K size _ (omega arith) (c.loop-i.auto.out ∙ whole)) ∙ c.opened_len-size.ensures.value
 
 pub loop-i-preserved : goal.loop-i-preserved
 unfolding fors_opened
@@ -57,11 +60,20 @@ loop-i-preserved g c =
       cost = omega (arith, one_more c.loop-i.i (1 + auth_path_cost fors_leaf_cost g.P.ForsParams.A), i.cost, c.open_secret.ensures.cost);
     }
 
-pub returns-clause-value : goal.returns-clause-value
+pub returns : goal.returns
 unfolding opened_leaves
-returns-clause-value g c =
+returns g c =
     let k = g.P.ForsParams.K in
     let size = c.opened_len-size.result in
     let last : c.loop-i.i ≡ k = omega arith in
     let whole : length c.loop-i.out ≡ k * size = rw c.opened_len-size.ensures.value (c.loop-i.auto.out ∙ c.requires.room) in
-    rw last at (whole_front size k c.loop-i.i c.loop-i.out _ last whole c.loop-i.invariant.values)
+    record {
+      value = rw last at (whole_front size k c.loop-i.i c.loop-i.out _ last whole c.loop-i.invariant.values);
+      cost = rw last at c.loop-i.invariant.cost;
+    }
+
+pub index_of-y-requires-clause-tree : goal.index_of-y-requires-clause-tree
+index_of-y-requires-clause-tree g c = omega arith
+
+pub index_of-y-requires-clause-digit : goal.index_of-y-requires-clause-digit
+index_of-y-requires-clause-digit g c = c.requires.below c.loop-i.i c.loop-i-test.true

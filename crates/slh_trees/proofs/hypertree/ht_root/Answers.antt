@@ -21,9 +21,20 @@ pub piece-layer-requires : goal.piece-layer-requires
 piece-layer-requires g c =
     part_fits c.loop-j.j g.P.HypertreeParams.D c.layer_len-size.result _ (omega arith) (rw c.layer_len-size.ensures.value c.requires.whole)
 
+pub xmss_pk_from_sig-message-requires-clause-idx : goal.xmss_pk_from_sig-message-requires-clause-idx
+xmss_pk_from_sig-message-requires-clause-idx g c = c.loop-j.invariant.below
+
 pub xmss_pk_from_sig-message-requires-clause-whole : goal.xmss_pk_from_sig-message-requires-clause-whole
-xmss_pk_from_sig-message-requires-clause-whole g c =
-    rw (c.piece-layer.ensures.len, c.layer_len-size.ensures.value, c.layer_sizes.ensures.signature_len) refl
+xmss_pk_from_sig-message-requires-clause-whole g c = rw (c.piece-layer.ensures.len, c.layer_len-size.ensures.value, c.layer_sizes.ensures.signature_len) refl
+
+pub returns : goal.returns
+returns g c =
+    let last : c.loop-j.j ≡ g.P.HypertreeParams.D = omega arith in
+    record {
+      value = rw last at c.loop-j.invariant.message;
+      bound = rw last at c.loop-j.invariant.cost;
+      rises = c.loop-j.invariant.rises;
+    }
 
 pub loop-j-preserved : goal.loop-j-preserved
 loop-j-preserved g c =

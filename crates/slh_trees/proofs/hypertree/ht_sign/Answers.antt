@@ -1,5 +1,4 @@
-use Rattle.std.proofs.Common.{ℕ, rules, arith, ◌≡◌, ◌∙◌, ◌+◌, ◌-◌, ◌*◌, ◌<◌, ◌≤◌, [], length, refl}
-use Rattle.std.proofs.lemmas.List.{length-drop, length-take}
+use Rattle.std.proofs.Common.{rules, arith, ◌≡◌, ◌∙◌, ◌+◌, ◌-◌, ◌*◌, ◌<◌, ◌≤◌, [], length, refl}
 use Rattle.std.proofs.lemmas.Nat.{mul-le}
 use Rattle.std.proofs.lemmas.Slice.{take-put_mid}
 use Rattle.slh_core.specs.Bytes.{joined}
@@ -8,7 +7,7 @@ use Rattle.slh_trees.specs.Hypertree.{ht_sig, layer_signature}
 use Rattle.slh_core.specs.Costs.{xmss_node_cost}
 use Rattle.slh_trees.proofs.CostSteps.{one_more}
 use Rattle.slh_trees.proofs.Layers.{tree_at-zero, tree_at-more, leaf_at-more, layer_message-more, part_fits}
-use Rattle.slh_trees.proofs.Rows.{whole_front}
+use Rattle.slh_trees.proofs.Rows.{length-cut, whole_front}
 use Rattle.slh_trees.proofs.hypertree.ht_sign.Goals as goal
 
 pub loop-j-init : goal.loop-j-init
@@ -41,13 +40,17 @@ slice_bounds-layer-end g c =
     let whole : length c.args.out.now ≡ g.P.HypertreeParams.D * c.layer_len-size.result = rw c.layer_len-size.ensures.value c.requires.room in
     part_fits c.loop-j.j g.P.HypertreeParams.D c.layer_len-size.result _ (omega arith) (c.loop-j.auto.out ∙ whole)
 
+pub xmss_sign_root-message-requires-clause-idx : goal.xmss_sign_root-message-requires-clause-idx
+xmss_sign_root-message-requires-clause-idx g c = c.loop-j.invariant.below
+
 pub xmss_sign_root-message-requires-clause-room : goal.xmss_sign_root-message-requires-clause-room
 xmss_sign_root-message-requires-clause-room g c =
+    let at = c.loop-j.j in
     let size = c.layer_len-size.result in
     let whole : length c.args.out.now ≡ g.P.HypertreeParams.D * size = rw c.layer_len-size.ensures.value c.requires.room in
-    let fits = part_fits c.loop-j.j g.P.HypertreeParams.D size _ (omega arith) whole in
+    let next : (at + 1) * size ≡ at * size + size = omega arith in
     let each : size ≡ (g.P.WotsParams.WOTS_SIG_LEN + g.P.XmssParams.H_PRIME) * g.P.N.ArraySize.USIZE = rw (c.layer_len-size.ensures.value, c.layer_sizes.ensures.signature_len) refl in
-    rw (← each) (omega (arith, fits, length-take {A = ℕ}, length-drop {A = ℕ}))
+    length-cut (at * size) ((at + 1) * size) size c.loop-j.out next (part_fits at g.P.HypertreeParams.D size _ (omega arith) (c.loop-j.auto.out ∙ whole)) ∙ each
 
 pub loop-j-preserved : goal.loop-j-preserved
 unfolding layer_signature
@@ -68,11 +71,14 @@ loop-j-preserved g c =
       cost = omega (arith, one_more c.loop-j.j (xmss_node_cost g.P.WotsParams.WOTS_SIG_LEN hp), i.cost, c.xmss_sign_root-message.ensures.cost);
     }
 
-pub returns-clause-value : goal.returns-clause-value
+pub returns : goal.returns
 unfolding ht_sig
-returns-clause-value g c =
+returns g c =
     let d = g.P.HypertreeParams.D in
     let size = c.layer_len-size.result in
     let last : c.loop-j.j ≡ d = omega arith in
     let whole : length c.loop-j.out ≡ d * size = rw c.layer_len-size.ensures.value (c.loop-j.auto.out ∙ c.requires.room) in
-    rw last at (whole_front size d c.loop-j.j c.loop-j.out _ last whole c.loop-j.invariant.values)
+    record {
+      value = rw last at (whole_front size d c.loop-j.j c.loop-j.out _ last whole c.loop-j.invariant.values);
+      cost = rw last at c.loop-j.invariant.cost;
+    }

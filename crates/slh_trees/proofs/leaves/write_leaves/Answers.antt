@@ -10,6 +10,12 @@ pub split_at_mut-eights-requires : goal.split_at_mut-eights-requires
 split_at_mut-eights-requires g c =
     rw (c.requires.room, c.USIZE.ensures) (eights_fit c.args.count g.P.N.ArraySize.USIZE)
 
+pub write_rest-requires-clause-few : goal.write_rest-requires-clause-few
+write_rest-requires-clause-few g c = omega arith
+
+pub write_rest-requires-clause-inside : goal.write_rest-requires-clause-inside
+write_rest-requires-clause-inside g c = omega (arith, c.requires.inside)
+
 pub write_rest-requires-clause-room : goal.write_rest-requires-clause-room
 write_rest-requires-clause-room g c =
     let n = g.P.N.ArraySize.USIZE in
@@ -17,13 +23,8 @@ write_rest-requires-clause-room g c =
     let all = in_eights c.args.count (c.args.count / 8) (c.args.count % 8) n (omega arith) in
     omega (arith, back, all, c.requires.room)
 
-pub returns-clause-cost : goal.returns-clause-cost
-returns-clause-cost g c =
-    let count = c.args.count in
-    c.write_rest.ensures.cost ∙ rw c.write_eights.ensures.cost (rows_cost c.args.steps.now (8 * (count / 8)) (count % 8) g.A.Leaves.leaf_cost count (omega arith))
-
-pub returns-clause-each : goal.returns-clause-each
-returns-clause-each g c = λ k below.
+pub returns : goal.returns
+returns g c =
     let K = g.P.HashSuite.keyed_suite c.args.keyed.now in
     let n = g.P.N.ArraySize.USIZE in
     let same = g.met.P.HashSuite.keyed_suite_is c.args.keyed.now in
@@ -34,5 +35,8 @@ returns-clause-each g c = λ k below.
     let sk = c.args.sk_seed.now in
     let at = c.args.adrs.now in
     let leaf = g.A.Leaves.leaf K sk at in
-    ap (λ xs. part n xs k) (rw (c.write_eights.ensures.leaves, c.write_rest.ensures.leaves) (rows_joined leaf first (8 * (count / 8)) (count % 8) count (omega arith)))
-    ∙ part-joined (λ q. leaf (first + q)) n count k (λ q. g.met.A.Leaves.leaf_length K sk at (first + q) law ∙ size) below
+    record {
+      each = λ k below. ap (λ xs. part n xs k) (rw (c.write_eights.ensures.leaves, c.write_rest.ensures.leaves) (rows_joined leaf first (8 * (count / 8)) (count % 8) count (omega arith)))
+          ∙ part-joined (λ q. leaf (first + q)) n count k (λ q. g.met.A.Leaves.leaf_length K sk at (first + q) law ∙ size) below;
+      cost = c.write_rest.ensures.cost ∙ rw c.write_eights.ensures.cost (rows_cost c.args.steps.now (8 * (count / 8)) (count % 8) g.A.Leaves.leaf_cost count (omega arith));
+    }

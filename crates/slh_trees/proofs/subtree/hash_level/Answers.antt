@@ -6,6 +6,9 @@ use Rattle.slh_core.proofs.Joins.{length-joined, part-joined}
 use Rattle.slh_trees.proofs.Rows.{part_front, part_of_front}
 use Rattle.slh_trees.proofs.subtree.hash_level.Goals as goal
 
+pub h_each-requires-clause-small : goal.h_each-requires-clause-small
+h_each-requires-clause-small g c = c.chain_sizes.ensures.n_high
+
 pub h_each-requires-clause-pairs : goal.h_each-requires-clause-pairs
 h_each-requires-clause-pairs g c =
     let few : length c.number_from.new.numbers ≡ c.args.count = search rules in

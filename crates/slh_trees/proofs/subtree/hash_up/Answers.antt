@@ -46,11 +46,14 @@ loop-h-preserved g c =
       cost = omega (arith, i.cost, even, c.hash_level.ensures.cost);
     }
 
-pub returns-clause-node : goal.returns-clause-node
-returns-clause-node g c = λ leaves given.
+pub returns : goal.returns
+returns g c =
     let i = c.loop-h.invariant in
     let last : c.loop-h.h ≡ c.args.z = omega arith in
     let none : c.args.z - c.loop-h.h ≡ 0 = omega (arith, last) in
     let one : c.loop-h.count ≡ 1 = rw (i.count, none) refl in
     let self : c.args.i * c.loop-h.count + 0 ≡ c.args.i = rw one (omega arith) in
-    i.values leaves given 0 (omega (arith, one)) ∙ rw (self, last) refl
+    record {
+      node = λ leaves given. i.values leaves given 0 (omega (arith, one)) ∙ rw (self, last) refl;
+      cost = rw one at i.cost;
+    }

@@ -22,6 +22,9 @@ loop-h-init g c =
       cost = omega (arith, c.row_len-count.ensures.value);
     }
 
+pub part_of-beside-requires-clause-small : goal.part_of-beside-requires-clause-small
+part_of-beside-requires-clause-small g c = c.chain_sizes.ensures.n_high
+
 pub part_of-beside-requires-clause-fits : goal.part_of-beside-requires-clause-fits
 part_of-beside-requires-clause-fits g c =
     let i = c.loop-h.invariant in
@@ -30,6 +33,16 @@ part_of-beside-requires-clause-fits g c =
     let less : b < 1 * 2 ^ (c.args.z - c.loop-h.h) = rw c.sibling.ensures (sibling_below_of c.args.y c.loop-h.h c.args.z 1 (omega arith) (omega (arith, c.requires.leaf))) in
     let inside : (b + 1) * n ≤ 2 ^ c.args.z * n = mul-le (b + 1) n (2 ^ c.args.z) n (omega (arith, less, i.count, i.few)) (omega arith) in
     omega (arith, inside, i.room, c.requires.room)
+
+pub hash_level-requires-clause-few : goal.hash_level-requires-clause-few
+hash_level-requires-clause-few g c =
+    let i = c.loop-h.invariant in
+    omega (arith, i.few, c.row_len-count.ensures.value, c.row_len-count.ensures.few)
+
+pub hash_level-requires-clause-indices : goal.hash_level-requires-clause-indices
+hash_level-requires-clause-indices g c =
+    let i = c.loop-h.invariant in
+    omega (arith, i.few, c.row_len-count.ensures.value, c.row_len-count.ensures.few)
 
 pub hash_level-requires-clause-room : goal.hash_level-requires-clause-room
 hash_level-requires-clause-room g c =
@@ -65,19 +78,17 @@ loop-h-preserved g c =
       cost = omega (arith, i.cost, even, c.hash_level.ensures.cost);
     }
 
-pub returns-clause-root : goal.returns-clause-root
-returns-clause-root g c = λ leaves given.
+pub returns : goal.returns
+unfolding merkle_auth_path
+returns g c =
     let i = c.loop-h.invariant in
     let last : c.loop-h.h ≡ c.args.z = omega arith in
     let none : c.args.z - c.loop-h.h ≡ 0 = omega (arith, last) in
     let one : c.loop-h.count ≡ 1 = rw (i.count, none) refl in
-    i.values leaves given 0 (omega (arith, one)) ∙ rw last refl
-
-pub returns-clause-path : goal.returns-clause-path
-unfolding merkle_auth_path
-returns-clause-path g c = λ leaves given.
-    let i = c.loop-h.invariant in
-    let last : c.loop-h.h ≡ c.args.z = omega arith in
     let n = c.USIZE-n.result in
     let long : length c.loop-h.path ≤ c.args.z * n = rw c.USIZE-n.ensures (omega (arith, c.loop-h.auto.path, c.requires.path_room)) in
-    sym (take_all (c.args.z * n) c.loop-h.path long) ∙ rw last at (i.path leaves given)
+    record {
+      root = λ leaves given. i.values leaves given 0 (omega (arith, one)) ∙ rw last refl;
+      path = λ leaves given. sym (take_all (c.args.z * n) c.loop-h.path long) ∙ rw last at (i.path leaves given);
+      cost = rw one at i.cost;
+    }

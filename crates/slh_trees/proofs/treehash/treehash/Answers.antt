@@ -15,8 +15,8 @@ loop-q-init g c = record {
   cost = omega (arith, ones-zero);
 }
 
-pub index_below-index-requires-clause-fits : goal.index_below-index-requires-clause-fits
-index_below-index-requires-clause-fits g c =
+pub index_below-index-requires : goal.index_below-index-requires
+index_below-index-requires g c =
     let base = c.min-base.result in
     let top = g.A.Leaves.height - base in
     let above = c.args.z - base in
@@ -26,7 +26,16 @@ index_below-index-requires-clause-fits g c =
     let inside = leaf_below_of c.args.i above top g.A.Leaves.trees c.loop-q.q within (rw rest c.requires.node) below in
     let fewer : 2 ^ top ≤ 2 ^ g.A.Leaves.height = pow_mono (let low : top ≤ g.A.Leaves.height = omega arith in low) in
     let most : g.A.Leaves.trees * 2 ^ top ≤ g.A.Leaves.trees * 2 ^ g.A.Leaves.height = mul-le g.A.Leaves.trees (2 ^ top) g.A.Leaves.trees (2 ^ g.A.Leaves.height) (omega arith) fewer in
-    omega (arith, inside, most, c.leaf_numbers.ensures.few)
+    record {
+      height = omega arith;
+      fits = omega (arith, inside, most, c.leaf_numbers.ensures.few);
+    }
+
+pub subtree-node-requires-clause-low : goal.subtree-node-requires-clause-low
+subtree-node-requires-clause-low g c = omega arith
+
+pub subtree-node-requires-clause-height : goal.subtree-node-requires-clause-height
+subtree-node-requires-clause-height g c = omega arith
 
 pub subtree-node-requires-clause-node : goal.subtree-node-requires-clause-node
 subtree-node-requires-clause-node g c =
@@ -38,24 +47,19 @@ subtree-node-requires-clause-node g c =
     let below : c.loop-q.q < 2 ^ above = omega (arith, one_shl above 32 (omega arith)) in
     rw c.index_below-index.ensures (leaf_below_of c.args.i above top g.A.Leaves.trees c.loop-q.q within (rw rest c.requires.node) below)
 
-pub returns-clause-value : goal.returns-clause-value
-returns-clause-value g c =
+pub returns : goal.returns
+returns g c =
     let K = g.P.HashSuite.keyed_suite c.args.keyed.now in
     let nodes = merkle K (g.A.NodeAddress.place c.args.adrs.now) (g.A.Leaves.leaf K c.args.sk_seed.now c.args.adrs.now) in
     let base = c.min-base.result in
     let above = c.args.z - base in
     let all : c.loop-q.q ≡ 2 ^ above = omega (arith, one_shl above 32 (omega arith)) in
     let whole : base + above ≡ c.args.z = omega arith in
-    rw c.node_of.ensures (HoldsNodes-all g.P.N.ArraySize.USIZE (λ h. nodes (base + h)) above c.args.i c.loop-q.q c.loop-q.store all c.loop-q.invariant.holds
-    ∙ ap (λ z. nodes z c.args.i) whole)
-
-pub returns-clause-cost : goal.returns-clause-cost
-returns-clause-cost g c =
-    let base = c.min-base.result in
-    let above = c.args.z - base in
-    let all : c.loop-q.q ≡ 2 ^ above = omega (arith, one_shl above 32 (omega arith)) in
     let last : count_ones c.loop-q.q ≡ 1 = ap (λ b. count_ones b) all ∙ ones-pow above in
     let leaf = g.A.Leaves.leaf_cost in
-    let whole : base + above ≡ c.args.z = omega arith in
     let total : c.loop-q.q * (node_cost leaf base + 1) ≡ node_cost leaf c.args.z + 1 = rw all (node_cost-above leaf base above ∙ ap (λ z. node_cost leaf z + 1) whole) in
-    omega (arith, c.loop-q.invariant.cost)
+    record {
+      value = rw c.node_of.ensures (HoldsNodes-all g.P.N.ArraySize.USIZE (λ h. nodes (base + h)) above c.args.i c.loop-q.q c.loop-q.store all c.loop-q.invariant.holds
+          ∙ ap (λ z. nodes z c.args.i) whole);
+      cost = omega (arith, c.loop-q.invariant.cost);
+    }

@@ -13,9 +13,11 @@ loop-z-preserved g c = record {
   cost = omega (arith, auth_path_cost-more g.A.Leaves.leaf_cost c.loop-z.z);
 }
 
-pub put_part-requires-clause-fits : goal.put_part-requires-clause-fits
-put_part-requires-clause-fits g c =
-    part_fits c.loop-z.z c.args.height c.USIZE-n.result _ c.loop-z-test.true (rw c.USIZE-n.ensures (c.loop-z.auto.out ∙ c.requires.room))
+pub put_part-requires : goal.put_part-requires
+put_part-requires g c = record {
+  fits = part_fits c.loop-z.z c.args.height c.USIZE-n.result _ c.loop-z-test.true (rw c.USIZE-n.ensures (c.loop-z.auto.out ∙ c.requires.room));
+  len = omega (arith, c.as_slice.ensures.len, c.USIZE-n.ensures);
+}
 
 pub treehash-value-requires-clause-node : goal.treehash-value-requires-clause-node
 treehash-value-requires-clause-node g c =
@@ -28,10 +30,13 @@ loop-z-init g c = record {
   cost = omega arith;
 }
 
-pub returns-clause-value : goal.returns-clause-value
+pub returns : goal.returns
 unfolding merkle_auth_path
-returns-clause-value g c =
+returns g c =
     let n = c.USIZE-n.result in
     let last : c.loop-z.z ≡ c.args.height = omega arith in
     let whole : length c.loop-z.out ≡ c.args.height * n = rw c.USIZE-n.ensures (c.loop-z.auto.out ∙ c.requires.room) in
-    rw last at (whole_front n c.args.height c.loop-z.z c.loop-z.out _ last whole c.loop-z.invariant.values)
+    record {
+      value = rw last at (whole_front n c.args.height c.loop-z.z c.loop-z.out _ last whole c.loop-z.invariant.values);
+      cost = rw last at c.loop-z.invariant.cost;
+    }

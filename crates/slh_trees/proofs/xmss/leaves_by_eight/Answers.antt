@@ -6,7 +6,7 @@ use Rattle.slh_core.specs.Wots.{wots_pk}
 use Rattle.slh_core.proofs.Chains.{values_none}
 use Rattle.slh_trees.proofs.CostSteps.{eight_more}
 use Rattle.slh_trees.proofs.Layers.{part_fits}
-use Rattle.slh_trees.proofs.Rows.{eights_few, none_joined, rows_joined, whole_front}
+use Rattle.slh_trees.proofs.Rows.{eights_few, length-cut, none_joined, rows_joined, whole_front}
 use Rattle.slh_trees.proofs.xmss.leaves_by_eight.Goals.{then-signer-g, else-signer-g}
 use Rattle.slh_trees.proofs.xmss.leaves_by_eight.Goals as goal
 
@@ -75,18 +75,33 @@ loop-g-preserved g c =
       cost = c.pairs_eight.ensures.cost ∙ rw (i.cost, long, c.requires.count) (eight_more c.args.steps.now at (wots_pk_cost g.P.WotsParams.WOTS_SIG_LEN));
     }
 
-pub returns-clause-leaves : goal.returns-clause-leaves
-returns-clause-leaves g c =
+pub returns : goal.returns
+returns g c =
     let size = 8 * c.USIZE-size.result in
     let last : c.loop-g.g ≡ c.args.groups = omega arith in
     let whole : length c.loop-g.out ≡ c.args.groups * size = rw c.USIZE-size.ensures (c.loop-g.auto.out ∙ c.requires.room) in
-    rw last at (whole_front size c.args.groups c.loop-g.g c.loop-g.out _ last whole c.loop-g.invariant.leaves)
+    let i = c.loop-g.invariant in
+    record {
+      leaves = rw last at (whole_front size c.args.groups c.loop-g.g c.loop-g.out _ last whole i.leaves);
+      values = λ met. i.after (omega (arith, met));
+      kept = λ low. i.before (omega (arith, low));
+      cost = rw last at i.cost;
+    }
 
 pub slice_bounds-keys-end : goal.slice_bounds-keys-end
 slice_bounds-keys-end g c =
     let size = 8 * c.USIZE-size.result in
     let whole : length c.args.out.now ≡ c.args.groups * size = rw c.USIZE-size.ensures c.requires.room in
     part_fits c.loop-g.g c.args.groups size _ c.loop-g-test.true (c.loop-g.auto.out ∙ whole)
+
+pub pairs_eight-requires-clause-small : goal.pairs_eight-requires-clause-small
+pairs_eight-requires-clause-small g c = c.tree_sizes.ensures.n_high
+
+pub pairs_eight-requires-clause-signer : goal.pairs_eight-requires-clause-signer
+pairs_eight-requires-clause-signer g c = omega arith
+
+pub pairs_eight-requires-clause-inside : goal.pairs_eight-requires-clause-inside
+pairs_eight-requires-clause-inside g c = rw c.key_pair_of-at.ensures (omega (arith, c.requires.inside))
 
 pub pairs_eight-requires-clause-count : goal.pairs_eight-requires-clause-count
 pairs_eight-requires-clause-count g c =
@@ -103,3 +118,11 @@ pairs_eight-requires-clause-whole g c =
       | else-signer-g v ↦ rw v.asked-is c.no_digits-none.ensures.len
     ] in
     rw long (c.loop-g.auto.sig ∙ c.requires.whole)
+
+pub pairs_eight-requires-clause-room : goal.pairs_eight-requires-clause-room
+pairs_eight-requires-clause-room g c =
+    let at = c.loop-g.g in
+    let size = 8 * c.USIZE-size.result in
+    let rows : length c.loop-g.out ≡ c.args.groups * size = rw c.USIZE-size.ensures (c.loop-g.auto.out ∙ c.requires.room) in
+    let next : (at + 1) * size ≡ at * size + size = omega arith in
+    length-cut (at * size) ((at + 1) * size) size c.loop-g.out next (part_fits at c.args.groups size _ c.loop-g-test.true rows) ∙ ap (λ n. 8 * n) c.USIZE-size.ensures

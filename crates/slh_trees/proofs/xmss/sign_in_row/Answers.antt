@@ -1,4 +1,5 @@
 use Rattle.std.proofs.Common.{◌≡◌, ◌<◌, ◌+◌, ◌-◌, ◌*◌, ◌/◌, ◌^◌, ◌∙◌, ◌≤◌, ℕ, List, ap, arith, length, refl, sym}
+use Rattle.std.proofs.lemmas.Grind.{common_steps}
 use Rattle.std.proofs.lemmas.List.{length-replicate, length-take}
 use Rattle.std.proofs.lemmas.Nat.{mul-le, pow-add}
 use Rattle.slh_core.specs.Bytes.{joined, part}
@@ -30,6 +31,15 @@ leaves_given leaf n count h row made whole sizes k below =
     let here : 0 + k ≡ k = omega arith in
     ap (λ xs. part n xs k) made ∙ part-joined (λ q. leaf (0 + q)) n count k (λ q. sizes (0 + q)) (rw whole below) ∙ ap leaf here
 
+pub leaves_by_eight-requires-clause-inside : goal.leaves_by_eight-requires-clause-inside
+leaves_by_eight-requires-clause-inside g c = omega (arith, c.row_len-count.ensures.few)
+
+pub leaves_by_eight-requires-clause-count : goal.leaves_by_eight-requires-clause-count
+leaves_by_eight-requires-clause-count g c = grind (arith, common_steps)
+
+pub leaves_by_eight-requires-clause-whole : goal.leaves_by_eight-requires-clause-whole
+leaves_by_eight-requires-clause-whole g c = grind (arith, common_steps)
+
 pub leaves_by_eight-requires-clause-room : goal.leaves_by_eight-requires-clause-room
 leaves_by_eight-requires-clause-room g c =
     let n = g.P.N.ArraySize.USIZE in
@@ -37,6 +47,12 @@ leaves_by_eight-requires-clause-room g c =
     let room = room_in_eights c.H_PRIME-height.result count n (omega (arith, c.requires.eights, c.H_PRIME-height.ensures)) c.row_len-count.ensures.value in
     let fits : count * n ≤ 64 * 32 = mul-le count n 64 32 (omega (arith, c.row_len-count.ensures.few)) (omega (arith, c.tree_sizes.ensures.n_high)) in
     rw c.row_size.ensures.value (omega (arith, room, fits, length-take {A = ℕ}, length-replicate {A = ℕ}))
+
+pub hash_up_and_path-requires-clause-low : goal.hash_up_and_path-requires-clause-low
+hash_up_and_path-requires-clause-low g c = omega (arith, c.requires.low, c.H_PRIME-height.ensures)
+
+pub hash_up_and_path-requires-clause-leaf : goal.hash_up_and_path-requires-clause-leaf
+hash_up_and_path-requires-clause-leaf g c = rw c.H_PRIME-height.ensures c.requires.idx
 
 pub hash_up_and_path-requires-clause-room : goal.hash_up_and_path-requires-clause-room
 hash_up_and_path-requires-clause-room g c =
@@ -51,25 +67,8 @@ hash_up_and_path-requires-clause-path_room g c =
     let back = rw c.ends_len.ensures.value at c.split_at_mut-chains.ensures.back_len in
     rw c.H_PRIME-height.ensures (omega (arith, back, c.requires.room))
 
-pub returns-clause-root : goal.returns-clause-root
-returns-clause-root g c =
-    let K = g.P.HashSuite.keyed_suite c.args.keyed.now in
-    let n = g.P.N.ArraySize.USIZE in
-    let same = g.met.P.HashSuite.keyed_suite_is c.args.keyed.now in
-    let size : K.n ≡ n = ap (λ k. k.n) same in
-    let law : HasLength K.suite K.n = rw same (g.met.P.HashSuite.lengths c.tree_sizes.ensures.n_high) in
-    let sk = c.args.sk_seed.now in
-    let j = c.args.adrs.now.layer_adrs in
-    let t = c.args.adrs.now.tree_adrs_low in
-    let leaf = wots_pk K sk j t in
-    let count = c.row_len-count.result in
-    let all = all_eights c.H_PRIME-height.result count (omega (arith, c.requires.eights, c.H_PRIME-height.ensures)) c.row_len-count.ensures.value in
-    let made = rw (c.tree_adrs-place.ensures, all) at c.leaves_by_eight.ensures.leaves in
-    let given = leaves_given leaf n count c.H_PRIME-height.result c.leaves_by_eight.new.out made c.row_len-count.ensures.value (λ q. length-wots_pk K sk j t q law ∙ size) in
-    c.part_of.ensures ∙ rw (c.H_PRIME-height.ensures, c.tree_adrs-place.ensures) at (c.hash_up_and_path.ensures.root leaf given)
-
-pub returns-clause-value : goal.returns-clause-value
-returns-clause-value g c =
+pub returns : goal.returns
+returns g c =
     let K = g.P.HashSuite.keyed_suite c.args.keyed.now in
     let n = g.P.N.ArraySize.USIZE in
     let same = g.met.P.HashSuite.keyed_suite_is c.args.keyed.now in
@@ -80,6 +79,7 @@ returns-clause-value g c =
     let t = c.args.adrs.now.tree_adrs_low in
     let y = c.args.idx in
     let leaf = wots_pk K sk j t in
+    let h = g.P.XmssParams.H_PRIME in
     let count = c.row_len-count.result in
     let all = all_eights c.H_PRIME-height.result count (omega (arith, c.requires.eights, c.H_PRIME-height.ensures)) c.row_len-count.ensures.value in
     let made = rw (c.tree_adrs-place.ensures, all) at c.leaves_by_eight.ensures.leaves in
@@ -89,13 +89,9 @@ returns-clause-value g c =
     let written = rw (c.tree_adrs-place.ensures, here, c.WOTS_SIG_LEN-len.ensures, c.tree_sizes.ensures.signature_len, c.message_digits-all.ensures, ← size) at (c.leaves_by_eight.ensures.values inside) in
     let signed = written ∙ values_signed K sk j t y c.split_at_mut-chains.result.0.now c.args.m.now in
     let path = rw (c.H_PRIME-height.ensures, c.tree_adrs-place.ensures) at (c.hash_up_and_path.ensures.path leaf given) in
-    rw (signed, path) refl
-
-pub returns-clause-cost : goal.returns-clause-cost
-returns-clause-cost g c =
-    let h = g.P.XmssParams.H_PRIME in
-    let count = c.row_len-count.result in
-    let all = all_eights c.H_PRIME-height.result count (omega (arith, c.requires.eights, c.H_PRIME-height.ensures)) c.row_len-count.ensures.value in
-    let made = rw (all, c.row_len-count.ensures.value, c.H_PRIME-height.ensures) at c.leaves_by_eight.ensures.cost in
-    let hashed = rw c.H_PRIME-height.ensures at c.hash_up_and_path.ensures.cost in
-    node_cost-leaves c.args.steps.now (wots_pk_cost g.P.WotsParams.WOTS_SIG_LEN) h c.leaves_by_eight.new.steps c.hash_up_and_path.new.steps made hashed
+    let hashed = rw (all, c.row_len-count.ensures.value, c.H_PRIME-height.ensures) at c.leaves_by_eight.ensures.cost in
+    record {
+      root = c.part_of.ensures ∙ rw (c.H_PRIME-height.ensures, c.tree_adrs-place.ensures) at (c.hash_up_and_path.ensures.root leaf given);
+      value = rw (signed, path) refl;
+      cost = node_cost-leaves c.args.steps.now (wots_pk_cost g.P.WotsParams.WOTS_SIG_LEN) h c.leaves_by_eight.new.steps c.hash_up_and_path.new.steps hashed (rw c.H_PRIME-height.ensures at c.hash_up_and_path.ensures.cost);
+    }

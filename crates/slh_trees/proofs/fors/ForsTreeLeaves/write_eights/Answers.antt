@@ -1,8 +1,8 @@
-use Rattle.std.proofs.Common.{◌≡◌, ◌∙◌, ◌≤◌, ◌+◌, ◌-◌, ◌*◌, arith, length, rules, ◌<◌}
+use Rattle.std.proofs.Common.{◌≡◌, ◌∙◌, ◌≤◌, ◌+◌, ◌-◌, ◌*◌, ap, arith, length, rules, ◌<◌}
 use Rattle.std.proofs.lemmas.Slice.{take-put_mid}
 use Rattle.slh_trees.specs.Fors.{fors_leaf, fors_secret}
 use Rattle.slh_trees.proofs.Layers.{part_fits}
-use Rattle.slh_trees.proofs.Rows.{eights_few, none_joined, rows_joined, whole_front}
+use Rattle.slh_trees.proofs.Rows.{eights_few, length-cut, none_joined, rows_joined, whole_front}
 use Rattle.slh_trees.proofs.fors.ForsTreeLeaves.write_eights.Goals as goal
 
 pub overflow_mul-leaves : goal.overflow_mul-leaves
@@ -38,9 +38,30 @@ loop-g-preserved g c =
       cost = omega (arith, c.leaves_eight.ensures.cost, c.loop-g.invariant.cost);
     }
 
-pub returns-clause-leaves : goal.returns-clause-leaves
-returns-clause-leaves g c =
+pub returns : goal.returns
+returns g c =
     let size = 8 * c.USIZE-size.result in
     let last : c.loop-g.g ≡ c.args.groups = omega arith in
     let whole : length c.loop-g.out ≡ c.args.groups * size = rw c.USIZE-size.ensures (c.loop-g.auto.out ∙ c.requires.room) in
-    rw last at (whole_front size c.args.groups c.loop-g.g c.loop-g.out _ last whole c.loop-g.invariant.leaves)
+    record {
+      leaves = rw last at (whole_front size c.args.groups c.loop-g.g c.loop-g.out _ last whole c.loop-g.invariant.leaves);
+      cost = rw last at c.loop-g.invariant.cost;
+    }
+
+pub slice_bounds-leaves-end : goal.slice_bounds-leaves-end
+slice_bounds-leaves-end g c =
+    part_fits c.loop-g.g c.args.groups (8 * c.USIZE-size.result) _ c.loop-g-test.true (rw c.USIZE-size.ensures (c.loop-g.auto.out ∙ c.requires.room))
+
+pub leaves_eight-requires-clause-small : goal.leaves_eight-requires-clause-small
+leaves_eight-requires-clause-small g c = c.forest_sizes.ensures.n_high
+
+pub leaves_eight-requires-clause-inside : goal.leaves_eight-requires-clause-inside
+leaves_eight-requires-clause-inside g c = omega (arith, c.requires.inside)
+
+pub leaves_eight-requires-clause-room : goal.leaves_eight-requires-clause-room
+leaves_eight-requires-clause-room g c =
+    let at = c.loop-g.g in
+    let size = 8 * c.USIZE-size.result in
+    let whole : length c.loop-g.out ≡ c.args.groups * size = rw c.USIZE-size.ensures (c.loop-g.auto.out ∙ c.requires.room) in
+    let next : (at + 1) * size ≡ at * size + size = omega arith in
+    length-cut (at * size) ((at + 1) * size) size c.loop-g.out next (part_fits at c.args.groups size _ c.loop-g-test.true whole) ∙ ap (λ n. 8 * n) c.USIZE-size.ensures

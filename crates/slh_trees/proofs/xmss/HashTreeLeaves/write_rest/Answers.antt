@@ -6,9 +6,11 @@ use Rattle.slh_trees.proofs.Layers.{part_fits}
 use Rattle.slh_trees.proofs.Rows.{none_joined, whole_front}
 use Rattle.slh_trees.proofs.xmss.HashTreeLeaves.write_rest.Goals as goal
 
-pub put_part-requires-clause-fits : goal.put_part-requires-clause-fits
-put_part-requires-clause-fits g c =
-    part_fits c.loop-k.k c.args.count c.USIZE-n.result _ c.loop-k-test.true (rw c.USIZE-n.ensures (c.loop-k.auto.out ∙ c.requires.room))
+pub put_part-requires : goal.put_part-requires
+put_part-requires g c = record {
+  fits = part_fits c.loop-k.k c.args.count c.USIZE-n.result _ c.loop-k-test.true (rw c.USIZE-n.ensures (c.loop-k.auto.out ∙ c.requires.room));
+  len = omega (arith, c.as_slice.ensures.len, c.USIZE-n.ensures);
+}
 
 pub loop-k-init : goal.loop-k-init
 loop-k-init g c = record {
@@ -22,9 +24,12 @@ loop-k-preserved g c = record {
   cost = omega (arith, one_more c.loop-k.k (wots_pk_cost g.P.WotsParams.WOTS_SIG_LEN), c.loop-k.invariant.cost, c.wots_pk_gen-leaf.ensures.cost);
 }
 
-pub returns-clause-leaves : goal.returns-clause-leaves
-returns-clause-leaves g c =
+pub returns : goal.returns
+returns g c =
     let n = c.USIZE-n.result in
     let last : c.loop-k.k ≡ c.args.count = omega arith in
     let whole : length c.loop-k.out ≡ c.args.count * n = rw c.USIZE-n.ensures (c.loop-k.auto.out ∙ c.requires.room) in
-    rw last at (whole_front n c.args.count c.loop-k.k c.loop-k.out _ last whole c.loop-k.invariant.leaves)
+    record {
+      leaves = rw last at (whole_front n c.args.count c.loop-k.k c.loop-k.out _ last whole c.loop-k.invariant.leaves);
+      cost = rw last at c.loop-k.invariant.cost;
+    }
