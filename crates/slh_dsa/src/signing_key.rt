@@ -1,6 +1,6 @@
 //! Signing keys (FIPS 205, section 9.1).
-ghost use Rattle.std.specs.Prelude.{◌≡◌, ◌+◌, ◌*◌, ◌≤◌, ◌++◌, length, drop, unwrap_or};
-ghost use Rattle.std.specs.Prelude.{IfOk, IfErr, OnOk, OnErr};
+ghost use Rattle.std.specs.Prelude.{◌≡◌, ℕ, ◌+◌, ◌*◌, ◌≤◌, List, ◌++◌, Option, length, drop};
+ghost use Rattle.std.specs.Prelude.{unwrap_or, IfOk, IfErr, OnOk, OnErr};
 ghost use Rattle.std.specs.Option.{option_copied, ForSome};
 ghost use Rattle.slh_core.specs.Bytes.{part};
 ghost use Rattle.slh_core.specs.Costs.{slh_keygen_cost, slh_sign_cost};
@@ -199,12 +199,13 @@ impl<P: ParameterSet> SigningKey<P> {
             out.new ≡ signature_of P.scheme self.now opt_rand message }
         ensures cost { steps.new ≡ steps.old + slh_sign_cost P.scheme }
     {
+        let opt_rand = self.opt_rand_or_seed(opt_rand);
         let frame = Frame::new(mode, ctx, msg);
         self.sign_slices(
+            &opt_rand,
             frame.head(),
             frame.ctx(),
             frame.tail(),
-            opt_rand,
             out,
             steps,
         );
@@ -274,32 +275,31 @@ impl<P: ParameterSet> SigningKey<P> {
         self.hash_sign_checked(mode, msg, ctx, opt_rand, out, &mut steps);
     }
 
-    // Writes the signature of the message that the three slices joined are.
-    fn sign_slices<L: Ledger>(
+    /// Writes the signature of the message that the three slices joined are, as it stands (FIPS 205,
+    /// algorithm 19), with the bytes that [`SigningKey::opt_rand_or_seed`] gives.
+    pub fn sign_slices<L: Ledger>(
         &self,
+        opt_rand: &NBytes<P::N>,
         head: &[u8],
         ctx: &[u8],
         msg: &[u8],
-        opt_rand: Option<&[u8]>,
         out: &mut [u8],
         steps: &mut Steps<L>,
     )
         requires message { length head.now + length ctx.now + length msg.now ≤ MAX_MESSAGE_LEN }
-        requires opt_rand { ForSome (option_copied opt_rand) (λ bytes. length bytes ≡ P.N.USIZE) }
         requires room { length out.old ≡ signature_size P.scheme }
-        ensures value { let opt_rand = option_copied opt_rand.entry in
-            let message = head.now ++ ctx.now ++ msg.now in
-            out.new ≡ signature_of P.scheme self.now opt_rand message }
+        ensures value { (given : Option (List ℕ))
+            → opt_rand.now ≡ unwrap_or given (part P.N.USIZE self.now 2)
+            → out.new ≡ signature_of P.scheme self.now given (head.now ++ ctx.now ++ msg.now) }
         ensures cost { steps.new ≡ steps.old + slh_sign_cost P.scheme }
     {
-        let opt_rand = self.opt_rand_or_seed(opt_rand);
         let public = &self.verifying_key;
         sign_message::<P, L>(
             &self.sk_seed,
             &self.sk_prf,
             &public.pk_seed,
             &public.pk_root,
-            &opt_rand,
+            opt_rand,
             head,
             ctx,
             msg,
@@ -308,8 +308,8 @@ impl<P: ParameterSet> SigningKey<P> {
         );
     }
 
-    // The bytes of `opt_rand`, or the public seed where none are given (FIPS 205, algorithm 19).
-    fn opt_rand_or_seed(&self, opt_rand: Option<&[u8]>) -> NBytes<P::N>
+    /// The bytes of `opt_rand`, or the public seed where none are given (FIPS 205, algorithm 19).
+    pub fn opt_rand_or_seed(&self, opt_rand: Option<&[u8]>) -> NBytes<P::N>
         requires { ForSome (option_copied opt_rand) (λ bytes. length bytes ≡ P.N.USIZE) }
         ensures { result
             ≡ unwrap_or (option_copied opt_rand.entry) (part P.N.USIZE self.now 2) }
@@ -405,7 +405,8 @@ impl<P: ArrayLengths> SigningKey<P> {
     {
         let mut bytes = zeros::<P::SigLen>(alloc)?;
         let mut steps = Steps::<L>::new(blank);
-        self.sign_slices(head, ctx, msg, opt_rand, bytes.as_mut_slice(), &mut steps);
+        let opt_rand = self.opt_rand_or_seed(opt_rand);
+        self.sign_slices(&opt_rand, head, ctx, msg, bytes.as_mut_slice(), &mut steps);
         Ok(Signature::from_array(bytes))
     }
 

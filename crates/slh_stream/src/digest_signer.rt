@@ -18,7 +18,6 @@ use crate::absorbing::{begin_tail, head};
 use crate::context::Context;
 use crate::digests::MAX_TAIL;
 use crate::hashing::{end_hash, hash_piece, mode_for};
-use crate::key_parts::{opt_rand_or_seed, sign_slices};
 use crate::tail::Tail;
 use slh_core::nbytes::NBytes;
 use slh_core::steps::Steps;
@@ -70,7 +69,7 @@ impl<'a, P: ParameterSet> DigestSigner<'a, P> {
             return Err(Error::Length);
         }
         SigningKey::<P>::check_sign(&[], ctx, opt_rand)?;
-        let opt_rand = opt_rand_or_seed(key, opt_rand);
+        let opt_rand = key.opt_rand_or_seed(opt_rand);
         Ok(DigestSigner {
             key,
             ctx: Context::new(ctx),
@@ -132,7 +131,7 @@ impl<'a, P: ParameterSet> DigestSigner<'a, P> {
         let front = head(mode_for(&tail), ctx);
         let mut store = [0u8; MAX_TAIL];
         let end = end_hash(tail, &mut store);
-        sign_slices::<P, L>(key, &opt_rand, &front, ctx, &store[..end], out, steps);
+        key.sign_slices(&opt_rand, &front, ctx, &store[..end], out, steps);
         Ok(())
     }
 

@@ -10,7 +10,7 @@ ghost use Rattle.slh_internal.specs.Signing.{signature_of};
 ghost use Rattle.slh_trees.specs.Refusals.{RefusedExactly};
 
 use crate::absorbing::head;
-use crate::key_parts::{opt_rand_or_seed, public_parts, sign_slices};
+use crate::key_parts::public_parts;
 use slh_core::params::forest_sizes;
 use slh_core::steps::Steps;
 use slh_dsa::{Error, Mode, ParameterSet, SigningKey, VerifyingKey};
@@ -149,11 +149,11 @@ pub fn sign_digest_counted<P: ParameterSet, L: Ledger>(
     }
     check_digest(mode, digest.len())?;
     SigningKey::<P>::check_sign(&[], ctx, opt_rand)?;
-    let opt_rand = opt_rand_or_seed(key, opt_rand);
+    let opt_rand = key.opt_rand_or_seed(opt_rand);
     let mut store = [0u8; MAX_TAIL];
     let end = put_tail(mode, digest, &mut store);
     let front = head(mode, ctx);
-    sign_slices::<P, L>(key, &opt_rand, &front, ctx, &store[..end], out, steps);
+    key.sign_slices(&opt_rand, &front, ctx, &store[..end], out, steps);
     Ok(())
 }
 

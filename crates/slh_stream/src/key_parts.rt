@@ -1,19 +1,12 @@
 //! The parts of a key, cut from its bytes.
-ghost use Rattle.std.specs.Prelude.{◌≡◌, ◌≤◌, ℕ, ◌+◌, List, ◌++◌, Option, length, unwrap_or};
-ghost use Rattle.std.specs.Option.{ForSome, option_copied};
+ghost use Rattle.std.specs.Prelude.{◌≡◌};
 ghost use Rattle.slh_core.specs.Bytes.{part};
-ghost use Rattle.slh_core.specs.Costs.{slh_sign_cost};
-ghost use Rattle.slh_internal.specs.Checking.{signature_size};
-ghost use Rattle.slh_internal.specs.Signing.{signature_of};
 
 use hybrid_array::ArraySize;
 use slh_core::equal_parts::part_of;
 use slh_core::nbytes::NBytes;
-use slh_core::params::{MAX_MESSAGE_LEN, chain_sizes};
-use slh_core::steps::Steps;
+use slh_core::params::chain_sizes;
 use slh_dsa::{ParameterSet, SigningKey, VerifyingKey};
-use slh_internal::sign::sign_message;
-use std::sync::ledger::Ledger;
 
 /// The public seed and the root of a verifying key.
 pub(crate) fn public_parts<P: ParameterSet>(key: &VerifyingKey<P>) -> (NBytes<P::N>, NBytes<P::N>)
@@ -53,51 +46,4 @@ pub(crate) fn secret_parts<P: ParameterSet>(key: &SigningKey<P>) -> SecretParts<
         pk_seed: part_of::<P::N>(bytes, 2),
         pk_root: part_of::<P::N>(bytes, 3),
     }
-}
-
-/// The bytes of `opt_rand`, or the public seed where none are given.
-pub(crate) fn opt_rand_or_seed<P: ParameterSet>(
-    key: &SigningKey<P>,
-    opt_rand: Option<&[u8]>,
-) -> NBytes<P::N>
-    requires { ForSome (option_copied opt_rand) (λ bytes. length bytes ≡ P.N.USIZE) }
-    ensures { result ≡ unwrap_or (option_copied opt_rand.entry) (part P.N.USIZE key.now 2) }
-{
-    chain_sizes::<P>();
-    match opt_rand {
-        Some(bytes) => NBytes::exact(bytes),
-        None => secret_parts(key).pk_seed.copy(),
-    }
-}
-
-/// Writes the signature of the message that the three slices joined are.
-pub(crate) fn sign_slices<P: ParameterSet, L: Ledger>(
-    key: &SigningKey<P>,
-    opt_rand: &NBytes<P::N>,
-    head: &[u8],
-    ctx: &[u8],
-    msg: &[u8],
-    out: &mut [u8],
-    steps: &mut Steps<L>,
-)
-    requires message { length head.now + length ctx.now + length msg.now ≤ MAX_MESSAGE_LEN }
-    requires room { length out.old ≡ signature_size P.scheme }
-    ensures value { (given : Option (List ℕ))
-        → opt_rand.now ≡ unwrap_or given (part P.N.USIZE key.now 2)
-        → out.new ≡ signature_of P.scheme key.now given (head.now ++ ctx.now ++ msg.now) }
-    ensures cost { steps.new ≡ steps.old + slh_sign_cost P.scheme }
-{
-    let parts = secret_parts(key);
-    sign_message::<P, L>(
-        &parts.sk_seed,
-        &parts.sk_prf,
-        &parts.pk_seed,
-        &parts.pk_root,
-        opt_rand,
-        head,
-        ctx,
-        msg,
-        out,
-        steps,
-    );
 }

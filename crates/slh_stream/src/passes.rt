@@ -16,7 +16,7 @@ ghost use Rattle.slh_trees.specs.Refusals.{RefusedExactly, message_refusal};
 
 use crate::absorbing::{begin_front, head};
 use crate::context::Context;
-use crate::key_parts::{opt_rand_or_seed, secret_parts};
+use crate::key_parts::secret_parts;
 use crate::pass_error::PassError;
 use slh_core::nbytes::NBytes;
 use slh_core::params::{MAX_DIGEST_LEN, forest_sizes};
@@ -80,7 +80,7 @@ impl<'a, P: ParameterSet + MessageSuite> FirstPass<'a, P> {
     {
         SigningKey::<P>::check_sign(&[], ctx, opt_rand)?;
         let parts = secret_parts(key);
-        let opt_rand = opt_rand_or_seed(key, opt_rand);
+        let opt_rand = key.opt_rand_or_seed(opt_rand);
         let mac = begin_made::<P>(&parts.sk_prf, &opt_rand, ctx);
         Ok(FirstPass {
             key,
