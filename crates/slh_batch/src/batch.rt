@@ -3,6 +3,7 @@ ghost use Rattle.std.specs.Prelude.{◌≡◌, ◌≤◌, ◌↔◌, ◌^◌, �
 ghost use Rattle.std.specs.Prelude.{IfOk, IsTrue, OnErr, OnOk};
 ghost use Rattle.std.specs.Option.{option_copied, ForSome};
 ghost use Rattle.slh_frames.specs.Frames.{frame};
+ghost use Rattle.slh_internal.specs.Checking.{signature_size};
 ghost use Rattle.slh_internal.specs.Signing.{signature_of};
 ghost use Rattle.slh_trees.specs.Refusals.{RefusedExactly, RefusedOrNoMemory};
 ghost use Rattle.slh_batch.specs.Calls.{empty_refusal, full_refusal, push_refusal, seal_refusal};
@@ -181,9 +182,11 @@ fn sign_root<P: ParameterSet>(
     opt_rand: Option<&[u8]>,
 ) -> Result<Vec<u8>, AllocError>
     requires { ForSome (option_copied opt_rand) (λ bytes. length bytes ≡ P.N.USIZE) }
-    ensures { let opt_rand = option_copied opt_rand.entry in
+    ensures value { let opt_rand = option_copied opt_rand.entry in
         IfOk result (λ signature. signature.items
         ≡ signature_of P.scheme key.now opt_rand (frame batch_context message.now)) }
+    ensures len { IfOk result (λ signature.
+        length signature.items ≡ signature_size P.scheme) }
 {
     let mut signature = vec![in alloc; 0u8; P::SIG_LEN]?;
     key.sign_checked_into(Mode::Pure, CONTEXT, message, opt_rand, &mut signature);

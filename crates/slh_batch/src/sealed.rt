@@ -2,6 +2,7 @@
 ghost use Rattle.std.specs.Prelude.{◌≡◌, ◌≤◌, ◌++◌, length, IfOk};
 ghost use Rattle.std.specs.List.{concat};
 ghost use Rattle.slh_core.specs.Bytes.{big_endian};
+ghost use Rattle.slh_internal.specs.Checking.{signature_size};
 ghost use Rattle.slh_batch.specs.Calls.{index_refusal};
 ghost use Rattle.slh_batch.specs.Heads.{head_of};
 ghost use Rattle.slh_batch.specs.Receipts.{receipt_of};
@@ -27,14 +28,16 @@ pub struct Sealed<P: ParameterSet> {
 }
 
 impl<P: ParameterSet> Model for Sealed<P> {
-    ghost use Rattle.std.specs.Prelude.{◌≤◌, ◌^◌, length};
+    ghost use Rattle.std.specs.Prelude.{◌≡◌, ◌≤◌, ◌^◌, length};
     ghost use Rattle.slh_batch.specs.Sealing.{SealedBatch};
+    ghost use Rattle.slh_internal.specs.Checking.{signature_size};
 
     ghost Value = { SealedBatch };
 
     ghost view = { λ s. record { leaves = s.levels; signature = s.signature.items } };
 
-    ghost invariant = { λ s. (1 ≤ length s.levels) × (length s.levels ≤ 2 ^ 20) };
+    ghost invariant = { λ s. (1 ≤ length s.levels) × (length s.levels ≤ 2 ^ 20)
+        × (length s.signature.items ≡ signature_size P.scheme) };
 }
 
 // The receipt of message `i` of `count` by a path.
@@ -77,7 +80,8 @@ impl<P: ParameterSet> Sealed<P> {
 
     /// The bytes of the signature of their number and root, as each receipt has it.
     pub fn signature(&self) -> &[u8]
-        ensures { result.now ≡ self.now.signature }
+        ensures value { result.now ≡ self.now.signature }
+        ensures len { length result.now ≡ signature_size P.scheme }
     {
         self.signature.as_slice()
     }
