@@ -71,17 +71,28 @@ fn reads_on(
     is_counting(out, first) && generator.blocks == blocks
 }
 
+// How many bytes are read, the first of them, and how many blocks were made in all.
+const READS: [(usize, u8, u64); 8] = [
+    (0, 0, 0),
+    (1, 0, 1),
+    (3, 1, 1),
+    (0, 4, 1),
+    (4, 4, 2),
+    (9, 8, 5),
+    (3, 17, 5),
+    (8, 20, 7),
+];
+
 fn makes_blocks_as_needed() -> bool {
     let mut generator = from_zero();
     let mut buffer = ReadBuffer::<U4>::default();
-    reads_on(&mut buffer, &mut generator, &mut [], 0, 0)
-        && reads_on(&mut buffer, &mut generator, &mut [0; 1], 0, 1)
-        && reads_on(&mut buffer, &mut generator, &mut [0; 3], 1, 1)
-        && reads_on(&mut buffer, &mut generator, &mut [], 4, 1)
-        && reads_on(&mut buffer, &mut generator, &mut [0; 4], 4, 2)
-        && reads_on(&mut buffer, &mut generator, &mut [0; 9], 8, 5)
-        && reads_on(&mut buffer, &mut generator, &mut [0; 3], 17, 5)
-        && reads_on(&mut buffer, &mut generator, &mut [0; 8], 20, 7)
+    let mut all = true;
+    for (len, first, blocks) in READS {
+        let mut out = [0; 9];
+        let out = &mut out[..len.min(9)];
+        all = reads_on(&mut buffer, &mut generator, out, first, blocks) && all;
+    }
+    all
 }
 
 #[test]

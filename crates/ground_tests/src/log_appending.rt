@@ -81,18 +81,16 @@ fn pieces<'a>(alloc: Global, log: &'a Log) -> Result<Vec<Piece<'a>>, AllocError>
     Ok(pieces)
 }
 
-// Files that have a log. Of the calls that with this number fails, and all from `stop` on.
-fn files_of(
-    alloc: Global,
-    log: &[Piece<'_>],
-    call: u64,
-    stop: u64,
-) -> Result<MemFiles, AllocError> {
-    let mut files = MemFiles::new(alloc, vec![in alloc; call]?, stop);
+// Puts there a log, if there is memory.
+fn is_put(files: &mut MemFiles, log: &[Piece<'_>]) -> bool {
+    let mut all = true;
     for piece in log {
-        files.put(piece.path, Kind::Regular, 0o644, piece.bytes)?;
+        all = all
+            && files
+                .put(piece.path, Kind::Regular, 0o644, piece.bytes)
+                .is_ok();
     }
-    Ok(files)
+    all
 }
 
 fn write(files: &mut MemFiles, log: &[Piece<'_>]) -> Result<Written, PublishError> {
@@ -208,16 +206,18 @@ enum Shown {
     NoPiece,
 }
 
+// Of the calls the one with this number fails, and all from `stop` on.
 fn is_shown_of(alloc: Global, old: &[Piece<'_>], new: &[Piece<'_>], shown: Shown) -> bool {
     let (call, stop) = match shown {
         Shown::Mended(call) => (call, NEVER),
         Shown::Whole(stop) => (NEVER, stop),
         _ => (NEVER, NEVER),
     };
-    match files_of(alloc, old, call, stop) {
-        Ok(mut files) => is_shown_by(&mut files, old, new, shown),
-        Err(_) => false,
-    }
+    let Ok(fails) = vec![in alloc; call] else {
+        return false;
+    };
+    let mut files = MemFiles::new(alloc, fails, stop);
+    is_put(&mut files, old) && is_shown_by(&mut files, old, new, shown)
 }
 
 fn is_shown_by(files: &mut MemFiles, old: &[Piece<'_>], new: &[Piece<'_>], shown: Shown) -> bool {

@@ -1,15 +1,12 @@
 //! The folders of a log, and its lock.
 use crate::shown::{shows, shows_at};
-use crate::whole_memory::{COUNT, NEVER, files, has, is_free};
+use crate::whole_memory::{COUNT, NEVER, are_put, has, is_free};
 use log_files::{FolderError, Piece, free_lock, make_folder, take_lock};
 use std::alloc::Global;
 use whole_files::{FileSystem, Kind, MemFiles, WriteError};
 
-const LOCK: Piece<'static> = Piece {
-    path: "lock",
-    part: "lock-part",
-    bytes: b"process 7",
-};
+// The text of a lock.
+const HOLDER: &[u8] = b"process 7";
 
 // What is shown of files, where a call fails, or everything stops at one.
 #[derive(Clone, Copy)]
@@ -21,12 +18,14 @@ enum Fact {
     LockStops,
 }
 
-// One function owns the files, of which each that does has to drop all.
+// Of the calls the one with this number fails, and all from `stop` on. One function owns the files,
+// of which each that does has to drop all.
 fn holds(alloc: Global, fact: Fact, call: u64, stop: u64) -> bool {
-    match files(alloc, call, stop) {
-        Ok(mut files) => holds_of(&mut files, fact, call, stop),
-        Err(_) => false,
-    }
+    let Ok(fails) = vec![in alloc; call] else {
+        return false;
+    };
+    let mut files = MemFiles::new(alloc, fails, stop);
+    are_put(&mut files) && holds_of(&mut files, fact, call, stop)
 }
 
 fn holds_of(files: &mut MemFiles, fact: Fact, call: u64, stop: u64) -> bool {
@@ -82,24 +81,29 @@ fn old_folder_fails(files: &mut MemFiles, call: u64) -> bool {
     is_told && files.count() == COUNT
 }
 
+fn lock(files: &mut MemFiles, bytes: &[u8]) -> Result<(), WriteError> {
+    let lock = Piece {
+        path: "lock",
+        part: "lock-part",
+        bytes,
+    };
+    take_lock(files, &lock)
+}
+
 // A second writer is refused, and finds the text of the first one.
 fn one_writer(files: &mut MemFiles) -> bool {
-    let other = Piece {
-        bytes: b"process 8",
-        ..LOCK
-    };
-    take_lock(files, &LOCK).is_ok()
-        && take_lock(files, &other) == Err(WriteError::Taken)
-        && has(files, "lock", LOCK.bytes)
+    lock(files, HOLDER).is_ok()
+        && lock(files, b"process 8") == Err(WriteError::Taken)
+        && has(files, "lock", HOLDER)
         && free_lock(files, "lock").is_ok()
         && is_free(files, "lock")
-        && take_lock(files, &other).is_ok()
+        && lock(files, b"process 8").is_ok()
 }
 
 // Wherever everything stops, there is no lock, or the whole of it.
 fn lock_stops(files: &mut MemFiles, stop: u64) -> bool {
-    let taken = take_lock(files, &LOCK);
-    (has(files, "lock", LOCK.bytes) || is_free(files, "lock")) && taken.is_ok() == (stop >= 5)
+    let taken = lock(files, HOLDER);
+    (has(files, "lock", HOLDER) || is_free(files, "lock")) && taken.is_ok() == (stop >= 5)
 }
 
 #[test]

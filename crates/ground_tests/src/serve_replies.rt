@@ -67,27 +67,18 @@ impl Source for Slow {
     }
 }
 
-// Whether a run by `First` ends with this status, and has written this.
-fn runs_to<S: Source>(
-    alloc: Global,
-    source: &mut S,
-    sink: &mut MemSink,
-    status: u8,
-    written: &[u8],
-) -> bool {
-    serve_lines(alloc, &First, source, sink) == status && sink.bytes() == written
-}
-
-// Whether `First` answers this input by this output.
-fn answers_all(alloc: Global, input: Vec<u8>, output: &[u8]) -> bool {
+// Whether `First` answers this input by so many bytes, of which these are the last.
+fn answers_by(alloc: Global, input: Vec<u8>, count: usize, end: &[u8]) -> bool {
     let mut source = MemSource::new(input, Vec::new(alloc));
     let mut sink = MemSink::new(alloc, Vec::new(alloc));
-    runs_to(alloc, &mut source, &mut sink, 0, output)
+    serve_lines(alloc, &First, &mut source, &mut sink) == 0
+        && sink.bytes().len() == count
+        && sink.bytes().ends_with(end)
 }
 
 fn answers(alloc: Global, input: &[u8], output: &[u8]) -> bool {
     match input.to_vec(alloc) {
-        Ok(input) => answers_all(alloc, input, output),
+        Ok(input) => answers_by(alloc, input, output.len(), output),
         Err(_) => false,
     }
 }
@@ -120,24 +111,10 @@ fn long_line(alloc: Global, length: usize, end: &[u8]) -> Result<Vec<u8>, AllocE
     Ok(line)
 }
 
-// Whether `First` answers a long line by this output.
-fn answers_long(alloc: Global, length: usize, end: &[u8], output: &[u8]) -> bool {
+// Whether `First` answers a long line by so many bytes, of which these are the last.
+fn answers_long(alloc: Global, length: usize, end: &[u8], count: usize, last: &[u8]) -> bool {
     match long_line(alloc, length, end) {
-        Ok(input) => answers_all(alloc, input, output),
-        Err(_) => false,
-    }
-}
-
-// Whether `First` answers this input by so many bytes.
-fn answers_by(alloc: Global, input: Vec<u8>, count: usize) -> bool {
-    let mut source = MemSource::new(input, Vec::new(alloc));
-    let mut sink = MemSink::new(alloc, Vec::new(alloc));
-    serve_lines(alloc, &First, &mut source, &mut sink) == 0 && sink.bytes().len() == count
-}
-
-fn answers_long_by(alloc: Global, length: usize, end: &[u8], count: usize) -> bool {
-    match long_line(alloc, length, end) {
-        Ok(input) => answers_by(alloc, input, count),
+        Ok(input) => answers_by(alloc, input, count, last),
         Err(_) => false,
     }
 }
@@ -147,11 +124,11 @@ fn a_line_is_too_long_past_the_limit(rt: HostRuntime) {
     let alloc = rt.alloc();
     shows(
         &rt,
-        answers_long(alloc, LIMIT + 1, b"\nb\n", b"error line\nb\n")
-            && answers_long(alloc, LIMIT, b"\r\nb\n", b"error line\nb\n")
-            && answers_long(alloc, LIMIT + 1, b"", b"error line\n")
-            && answers_long_by(alloc, LIMIT, b"\n", LIMIT + 1)
-            && answers_long_by(alloc, LIMIT - 1, b"\r\n", LIMIT),
+        answers_long(alloc, LIMIT + 1, b"\nb\n", 13, b"error line\nb\n")
+            && answers_long(alloc, LIMIT, b"\r\nb\n", 13, b"error line\nb\n")
+            && answers_long(alloc, LIMIT + 1, b"", 11, b"error line\n")
+            && answers_long(alloc, LIMIT, b"\n", LIMIT + 1, b"a\n")
+            && answers_long(alloc, LIMIT - 1, b"\r\n", LIMIT, b"a\n"),
     );
 }
 
@@ -168,64 +145,52 @@ fn thousand_lines(alloc: Global) -> Result<Vec<u8>, AllocError> {
 // A number that no call has.
 const NEVER: u64 = u64::MAX;
 
-// A source of a thousand lines of which this read fails, and a sink of which this write does.
-fn ends_failing(alloc: Global, read: u64, write: u64) -> Result<(MemSource, MemSink), AllocError> {
-    let source = MemSource::new(thousand_lines(alloc)?, vec![in alloc; read]?);
-    Ok((source, MemSink::new(alloc, vec![in alloc; write]?)))
+// Whether bytes are lines `ab`, of which the last may be cut.
+fn are_replies(bytes: &[u8]) -> bool {
+    let mut all = true;
+    for i in 0..bytes.len() {
+        all = all && bytes[i] == b"ab\n"[i % 3];
+    }
+    all
 }
 
-// Whether a run ends with this status, and has written so much of the whole.
-fn ends_at(
+// Whether a run over a thousand lines of which this read and this write fail ends with this status,
+// and has written so many bytes of the replies.
+fn ends_by(
     alloc: Global,
-    source: MemSource,
-    sink: MemSink,
-    whole: &[u8],
+    read: u64,
+    write: u64,
     status: u8,
     length: usize,
-) -> bool {
-    let mut source = source;
-    let mut sink = sink;
-    serve_lines(alloc, &First, &mut source, &mut sink) == status
-        && sink.bytes().len() == length
-        && whole.starts_with(sink.bytes())
+) -> Result<bool, AllocError> {
+    let mut source = MemSource::new(thousand_lines(alloc)?, vec![in alloc; read]?);
+    let mut sink = MemSink::new(alloc, vec![in alloc; write]?);
+    let ended = serve_lines(alloc, &First, &mut source, &mut sink);
+    Ok(ended == status && sink.bytes().len() == length && are_replies(sink.bytes()))
 }
 
-fn ends_by(alloc: Global, whole: &[u8], read: u64, write: u64, status: u8, length: usize) -> bool {
-    match ends_failing(alloc, read, write) {
-        Ok((source, sink)) => ends_at(alloc, source, sink, whole, status, length),
-        Err(_) => false,
+const ENDS: [(u64, u64, u8, usize); 8] = [
+    (NEVER, NEVER, 0, 3000),
+    (0, NEVER, 3, 0),
+    (1, NEVER, 3, 1755),
+    (2, NEVER, 3, 3000),
+    (3, NEVER, 0, 3000),
+    (NEVER, 0, 4, 0),
+    (NEVER, 1, 4, 1755),
+    (NEVER, 2, 0, 3000),
+];
+
+fn ends_by_each(alloc: Global) -> bool {
+    let mut all = true;
+    for (read, write, status, length) in ENDS {
+        all = ends_by(alloc, read, write, status, length) == Ok(true) && all;
     }
-}
-
-fn ends_by_each(alloc: Global, whole: &[u8]) -> bool {
-    ends_by(alloc, whole, 0, NEVER, 3, 0)
-        && ends_by(alloc, whole, 1, NEVER, 3, 1755)
-        && ends_by(alloc, whole, 2, NEVER, 3, 3000)
-        && ends_by(alloc, whole, 3, NEVER, 0, 3000)
-        && ends_by(alloc, whole, NEVER, 0, 4, 0)
-        && ends_by(alloc, whole, NEVER, 1, 4, 1755)
-        && ends_by(alloc, whole, NEVER, 2, 0, 3000)
-}
-
-// Whether a run is whole where no call fails, and cut by each that does.
-fn is_cut_by_each_fault(alloc: Global, source: MemSource, whole: MemSink) -> bool {
-    let mut source = source;
-    let mut whole = whole;
-    serve_lines(alloc, &First, &mut source, &mut whole) == 0
-        && whole.bytes().len() == 3000
-        && ends_by_each(alloc, whole.bytes())
-}
-
-fn is_cut_in_turn(alloc: Global) -> bool {
-    match ends_failing(alloc, NEVER, NEVER) {
-        Ok((source, whole)) => is_cut_by_each_fault(alloc, source, whole),
-        Err(_) => false,
-    }
+    all
 }
 
 #[test]
 fn each_fault_in_turn(rt: HostRuntime) {
-    shows(&rt, is_cut_in_turn(rt.alloc()));
+    shows(&rt, ends_by_each(rt.alloc()));
 }
 
 fn slow_source(alloc: Global, bytes: &[u8]) -> Result<Slow, AllocError> {
@@ -240,7 +205,9 @@ fn runs_slowly(alloc: Global) -> bool {
         return false;
     };
     let mut sink = MemSink::new(alloc, Vec::new(alloc));
-    runs_to(alloc, &mut source, &mut sink, 0, b"ab\nd\ne\n") && source.most == 4096
+    serve_lines(alloc, &First, &mut source, &mut sink) == 0
+        && sink.bytes() == b"ab\nd\ne\n".as_slice()
+        && source.most == 4096
 }
 
 #[test]
@@ -326,58 +293,50 @@ fn a_program_of_lines_takes_no_words(rt: HostRuntime) {
 
 // Long replies to 200 lines of one piece don't all wait for its end: the second write fails
 // here.
-fn is_written_early(alloc: Global, lines: Vec<u8>, fails: Vec<u64>) -> bool {
-    let mut source = QuietSource::new(lines);
-    let mut sink = MemSink::new(alloc, fails);
-    serve_lines(alloc, &Zeros { count: 1000 }, &mut source, &mut sink) == 4
-        && sink.bytes().len() == 66_000
-        && sink.refused() == 0
-}
-
-fn writes_early(alloc: Global) -> bool {
-    match (vec![in alloc; b'\n'; 200], vec![in alloc; 1]) {
-        (Ok(lines), Ok(fails)) => is_written_early(alloc, lines, fails),
-        _ => false,
-    }
+fn writes_early(alloc: Global) -> Result<bool, AllocError> {
+    let mut source = QuietSource::new(vec![in alloc; b'\n'; 200]?);
+    let mut sink = MemSink::new(alloc, vec![in alloc; 1]?);
+    let status = serve_lines(alloc, &Zeros { count: 1000 }, &mut source, &mut sink);
+    Ok(status == 4 && sink.bytes().len() == 66_000 && sink.refused() == 0)
 }
 
 #[test]
 fn long_replies_are_written_early(rt: HostRuntime) {
-    shows(&rt, writes_early(rt.alloc()));
+    shows(&rt, writes_early(rt.alloc()) == Ok(true));
 }
 
-fn reply_lines(alloc: Global) -> Result<ByteString, AllocError> {
-    let mut text = ByteString::new(alloc);
-    push_number_line(&mut text, b"differs ", 0)?;
-    push_number_line(&mut text, b"", u64::MAX)?;
-    push_hex_line(&mut text, b"record ", b"\x00\xff\xab")?;
-    text.append(ByteString::from_slice(alloc, b"end\n")?)?;
-    Ok(text)
-}
-
-fn is_text(text: &Result<ByteString, AllocError>, wanted: &[u8]) -> bool {
-    match text {
-        Ok(text) => text.as_slice() == wanted,
+fn is_end_put(alloc: Global, text: &mut ByteString) -> bool {
+    match ByteString::from_slice(alloc, b"end\n") {
+        Ok(end) => text.append(end).is_ok(),
         Err(_) => false,
     }
 }
 
-// The bytes of the second of two fields in hexadecimal.
-fn second_bytes(alloc: Global, line: &[u8]) -> Result<ByteString, AllocError> {
-    let fields = all_fields(alloc, line)?;
+fn are_lines_put(alloc: Global) -> bool {
+    let mut text = ByteString::new(alloc);
+    push_number_line(&mut text, b"differs ", 0).is_ok()
+        && push_number_line(&mut text, b"", u64::MAX).is_ok()
+        && push_hex_line(&mut text, b"record ", b"\x00\xff\xab").is_ok()
+        && is_end_put(alloc, &mut text)
+        && text.as_slice() == b"differs 0\n18446744073709551615\nrecord 00ffab\nend\n".as_slice()
+}
+
+// Whether these are the bytes of the second of the fields in hexadecimal.
+fn is_second_field(alloc: Global, line: &[u8], wanted: &[u8]) -> bool {
+    let Ok(fields) = all_fields(alloc, line) else {
+        return false;
+    };
     let mut bytes = ByteString::new(alloc);
-    hex_field(alloc, field_at(&fields, 1), &mut bytes)?;
-    Ok(bytes)
+    hex_field(alloc, field_at(&fields, 1), &mut bytes).is_ok() && bytes.as_slice() == wanted
 }
 
 #[test]
 fn numbers_and_bytes_as_text(rt: HostRuntime) {
     let alloc = rt.alloc();
-    let wanted = b"differs 0\n18446744073709551615\nrecord 00ffab\nend\n";
-    shows(&rt, is_text(&reply_lines(alloc), wanted));
+    let bytes = b"\x00\xff\xab";
     shows(
         &rt,
-        is_text(&second_bytes(alloc, b"record 00fFAb\r"), b"\x00\xff\xab"),
+        are_lines_put(alloc) && is_second_field(alloc, b"record 00fFAb\r", bytes),
     );
 }
 

@@ -6,17 +6,16 @@ use std::alloc::Global;
 use std::env::{Env, FillError};
 use std::io::{self, Error, ErrorKind, Read, Write};
 
-// Fails so many times before it takes or gives one byte at a time.
+// Fails so many times before it gives one byte at a time, or takes so many.
 #[derive(Drop)]
 struct Interrupted {
     failures: u32,
     kind: ErrorKind,
-    calls: u32,
+    takes: usize,
 }
 
 impl Interrupted {
     fn call(&mut self) -> io::Result<()> {
-        self.calls = self.calls.wrapping_add(1);
         if self.failures == 0 {
             return Ok(());
         }
@@ -39,7 +38,7 @@ impl Read for Interrupted {
 impl Write for Interrupted {
     fn write(&mut self, buf: &[u8]) -> io::Result<usize> {
         self.call()?;
-        Ok(buf.len().min(1))
+        Ok(buf.len().min(self.takes))
     }
 
     fn flush(&mut self) -> io::Result<()> {
@@ -51,7 +50,7 @@ fn failing(failures: u32, kind: ErrorKind) -> Interrupted {
     Interrupted {
         failures,
         kind,
-        calls: 0,
+        takes: 1,
     }
 }
 
@@ -101,27 +100,18 @@ fn another_error_is_a_fault(rt: HostRuntime) {
     }
 }
 
-// Takes nothing.
-#[derive(Drop)]
-struct Full;
-
-impl Write for Full {
-    fn write(&mut self, _: &[u8]) -> io::Result<usize> {
-        Ok(0)
-    }
-
-    fn flush(&mut self) -> io::Result<()> {
-        Ok(())
-    }
-}
-
-fn takes_nothing(mut sink: StdSink<Full>) -> bool {
+// Whether a write is a fault of what takes nothing, and one of no bytes isn't.
+fn is_full() -> bool {
+    let mut sink = StdSink::new(Interrupted {
+        takes: 0,
+        ..failing(0, ErrorKind::Other)
+    });
     sink.write(b"a").is_err() && sink.write(b"").ok() == Some(0)
 }
 
 #[test]
 fn a_write_that_takes_nothing_is_a_fault(rt: HostRuntime) {
-    shows(&rt, takes_nothing(StdSink::new(Full)));
+    shows(&rt, is_full());
 }
 
 // The program's name, the word `a`, and one that is too long.

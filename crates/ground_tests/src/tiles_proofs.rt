@@ -82,8 +82,8 @@ fn front(leaves: &[[u8; 32]], count: u64) -> [u8; 32] {
     root_of::<Sha256>(&leaves[..count])
 }
 
-// A digest with each of a proof.
-fn with_proof(before: &[u8; 32], proof: &[[u8; 32]]) -> [u8; 32] {
+/// A digest with each of a proof.
+pub(crate) fn with_proof(before: &[u8; 32], proof: &[[u8; 32]]) -> [u8; 32] {
     let mut all = *before;
     for hash in proof {
         all = Sha256::node(&all, hash);

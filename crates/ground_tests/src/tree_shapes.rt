@@ -1,6 +1,7 @@
 //! The paths and proofs of all trees of up to 33 entries, against a reference program that follows
 //! RFC 9162 to the letter: all of them hashed into one digest.
 use crate::shown::shows;
+use crate::tiles_proofs::with_proof;
 use merkle_store::{Leaves, StoreError, push_path, push_proof};
 use merkle_tree::{Sha256, TreeHash, check_consistency, check_inclusion, root_of};
 use std::alloc::Global;
@@ -40,13 +41,7 @@ fn add(
     {
         return Ok([0; 32]);
     }
-    let mut after = *before;
-    for digest in &path {
-        after = Sha256::node(&after, digest);
-    }
-    for digest in &proof {
-        after = Sha256::node(&after, digest);
-    }
+    let after = with_proof(&with_proof(before, &path), &proof);
     Ok(Sha256::node(&after, &root))
 }
 

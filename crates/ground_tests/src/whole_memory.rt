@@ -1,5 +1,4 @@
 //! Files in memory, which the tests share.
-use std::alloc::{AllocError, Global};
 use whole_files::{Kind, MemFiles};
 
 /// A number that no call has.
@@ -8,14 +7,12 @@ pub(crate) const NEVER: u64 = u64::MAX;
 /// How many paths the files have.
 pub(crate) const COUNT: usize = 4;
 
-/// A file, and what is none. Of the calls that with this number fails, and all from `stop` on.
-pub(crate) fn files(alloc: Global, call: u64, stop: u64) -> Result<MemFiles, AllocError> {
-    let mut files = MemFiles::new(alloc, vec![in alloc; call]?, stop);
-    files.put("at", Kind::Regular, 0o640, b"old")?;
-    files.put("link", Kind::Link, 0o777, b"at")?;
-    files.put("folder", Kind::Folder, 0o755, b"")?;
-    files.put("pipe", Kind::Other, 0o644, b"")?;
-    Ok(files)
+/// Puts there a file, and what is none, if there is memory.
+pub(crate) fn are_put(files: &mut MemFiles) -> bool {
+    files.put("at", Kind::Regular, 0o640, b"old").is_ok()
+        && files.put("link", Kind::Link, 0o777, b"at").is_ok()
+        && files.put("folder", Kind::Folder, 0o755, b"").is_ok()
+        && files.put("pipe", Kind::Other, 0o644, b"").is_ok()
 }
 
 /// Whether these bytes stand at a path.

@@ -1,10 +1,10 @@
 //! Files that are written whole: each call failing in turn, and everything stopping at each.
 use crate::shown::{shows, shows_at};
 use crate::texts::is_text;
-use crate::whole_memory::{COUNT, NEVER, files, has, is_free};
+use crate::whole_memory::{COUNT, NEVER, are_put, has, is_free};
 use std::alloc::Global;
 use whole_files::{
-    FileSystem, Kind, MemFiles, Mode, WriteError, Written, is_input, is_part, make_pair,
+    FileId, FileSystem, Kind, MemFiles, Mode, WriteError, Written, is_input, make_pair,
     make_secret, part_name, write_whole,
 };
 
@@ -37,12 +37,14 @@ enum Fact {
     AnyName,
 }
 
-// One function owns the files, of which each that does has to drop all.
+// Of the calls the one with this number fails, and all from `stop` on. One function owns the files,
+// of which each that does has to drop all.
 fn holds(alloc: Global, fact: Fact, call: u64, stop: u64) -> bool {
-    match files(alloc, call, stop) {
-        Ok(mut files) => holds_of(&mut files, fact, call, stop),
-        Err(_) => false,
-    }
+    let Ok(fails) = vec![in alloc; call] else {
+        return false;
+    };
+    let mut files = MemFiles::new(alloc, fails, stop);
+    are_put(&mut files) && holds_of(&mut files, fact, call, stop)
 }
 
 fn holds_of(files: &mut MemFiles, fact: Fact, call: u64, stop: u64) -> bool {
@@ -63,23 +65,25 @@ fn holds_of(files: &mut MemFiles, fact: Fact, call: u64, stop: u64) -> bool {
     }
 }
 
-fn write(files: &mut MemFiles, path: &str, part: &str) -> Result<Written, WriteError> {
-    if part == path {
-        return Err(WriteError::Taken);
+type Answer = Result<Written, WriteError>;
+
+// Whether a write is answered so.
+fn writes(files: &mut MemFiles, path: &str, part: &str, answer: Answer) -> bool {
+    part != path && write_whole(files, path, part, b"newer") == answer
+}
+
+// What is answered where a call with this number of six fails, and those before `left` leave nothing
+// behind.
+fn answer_at(call: u64, left: u64) -> Answer {
+    if call < left {
+        Err(WriteError::Failed)
+    } else if call < 5 {
+        Err(WriteError::Left)
+    } else if call == 5 {
+        Ok(Written::Unsettled)
+    } else {
+        Ok(Written::Settled)
     }
-    write_whole(files, path, part, b"newer")
-}
-
-fn is_settled(written: Result<Written, WriteError>) -> bool {
-    written == Ok(Written::Settled)
-}
-
-fn is_unsettled(written: Result<Written, WriteError>) -> bool {
-    written == Ok(Written::Unsettled)
-}
-
-fn is_refused(written: Result<Written, WriteError>, error: WriteError) -> bool {
-    written == Err(error)
 }
 
 // Nothing, or all of it.
@@ -89,7 +93,7 @@ fn is_whole(files: &MemFiles, path: &str, bytes: &[u8]) -> bool {
 
 // A file takes the place and the mode of the one that is there.
 fn is_replaced(files: &mut MemFiles) -> bool {
-    is_settled(write(files, "at", "part"))
+    writes(files, "at", "part", Ok(Written::Settled))
         && files.calls() == CALLS_OF_A_WRITE
         && has(files, "at", b"newer")
         && is_free(files, "part")
@@ -100,7 +104,7 @@ fn is_replaced(files: &mut MemFiles) -> bool {
 
 // A file is new, and its mode is left to the mask.
 fn is_written(files: &mut MemFiles) -> bool {
-    is_settled(write(files, "new", "part"))
+    writes(files, "new", "part", Ok(Written::Settled))
         && has(files, "new", b"newer")
         && files.mode("new") == Some(Mode::Masked)
         && files.count() == COUNT + 1
@@ -115,10 +119,11 @@ fn a_file_is_written(rt: HostRuntime) {
 
 // What is no regular file isn't written over, nor is what stands at the name of a part.
 fn are_others_refused(files: &mut MemFiles) -> bool {
-    is_refused(write(files, "link", "part"), WriteError::NotRegular)
-        && is_refused(write(files, "folder", "part"), WriteError::NotRegular)
-        && is_refused(write(files, "pipe", "part"), WriteError::NotRegular)
-        && is_refused(write(files, "at", "pipe"), WriteError::Taken)
+    let irregular = Err(WriteError::NotRegular);
+    writes(files, "link", "part", irregular)
+        && writes(files, "folder", "part", irregular)
+        && writes(files, "pipe", "part", irregular)
+        && writes(files, "at", "pipe", Err(WriteError::Taken))
         && has(files, "link", b"at")
         && has(files, "at", b"old")
         && has(files, "pipe", b"")
@@ -132,13 +137,9 @@ fn a_link_and_a_folder_are_refused(rt: HostRuntime) {
 
 // What comes of a write whose call with this number fails.
 fn write_fails(files: &mut MemFiles, call: u64) -> bool {
-    let written = write(files, "at", "part");
-    let is_told = match call {
-        0..=4 => is_refused(written, WriteError::Failed) && has(files, "at", b"old"),
-        5 => is_unsettled(written) && has(files, "at", b"newer"),
-        _ => is_settled(written) && has(files, "at", b"newer"),
-    };
-    is_told && files.count() == COUNT
+    writes(files, "at", "part", answer_at(call, 5))
+        && has(files, "at", if call < 5 { b"old" } else { b"newer" })
+        && files.count() == COUNT
 }
 
 #[test]
@@ -151,15 +152,9 @@ fn each_call_of_a_write_fails_in_turn(rt: HostRuntime) {
 // What comes of a write where everything stops at a call. Once the part is made, it can't be taken
 // away.
 fn write_stops(files: &mut MemFiles, stop: u64) -> bool {
-    let written = write(files, "at", "part");
-    let is_left = !is_free(files, "part");
-    let is_told = match stop {
-        0 | 1 => is_refused(written, WriteError::Failed) && !is_left,
-        2..=4 => is_refused(written, WriteError::Left) && is_left,
-        5 => is_unsettled(written) && !is_left,
-        _ => is_settled(written) && !is_left,
-    };
-    is_told
+    let is_left = stop > 1 && stop < 5;
+    writes(files, "at", "part", answer_at(stop, 2))
+        && is_free(files, "part") != is_left
         && has(files, "at", if stop < 5 { b"old" } else { b"newer" })
         && has(files, "link", b"at")
 }
@@ -171,23 +166,21 @@ fn everything_stops_at_each_call_of_a_write(rt: HostRuntime) {
     }
 }
 
-fn secret(files: &mut MemFiles, path: &str) -> Result<Written, WriteError> {
-    let part = "part";
-    if part == path {
-        return Err(WriteError::Taken);
-    }
-    make_secret(files, path, part, b"secret")
+// Whether a secret is answered so.
+fn makes(files: &mut MemFiles, path: &str, answer: Answer) -> bool {
+    "part" != path && make_secret(files, path, "part", b"secret") == answer
 }
 
 // Nothing that stands there is replaced, be it a secret.
 fn is_made_once(files: &mut MemFiles) -> bool {
-    is_settled(secret(files, "key"))
+    let taken = Err(WriteError::Taken);
+    makes(files, "key", Ok(Written::Settled))
         && files.calls() == CALLS_OF_A_SECRET
         && has(files, "key", b"secret")
         && files.mode("key") == Some(OWN)
-        && is_refused(secret(files, "key"), WriteError::Taken)
-        && is_refused(secret(files, "link"), WriteError::Taken)
-        && is_refused(secret(files, "at"), WriteError::Taken)
+        && makes(files, "key", taken)
+        && makes(files, "link", taken)
+        && makes(files, "at", taken)
         && has(files, "link", b"at")
         && has(files, "at", b"old")
         && files.count() == COUNT + 1
@@ -200,14 +193,14 @@ fn a_secret_is_made_once(rt: HostRuntime) {
 
 // What comes of a secret whose call with this number fails.
 fn secret_fails(files: &mut MemFiles, call: u64) -> bool {
-    let made = secret(files, "key");
-    let is_told = match call {
-        0..=3 => is_refused(made, WriteError::Failed) && files.count() == COUNT,
-        4 => is_refused(made, WriteError::Left) && files.count() == COUNT + 2,
-        5 => is_unsettled(made) && files.count() == COUNT + 1,
-        _ => is_settled(made) && files.count() == COUNT + 1,
+    let new = match call {
+        0..=3 => 0,
+        4 => 2,
+        _ => 1,
     };
-    is_told && is_whole(files, "key", b"secret")
+    makes(files, "key", answer_at(call, 4))
+        && files.count() == COUNT + new
+        && is_whole(files, "key", b"secret")
 }
 
 #[test]
@@ -219,7 +212,7 @@ fn each_call_of_a_secret_fails_in_turn(rt: HostRuntime) {
 
 // Whether a secret is left that nobody else reads, where everything stops at a call.
 fn is_begun_secretly(files: &mut MemFiles) -> bool {
-    is_refused(secret(files, "key"), WriteError::Left)
+    makes(files, "key", Err(WriteError::Left))
         && files.mode("part") == Some(OWN)
         && is_whole(files, "key", b"secret")
 }
@@ -231,7 +224,7 @@ fn a_secret_that_is_begun_is_secret(rt: HostRuntime) {
     }
 }
 
-fn pair(files: &mut MemFiles) -> Result<Written, WriteError> {
+fn pair(files: &mut MemFiles) -> Answer {
     make_pair(
         files, "key", "key-part", b"secret", "pub", "pub-part", b"shown",
     )
@@ -246,13 +239,17 @@ fn is_pair(files: &MemFiles) -> bool {
 // What comes of a pair whose call with this number fails.
 fn pair_fails(files: &mut MemFiles, call: u64) -> bool {
     let made = pair(files);
-    let is_told = match call {
-        4 | 9 => is_refused(made, WriteError::Left),
-        0..=8 => is_refused(made, WriteError::Failed) && files.count() == COUNT,
-        10 | 11 => is_unsettled(made) && is_pair(files),
-        _ => is_settled(made) && is_pair(files),
+    let answer = match call {
+        4 | 9 => Err(WriteError::Left),
+        0..=8 => Err(WriteError::Failed),
+        10 | 11 => Ok(Written::Unsettled),
+        _ => Ok(Written::Settled),
     };
-    is_told && is_whole(files, "key", b"secret") && is_whole(files, "pub", b"shown")
+    made == answer
+        && (answer != Err(WriteError::Failed) || files.count() == COUNT)
+        && (answer.is_err() || is_pair(files))
+        && is_whole(files, "key", b"secret")
+        && is_whole(files, "pub", b"shown")
 }
 
 #[test]
@@ -281,7 +278,7 @@ fn everything_stops_at_each_call_of_a_pair(rt: HostRuntime) {
 // Half of a pair that is there stays alone.
 fn is_alone(files: &mut MemFiles, path: &str) -> bool {
     files.put(path, Kind::Regular, 0o644, b"mine").is_ok()
-        && is_refused(pair(files), WriteError::Taken)
+        && pair(files) == Err(WriteError::Taken)
         && has(files, path, b"mine")
         && files.count() == COUNT + 1
 }
@@ -293,16 +290,23 @@ fn half_a_pair_that_is_there_stays_alone(rt: HostRuntime) {
     shows(&rt, holds(alloc, Fact::PublicAlone, NEVER, NEVER));
 }
 
+// Whether a path is one of the inputs, or isn't.
+fn is_found(files: &mut MemFiles, path: &str, inputs: &[FileId], found: bool) -> bool {
+    is_input(files, path, inputs) == Ok(found)
+}
+
+fn are_found(files: &mut MemFiles, inputs: &[FileId]) -> bool {
+    is_found(files, "at", inputs, true)
+        && is_found(files, "again", inputs, true)
+        && is_found(files, "pipe", inputs, false)
+        && is_found(files, "nothing", inputs, false)
+}
+
 fn has_any_name(files: &mut MemFiles) -> bool {
-    let Ok(Some(stat)) = files.stat("at") else {
-        return false;
-    };
-    let inputs = [stat.id];
-    files.link("at", "again") == Ok(true)
-        && is_input(files, "at", &inputs) == Ok(true)
-        && is_input(files, "again", &inputs) == Ok(true)
-        && is_input(files, "pipe", &inputs) == Ok(false)
-        && is_input(files, "nothing", &inputs) == Ok(false)
+    match files.stat("at") {
+        Ok(Some(stat)) => files.link("at", "again") == Ok(true) && are_found(files, &[stat.id]),
+        _ => false,
+    }
 }
 
 #[test]
@@ -325,17 +329,9 @@ fn has_part(alloc: Global, row: &str) -> bool {
     }
 }
 
-fn are_no_parts() -> bool {
-    !is_part("0.part")
-        && !is_part("00000000000000ff")
-        && !is_part("00000000000000fg.part")
-        && !is_part("a00000000000000ff.part")
-}
-
 #[test]
 fn parts_have_short_names_in_the_same_folder(rt: HostRuntime) {
     for row in PARTS.lines() {
         shows_at(&rt, row, has_part(rt.alloc(), row));
     }
-    shows(&rt, is_part("00000000000000ff.part") && are_no_parts());
 }
