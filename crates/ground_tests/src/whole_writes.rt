@@ -72,7 +72,7 @@ fn writes(files: &mut MemFiles, path: &str, part: &str, answer: Answer) -> bool 
     part != path && write_whole(files, path, part, b"newer") == answer
 }
 
-// What is answered where a call with this number of six fails, and those before `left` leave nothing
+// What is answered where a call with this number of six fails. Those before `left` leave nothing
 // behind.
 fn answer_at(call: u64, left: u64) -> Answer {
     if call < left {
