@@ -1,4 +1,5 @@
-use Rattle.std.proofs.Common.{rules, ◌≡◌, ◌∙◌, length}
+use Rattle.std.proofs.lemmas.Grind.{common_steps}
+use Rattle.std.proofs.Common.{rules, ◌≡◌, ◌∙◌, length, arith}
 use Rattle.std.proofs.Math.Seq.{take-append_seam}
 use Rattle.slh_manifest.proofs.builder.sign_body.Goals as goal
 
@@ -6,3 +7,9 @@ pub returns : goal.returns
 returns g c =
     let long : c.in_ok-signature.signature.len ≡ length c.sign_checked_into.new.out = search rules in
     rw long (take-append_seam c.sign_checked_into.new.out _ ∙ c.sign_checked_into.ensures)
+
+pub returns-in_err-signature : goal.returns-in_err-signature
+returns-in_err-signature g c = grind (arith, common_steps)
+
+pub sign_checked_into-requires : goal.sign_checked_into-requires
+sign_checked_into-requires g c = grind (arith, common_steps)

@@ -1,3 +1,4 @@
+use Rattle.std.proofs.lemmas.Grind.{common_steps}
 use Rattle.std.proofs.Common.{arith, ◌≡◌, false, None, Some, if◌then◌else◌, [], ◌∙◌, sym, ap}
 use Rattle.slh_manifest.specs.Reading.{are_entries, is_front, rest_after}
 use Rattle.slh_manifest.proofs.Fronts.{front_fits, front_unfit, front_long, entries_unfit, entries_step, rest_step, rest_within}
@@ -24,3 +25,9 @@ each_entry-preserved c =
       within = rest_within _ _ _ c.in_ok-entry.ensures.value c.each_entry.invariant.within;
       short = omega (arith, c.in_ok-entry.ensures.short, c.each_entry.invariant.short);
     }
+
+pub each_entry-init : goal.each_entry-init
+each_entry-init c = grind (arith, common_steps)
+
+pub returns : goal.returns
+returns c = grind (arith, common_steps)

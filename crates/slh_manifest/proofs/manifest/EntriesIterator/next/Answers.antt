@@ -1,3 +1,4 @@
+use Rattle.std.proofs.lemmas.Grind.{common_steps}
 use Rattle.std.proofs.Common.{arith, rules, ◌≡◌, ◌<◌, ◌-◌, ◌∷◌, ◌∙◌, sym}
 use Rattle.slh_manifest.specs.Reading.{entries_in}
 use Rattle.slh_manifest.proofs.Places.{entries_next, entry_of_view, stand_len, stand_next}
@@ -24,3 +25,6 @@ returns-clause-goes c =
     let steps : c.args.self.now ≡ entry_of_view c.in-Some.entry ∷ entries_in (c.self.inside.count - 1) c.in-Some.entry.rest.now
     = sym c.self.view_is ∙ entries_next _ _ c.in-Some.entry some c.in-Some.ensures.value in
     rw steps (search rules)
+
+pub returns-then-self-eq0 : goal.returns-then-self-eq0
+returns-then-self-eq0 c = grind (arith, common_steps)

@@ -1,4 +1,5 @@
-use Rattle.std.proofs.Common.{rules}
+use Rattle.std.proofs.lemmas.Grind.{common_steps}
+use Rattle.std.proofs.Common.{rules, arith}
 use Rattle.std.proofs.lemmas.Iterator.Consumers.{YieldsList-from_first}
 use Rattle.std.proofs.lemmas.Iterator.Search.{find_from_yields_List}
 use Rattle.std.specs.Str.{bytes_eq}
@@ -9,3 +10,6 @@ pub returns : goal.returns
 returns c =
     find_from_yields_List (λ entry. bytes_eq entry.name c.args.name.now) _ _ c.find.result c.find.ensures.ran
     (YieldsList-from_first entry_copied (λ entries. entries) c.args.self.now c.iter.ensures) (λ x b q k. search rules)
+
+pub find-requires : goal.find-requires
+find-requires c = grind (arith, common_steps)

@@ -1,3 +1,5 @@
+use Rattle.std.proofs.Common.{arith}
+use Rattle.std.proofs.lemmas.Grind.{common_steps}
 use Rattle.slh_manifest.proofs.Whole.{are_read, entries_are_of, not_refused, refused_by_signature}
 use Rattle.slh_manifest.proofs.manifest.Manifest.open.Goals as goal
 
@@ -20,3 +22,9 @@ pub returns-clause-entries : goal.returns-clause-entries
 returns-clause-entries g c =
     let found = c.in-Some.ensures in
     entries_are_of c.args.bytes.now c.in-Some.parts.count c.in-Some.parts.entries.now found.count found.entries
+
+pub returns-in_default : goal.returns-in_default
+returns-in_default g c = grind (arith, common_steps)
+
+pub is_valid-requires : goal.is_valid-requires
+is_valid-requires g c = grind (arith, common_steps)
