@@ -28,6 +28,3 @@ climb_all-requires-clause-whole g c = c.requires.whole
 
 pub climb_all-requires-clause-room : goal.climb_all-requires-clause-room
 climb_all-requires-clause-room g c = length-take-le c.roots_len.result _ c.roots_len.ensures.small ∙ c.roots_len.ensures.value
-
-pub t-requires : goal.t-requires
-t-requires g c = grind (arith, common_steps)

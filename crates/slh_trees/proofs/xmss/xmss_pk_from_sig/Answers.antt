@@ -1,14 +1,10 @@
 use Rattle.std.proofs.Common.{arith, ◌≡◌, ap, refl}
-use Rattle.std.proofs.lemmas.Grind.{common_steps}
 use Rattle.slh_trees.specs.Checking.{checked_node}
 use Rattle.slh_trees.proofs.xmss.xmss_pk_from_sig.Goals as goal
 
 pub root_from_auth_path-requires-clause-few : goal.root_from_auth_path-requires-clause-few
 root_from_auth_path-requires-clause-few g c =
     omega (arith, c.H_PRIME-height.ensures, c.tree_sizes.ensures.height_high)
-
-pub root_from_auth_path-requires-clause-enough : goal.root_from_auth_path-requires-clause-enough
-root_from_auth_path-requires-clause-enough g c = grind (arith, common_steps)
 
 pub returns : goal.returns
 unfolding checked_node
