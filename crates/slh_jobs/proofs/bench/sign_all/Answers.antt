@@ -1,3 +1,4 @@
+use Rattle.std.proofs.lemmas.Grind.{common_steps}
 use Rattle.std.proofs.Common.{◌*◌, ◌^◌, ◌≤◌, refl, arith, true, false}
 use Rattle.std.proofs.lemmas.Nat.{mul-le}
 use Rattle.slh_core.specs.Bytes.{joined}
@@ -32,3 +33,9 @@ loop-i-preserved g c =
       ];
       few = elim c.if-sign_one.branch [ then-sign_one w ↦ omega arith | else-sign_one w ↦ omega arith ];
     }
+
+pub sign_one-requires : goal.sign_one-requires
+sign_one-requires g c = grind (arith, common_steps)
+
+pub returns : goal.returns
+returns g c = grind (arith, common_steps)

@@ -1,4 +1,5 @@
-use Rattle.std.proofs.Common.{◌≡◌, length, rules}
+use Rattle.std.proofs.lemmas.Grind.{common_steps}
+use Rattle.std.proofs.Common.{◌≡◌, length, rules, arith}
 use Rattle.slh_jobs.proofs.Signed.{signed_is_judged, written}
 use Rattle.slh_jobs.proofs.judge.sign.Goals as goal
 
@@ -10,3 +11,15 @@ returns g c =
     (rw c.as_slice.ensures at c.in_ok-key.ensures.refusal)
     (rw (c.as_slice-msg.ensures, c.as_slice-ctx.ensures, c.as_bytes-opt_rand.ensures) at c.in_ok-check_sign.ensures.refusal)
     (rw (c.as_slice-msg.ensures, c.as_slice-ctx.ensures, c.as_bytes-opt_rand.ensures, c.in_ok-key.ensures.value, c.as_slice.ensures) at c.sign_checked_into.ensures))
+
+pub returns-in_err-key : goal.returns-in_err-key
+returns-in_err-key g c = grind (arith, common_steps)
+
+pub returns-in_err-check_sign : goal.returns-in_err-check_sign
+returns-in_err-check_sign g c = grind (arith, common_steps)
+
+pub returns-in_err-bytes : goal.returns-in_err-bytes
+returns-in_err-bytes g c = grind (arith, common_steps)
+
+pub sign_checked_into-requires : goal.sign_checked_into-requires
+sign_checked_into-requires g c = grind (arith, common_steps)

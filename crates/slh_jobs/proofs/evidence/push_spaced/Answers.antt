@@ -1,0 +1,9 @@
+use Rattle.std.proofs.Common.{arith}
+use Rattle.std.proofs.lemmas.Grind.{common_steps}
+use Rattle.slh_jobs.proofs.evidence.push_spaced.Goals as goal
+
+pub returns-in_err-push_slice : goal.returns-in_err-push_slice
+returns-in_err-push_slice c = grind (arith, common_steps)
+
+pub returns : goal.returns
+returns c = grind (arith, common_steps)
