@@ -1,4 +1,5 @@
-use Rattle.std.proofs.Common.{◌≡◌, ap, false, rules, true}
+use Rattle.std.proofs.lemmas.Grind.{common_steps}
+use Rattle.std.proofs.Common.{◌≡◌, ap, false, rules, true, arith}
 use Rattle.slh_audit.proofs.Answered.{invalid_told, judged_told, mismatch_told}
 use Rattle.slh_core.specs.Parameters.{Scheme}
 use Rattle.slh_audit.proofs.calls.audit_by_digest.Goals as goal

@@ -1,4 +1,5 @@
-use Rattle.std.proofs.Common.{◌++◌}
+use Rattle.std.proofs.lemmas.Grind.{common_steps}
+use Rattle.std.proofs.Common.{◌++◌, arith}
 use Rattle.slh_audit.proofs.Answered.{by_digest}
 use Rattle.slh_audit.proofs.calls.audit_message.Goals as goal
 

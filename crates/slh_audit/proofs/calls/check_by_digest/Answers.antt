@@ -1,4 +1,5 @@
-use Rattle.std.proofs.Common.{ap}
+use Rattle.std.proofs.lemmas.Grind.{common_steps}
+use Rattle.std.proofs.Common.{ap, arith}
 use Rattle.slh_audit.proofs.Answered.{shows_told}
 use Rattle.slh_core.specs.Parameters.{Scheme}
 use Rattle.slh_audit.proofs.calls.check_by_digest.Goals as goal

@@ -1,3 +1,5 @@
+use Rattle.std.proofs.Common.{arith}
+use Rattle.std.proofs.lemmas.Grind.{common_steps}
 use Rattle.slh_audit.proofs.Answered.{genuine_by_parts, verdict_by_search}
 use Rattle.slh_audit.proofs.calls.digest_verdict.Goals as goal
 
