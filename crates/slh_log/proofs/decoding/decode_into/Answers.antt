@@ -1,3 +1,4 @@
+use Rattle.std.proofs.lemmas.Grind.{common_steps}
 use Rattle.std.proofs.Common.{◌≡◌, length, arith}
 use Rattle.base64.specs.Engines.{standard}
 use Rattle.base64.specs.GeneralPurpose.{encoded_size_of}
@@ -11,3 +12,6 @@ returns-in-Ok c =
     let size : length line ≡ encoded_size_of standard (length old) = omega (arith, c.div_ceil.ensures, c.if-line-div_ceil.false) in
     filled line old c.decode_slice.new.output c.decode_slice.result c.in-Ok.len size c.decode_slice.ensures.value c.in-Ok.is
     c.decode_slice.auto.output c.in-Ok.ensures.written
+
+pub returns-then-line-div_ceil : goal.returns-then-line-div_ceil
+returns-then-line-div_ceil c = grind (arith, common_steps)

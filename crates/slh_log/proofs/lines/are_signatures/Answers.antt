@@ -1,4 +1,5 @@
-use Rattle.std.proofs.Common.{◌≡◌, ◌∷◌, false, sym, ◌∙◌, ap, take}
+use Rattle.std.proofs.lemmas.Grind.{common_steps}
+use Rattle.std.proofs.Common.{◌≡◌, ◌∷◌, false, sym, ◌∙◌, ap, take, arith}
 use Rattle.std.specs.Prelude.{◌&&◌}
 use Rattle.line_serve.specs.Lines.{parts}
 use Rattle.slh_log.proofs.Cut.{compared, signatures_end, signatures_on, some_parts}
@@ -26,3 +27,6 @@ pub returns : goal.returns
 returns c =
     c.is_empty.ensures
     ∙ sym (c.each_line.invariant ∙ ap are_signatures c.in_default.ensures.cut ∙ signatures_end c.each_line.rest.now)
+
+pub each_line-init : goal.each_line-init
+each_line-init c = grind (arith, common_steps)

@@ -1,3 +1,4 @@
+use Rattle.std.proofs.lemmas.Grind.{common_steps}
 use Rattle.std.proofs.Common.{◌≡◌, ◌+◌, ◌-◌, ◌∷◌, length, take, false, sym, ◌∙◌, ap, arith}
 use Rattle.std.specs.Prelude.{◌==◌}
 use Rattle.std.proofs.lemmas.Bool.Decides.{Decides-eqb}
@@ -38,3 +39,6 @@ each_line-preserved c =
 pub returns-clause-cut : goal.returns-clause-cut
 returns-clause-cut c =
     ap are_signatures (c.each_line.invariant.after ∙ ap after_text c.in_default.ensures.cut ∙ after_last c.each_line.rest.now) ∙ no_signatures
+
+pub each_line-init : goal.each_line-init
+each_line-init c = grind (arith, common_steps)

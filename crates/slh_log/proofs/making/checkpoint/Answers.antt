@@ -1,3 +1,4 @@
+use Rattle.std.proofs.lemmas.Grind.{common_steps}
 use Rattle.std.proofs.Common.{◌≡◌, ◌≤◌, ◌^◌, length, ap, ◌∙◌, arith, lit≤}
 use Rattle.slh_log.proofs.MadeNote.{text_short}
 use Rattle.slh_log.specs.Texts.{checkpoint_text}
@@ -14,3 +15,12 @@ signed_text-requires g c =
         message_fits = omega (arith, short, same);
       };
     }
+
+pub returns-in_err-note : goal.returns-in_err-note
+returns-in_err-note g c = grind (arith, common_steps)
+
+pub returns-in_err-signed : goal.returns-in_err-signed
+returns-in_err-signed g c = grind (arith, common_steps)
+
+pub returns-in_err-push_line : goal.returns-in_err-push_line
+returns-in_err-push_line g c = grind (arith, common_steps)

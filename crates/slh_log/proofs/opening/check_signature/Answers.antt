@@ -1,4 +1,5 @@
-use Rattle.std.proofs.Common.{◌≡◌, ◌+◌, List, length, drop, true, false, Some, None, subst, sym, ◌∙◌, ap}
+use Rattle.std.proofs.lemmas.Grind.{common_steps}
+use Rattle.std.proofs.Common.{◌≡◌, ◌+◌, List, length, drop, true, false, Some, None, subst, sym, ◌∙◌, ap, arith}
 use Rattle.std.specs.Prelude.{if◌then◌else◌}
 use Rattle.line_serve.specs.Lines.{parts}
 use Rattle.line_serve.proofs.Fronts.{to_end}
@@ -58,3 +59,6 @@ returns g c =
     let fills : Fills read true out = subst (λ d. Fills read d out) c.if-not-find_signature.false c.find_signature.ensures in
     let valid : is_valid Z Pure key log_context text (drop 4 out) ≡ true = ap (is_valid Z Pure key log_context text) (sym (to_end out 4)) ∙ sym c.is_valid.ensures ∙ c.if-not-is_valid.false in
     ap (signature_refusal Z key text) (sym is ∙ is_filled read out fills) ∙ ap (λ b. if b then None else Some Invalid) valid
+
+pub is_valid-requires : goal.is_valid-requires
+is_valid-requires g c = grind (arith, common_steps)

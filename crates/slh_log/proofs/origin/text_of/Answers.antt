@@ -1,4 +1,5 @@
-use Rattle.std.proofs.Common.{◌≡◌, List, ℕ, [], refl, inl, inr}
+use Rattle.std.proofs.lemmas.Grind.{common_steps}
+use Rattle.std.proofs.Common.{◌≡◌, List, ℕ, [], refl, inl, inr, arith}
 use Rattle.std.specs.Str.{IsUtf8, is_utf8}
 use Rattle.std.proofs.lemmas.Bool.{cases_Bool}
 use Rattle.std.proofs.lemmas.Str.{IsUtf8-from_is_utf8, is_utf8-from_IsUtf8}
@@ -21,3 +22,6 @@ returns-in-Ok c = rw c.in-Ok.ensures.cases.0 (is_text c.args.bytes.now c.in-Ok.e
 
 pub returns-in-Err : goal.returns-in-Err
 returns-in-Err c = is_none c.args.bytes.now c.in-Err.ensures.cases.0
+
+pub returns-in-Ok-text : goal.returns-in-Ok-text
+returns-in-Ok-text c = grind (arith, common_steps)

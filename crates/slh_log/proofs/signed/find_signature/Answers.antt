@@ -1,4 +1,5 @@
-use Rattle.std.proofs.Common.{◌≡◌, ◌∷◌, length, true, false, None, subst, sym, ◌∙◌, ap, refl}
+use Rattle.std.proofs.lemmas.Grind.{common_steps}
+use Rattle.std.proofs.Common.{◌≡◌, ◌∷◌, length, true, false, None, subst, sym, ◌∙◌, ap, refl, arith}
 use Rattle.line_serve.specs.Lines.{parts}
 use Rattle.slh_log.proofs.Cut.{some_parts}
 use Rattle.slh_log.proofs.Signatures.{Fills, first_fills, first_none, own_end, own_on}
@@ -42,3 +43,6 @@ returns c =
     let own = own_signature n c.args.name.now c.args.id.now in
     let is = c.each_line.invariant.left ∙ ap own c.in_default.ensures.cut ∙ own_end n c.args.name.now c.args.id.now c.each_line.rest.now in
     subst (λ v. Fills v false c.each_line.out) (sym is) refl
+
+pub each_line-init : goal.each_line-init
+each_line-init c = grind (arith, common_steps)

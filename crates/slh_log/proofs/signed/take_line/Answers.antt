@@ -1,4 +1,5 @@
-use Rattle.std.proofs.Common.{◌≡◌, ◌∷◌, [], length, true, false, subst, sym, ◌∙◌, take}
+use Rattle.std.proofs.lemmas.Grind.{common_steps}
+use Rattle.std.proofs.Common.{◌≡◌, ◌∷◌, [], length, true, false, subst, sym, ◌∙◌, take, arith}
 use Rattle.slh_log.proofs.Cut.{compared}
 use Rattle.slh_log.proofs.Signatures.{Fills, not_taken, stripped, taken}
 use Rattle.slh_log.specs.Reading.{bytes_value, signature_in}
@@ -33,3 +34,12 @@ returns-else-decode_into c =
     (stripped c.args.name.now named spaced c.in-Some-strip_prefix.ensures.cases.0 c.in-Some-strip_prefix.ensures.cases.1)
     (stripped (32 ∷ []) spaced symbols c.in-Some-strip_prefix-2.ensures.cases.0 c.in-Some-strip_prefix-2.ensures.cases.1)
     none)
+
+pub returns-in_default : goal.returns-in_default
+returns-in_default c = grind (arith, common_steps)
+
+pub returns-in_default-strip_prefix : goal.returns-in_default-strip_prefix
+returns-in_default-strip_prefix c = grind (arith, common_steps)
+
+pub returns-in_default-strip_prefix-2 : goal.returns-in_default-strip_prefix-2
+returns-in_default-strip_prefix-2 c = grind (arith, common_steps)
