@@ -1,5 +1,5 @@
 //! Messages of a batch in pieces.
-use crate::digests::is_digest;
+use crate::digests::is_hex;
 use crate::shown::{shows, shows_at};
 use slh_batch::{Batch, MessageHasher};
 use std::alloc::Global;
@@ -31,15 +31,12 @@ fn is_taken(alloc: Global, len: usize) -> Option<bool> {
     let digest = digest_by(len)?;
     let mut batch = Batch::new(alloc);
     batch.push_digest(&digest).ok()?;
-    Some(is_digest(&digest, OF_BYTES) && batch.digests() == [digest].as_slice())
+    Some(is_hex(&digest, OF_BYTES) && batch.digests() == [digest].as_slice())
 }
 
 #[test]
 fn digests_of_pieces_are_those_of_another_program(rt: HostRuntime) {
-    shows(
-        &rt,
-        is_digest(&MessageHasher::default().finish(), OF_NOTHING),
-    );
+    shows(&rt, is_hex(&MessageHasher::default().finish(), OF_NOTHING));
     for len in [1, 63, 64, 200] {
         shows_at(&rt, len, is_taken(rt.alloc(), len) == Some(true));
     }

@@ -1,5 +1,5 @@
 //! Trees and paths of batches that another program computed.
-use crate::digests::{has_digest, is_digest};
+use crate::digests::{has_digest, is_hex};
 use crate::page_of_batches::{batch_of, sealed};
 use crate::shown::shows_at;
 use slh_batch::Sealed;
@@ -38,7 +38,7 @@ fn fronts(alloc: Global, batch: &Sealed<Sha2_128f>) -> Option<Vec<u8>> {
 // Whether a batch has its row.
 fn has_row(alloc: Global, batch: &Sealed<Sha2_128f>, row: &str) -> Option<bool> {
     let (root, digest) = row.split_once(' ')?;
-    Some(is_digest(batch.root(), root) && has_digest(&fronts(alloc, batch)?, digest))
+    Some(is_hex(batch.root(), root) && has_digest(&fronts(alloc, batch)?, digest))
 }
 
 // The batch of these messages, sealed by the signature of an earlier seal.

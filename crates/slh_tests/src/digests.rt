@@ -1,16 +1,20 @@
-//! Digests as text.
+//! Digests and other bytes as text.
 use hmac_sha256::Hash;
 
 // More bytes than any that are hashed here have.
 const MOST: usize = 50_000;
 
-/// Whether a text is the digest in hexadecimal.
-pub(crate) fn is_digest(digest: &[u8; 32], text: &str) -> bool {
-    let mut bytes = [0; 32];
-    hex::decode_to_slice(text, &mut bytes).is_ok() && bytes == *digest
+// As many bytes as the longest text has.
+const LONGEST: usize = 208;
+
+/// Whether a text is some bytes in hexadecimal.
+pub(crate) fn is_hex(bytes: &[u8], text: &str) -> bool {
+    let mut wanted = [0; LONGEST];
+    let wanted = &mut wanted[..bytes.len().min(LONGEST)];
+    hex::decode_to_slice(text, wanted).is_ok() && &*wanted == bytes
 }
 
 /// Whether a text is the SHA-256 of some bytes in hexadecimal.
 pub(crate) fn has_digest(bytes: &[u8], text: &str) -> bool {
-    bytes.len() < MOST && is_digest(&Hash::hash(bytes), text)
+    bytes.len() < MOST && is_hex(&Hash::hash(bytes), text)
 }
