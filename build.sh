@@ -75,6 +75,13 @@ for_prover() {
     export MIMALLOC_PURGE_DELAY=-1
 }
 
+# workers: so many crates side by side as there are processors, and 5 GB of memory for each
+workers() {
+    awk -v processors="$(nproc)" '
+        $1 == "MemAvailable:" { n = int($2 / 5000000) }
+        END { if (n > processors) n = processors; print n < 1 ? 1 : n }' /proc/meminfo
+}
+
 # is_built FILE SUM: whether a file is there that was built from sources of this sum by this
 # toolchain, or by any where there is none
 is_built() {
