@@ -160,6 +160,8 @@ build() {
         say "proving and building $1 for $cpu, which takes long the first time (docs/BUILD.md)"
         cd "$top/crates/$1" || exit 1
         for_prover
+        # the crates below side by side: what follows proves what is left, one crate after the other
+        rt all check --jobs "$(workers)" </dev/null >&2 || :
         # without words the command for people ends with status 2
         if [ "$1" = slh ]; then
             rt run --cpu "$cpu" -- --version </dev/null >&2 || exit 1
