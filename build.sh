@@ -75,7 +75,7 @@ for_prover() {
     export MIMALLOC_PURGE_DELAY=-1
 }
 
-# workers: so many crates side by side as there are processors, and 5 GB of memory for each
+# workers: how many crates can be proved side by side: one a processor, with 5 GB of memory for each
 workers() {
     awk -v processors="$(nproc)" '
         $1 == "MemAvailable:" { n = int($2 / 5000000) }
@@ -160,7 +160,8 @@ build() {
         say "proving and building $1 for $cpu, which takes long the first time (docs/BUILD.md)"
         cd "$top/crates/$1" || exit 1
         for_prover
-        # the crates below side by side: what follows proves what is left, one crate after the other
+        # The crates side by side. What this leaves, for want of memory say, the command after it proves, one
+        # after the other; it also tells what fails.
         rt all check --jobs "$(workers)" </dev/null >&2 || :
         # without words the command for people ends with status 2
         if [ "$1" = slh ]; then
