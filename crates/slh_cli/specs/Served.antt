@@ -2,7 +2,7 @@
 use Rattle.std.specs.Prelude.{◌≡◌, ◌≢◌, ◌⊎◌, ℕ, ◌<◌, ◌^◌, List, [], length, Option, None, IfSome, IsSomeAnd}
 use Rattle.line_serve.specs.Causes.{Rose}
 use Rattle.line_serve.specs.Served.{AnswersAll, Served}
-use Rattle.slh_jobs.specs.Bench.{TellsBench, bench_of}
+use Rattle.slh_bench.specs.Bench.{TellsBench, bench_of}
 use Rattle.slh_run.specs.Reply.{reply_of_line}
 use Rattle.slh_run.specs.Usage.{TellsUsage}
 

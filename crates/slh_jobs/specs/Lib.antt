@@ -1,5 +1,4 @@
 pub mod Judgement
 pub mod Errors
 pub mod EvidenceWords
-pub mod Bench
 pub mod EvidenceNumbers

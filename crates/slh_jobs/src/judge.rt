@@ -11,7 +11,6 @@ use line_serve::ByteString;
 use slh_audit::{AuditError, Evidence, hash_audit, hash_check_evidence};
 use slh_core::params::chain_sizes;
 use slh_dsa::{Mode, ParameterSet, SigningKey, VerifyingKey};
-use slh_line::as_bytes;
 use slh_sets::{OnSet, Set, SetSuite};
 use std::alloc::{AllocError, Global};
 
@@ -82,7 +81,8 @@ fn sign<P: ParameterSet>(
 ) -> Result<Answer, Error>
     ensures { IsJudged P.scheme (Sign mode key.now context.now message.now randomizer.now) result }
 {
-    let (msg, ctx, opt_rand) = (message.as_slice(), context.as_slice(), as_bytes(randomizer));
+    let (msg, ctx) = (message.as_slice(), context.as_slice());
+    let opt_rand = randomizer.as_ref().map(|bytes| bytes.as_slice());
     let key = SigningKey::<P>::try_from(key.as_slice())?;
     SigningKey::<P>::check_sign(msg, ctx, opt_rand)?;
     let mut bytes = ByteString::zeroed(alloc, P::SIG_LEN)?;

@@ -1,21 +1,18 @@
-//! Jobs of SLH-DSA and their answers, the report of a bench, and evidence in words.
+//! Jobs of SLH-DSA and their answers, and evidence in words.
 //!
 //! [`run`] answers one [`Job`] of a [`Set`], [`run_set`] one of a set that is a type. A job is
 //! refused for the first cause in the order of [`Error`]. `slh_run` answers the jobs of lines, and
 //! the command `slh` those of files.
 //!
-//! [`read_bench`] and [`run_bench`] are the bench of `slh_cli` (docs/LINES.md). [`push_evidence`]
-//! writes what an audit prints, and [`read_evidence`] reads it for a check.
+//! [`push_evidence`] writes what an audit prints, and [`read_evidence`] reads it for a check.
 #![tactic(auto)]
 
-mod bench;
 pub mod clones;
 mod evidence;
 mod job;
 mod judge;
 pub mod laws;
 
-pub use bench::{Bench, read_bench, run_bench};
 pub use evidence::{push_evidence, read_evidence};
 pub use job::{Answer, Error, Job};
 pub use judge::{run, run_set};

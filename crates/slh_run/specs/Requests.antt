@@ -1,6 +1,7 @@
 -- What a job line asks for, by its fields (docs/LINES.md).
-use Rattle.std.specs.Prelude.{◌==◌, ℕ, List, length, drop, Bool, true, Option, None, Some}
+use Rattle.std.specs.Prelude.{◌==◌, ℕ, List, [], ◌∷◌, length, drop, Bool, true, Option, None, Some}
 use Rattle.std.specs.Prelude.{Result, Ok, Err, codes, if◌then◌else◌}
+use Rattle.std.specs.List.{find}
 use Rattle.std.specs.Str.{bytes_eq}
 use Rattle.line_serve.specs.Fields.{field_at}
 use Rattle.slh_frames.specs.declared.frame.Mode.TheVariants.{Pure, Sha256, Sha512}
@@ -16,22 +17,32 @@ use Rattle.slh_run.specs.declared.request.KeyedMessage.{KeyedMessage}
 
 -- The commands, by their names. All but keygen may end with the hash function by whose digest the
 -- message is signed
-abbrev pub command_named : List ℕ → Option Command
-command_named name =
-    if bytes_eq name (codes "keygen") then Some Keygen
-    else if bytes_eq name (codes "sign") then Some (Sign Pure)
-    else if bytes_eq name (codes "sign-sha256") then Some (Sign Sha256)
-    else if bytes_eq name (codes "sign-sha512") then Some (Sign Sha512)
-    else if bytes_eq name (codes "verify") then Some (Verify Pure)
-    else if bytes_eq name (codes "verify-sha256") then Some (Verify Sha256)
-    else if bytes_eq name (codes "verify-sha512") then Some (Verify Sha512)
-    else if bytes_eq name (codes "audit") then Some (Audit Pure)
-    else if bytes_eq name (codes "audit-sha256") then Some (Audit Sha256)
-    else if bytes_eq name (codes "audit-sha512") then Some (Audit Sha512)
-    else if bytes_eq name (codes "check") then Some (Check Pure)
-    else if bytes_eq name (codes "check-sha256") then Some (Check Sha256)
-    else if bytes_eq name (codes "check-sha512") then Some (Check Sha512)
-    else None
+abbrev pub command_name : Command → List ℕ
+command_name Keygen = codes "keygen"
+command_name (Sign Pure) = codes "sign"
+command_name (Sign Sha256) = codes "sign-sha256"
+command_name (Sign Sha512) = codes "sign-sha512"
+command_name (Verify Pure) = codes "verify"
+command_name (Verify Sha256) = codes "verify-sha256"
+command_name (Verify Sha512) = codes "verify-sha512"
+command_name (Audit Pure) = codes "audit"
+command_name (Audit Sha256) = codes "audit-sha256"
+command_name (Audit Sha512) = codes "audit-sha512"
+command_name (Check Pure) = codes "check"
+command_name (Check Sha256) = codes "check-sha256"
+command_name (Check Sha512) = codes "check-sha512"
+
+abbrev pub all_commands : List Command
+all_commands =
+    Keygen
+    ∷ Sign Pure ∷ Sign Sha256 ∷ Sign Sha512
+    ∷ Verify Pure ∷ Verify Sha256 ∷ Verify Sha512
+    ∷ Audit Pure ∷ Audit Sha256 ∷ Audit Sha512
+    ∷ Check Pure ∷ Check Sha256 ∷ Check Sha512 ∷ []
+
+-- the command with a name, if there is one
+unfoldable pub command_named : List ℕ → Option Command
+command_named name = find (λ command. bytes_eq name (command_name command)) all_commands
 
 -- how many fields the line of a command has
 --   SET keygen SEED PRF PKSEED

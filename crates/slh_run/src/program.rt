@@ -4,13 +4,13 @@ ghost use Rattle.std.specs.Prelude.{◌≡◌, ◌≢◌, ◌⊎◌, ◌<◌, �
 ghost use Rattle.std.specs.Prelude.{IsSomeAnd};
 ghost use Rattle.line_serve.specs.Causes.{Rose};
 ghost use Rattle.line_serve.specs.Served.{AnswersAll, Served};
-ghost use Rattle.slh_jobs.specs.Bench.{TellsBench, bench_of};
+ghost use Rattle.slh_bench.specs.Bench.{TellsBench, bench_of};
 ghost use Rattle.slh_run.specs.Reply.{reply_of_line};
 ghost use Rattle.slh_run.specs.Usage.{TellsUsage};
 
 use crate::reply::Jobs;
 use line_serve::{Sink, Source, Words, serve_words};
-use slh_jobs::{read_bench, run_bench};
+use slh_bench::{read_bench, run_bench};
 use slh_line::Lines;
 use std::alloc::Global;
 

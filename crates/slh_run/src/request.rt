@@ -1,9 +1,12 @@
 //! What a job line asks for.
 ghost use Rattle.std.specs.Prelude.{◌≡◌, ◌⊎◌, Err, drop};
+ghost use Rattle.std.specs.List.{find};
+ghost use Rattle.std.specs.Str.{bytes_eq};
 ghost use Rattle.line_serve.specs.Fields.{contents};
 ghost use Rattle.slh_line.specs.declared.line_error.LineError.TheVariants.{Memory};
 ghost use Rattle.slh_jobs.specs.EvidenceWords.{evidence_in};
-ghost use Rattle.slh_run.specs.Requests.{command_named, job_at, job_of, keyed_message_of};
+ghost use Rattle.slh_run.specs.Requests.{command_name, command_named, job_at, job_of};
+ghost use Rattle.slh_run.specs.Requests.{keyed_message_of};
 ghost use Rattle.slh_run.specs.declared.request.Command.TheVariants.{Keygen, Sign, Verify, Audit};
 ghost use Rattle.slh_run.specs.declared.request.Command.TheVariants.{Check};
 
@@ -32,39 +35,58 @@ pub(crate) enum Command {
 }
 
 impl Command {
+    // All commands.
+    const ALL: [Command; 13] = [
+        Command::Keygen,
+        Command::Sign(Mode::Pure),
+        Command::Sign(Mode::Sha256),
+        Command::Sign(Mode::Sha512),
+        Command::Verify(Mode::Pure),
+        Command::Verify(Mode::Sha256),
+        Command::Verify(Mode::Sha512),
+        Command::Audit(Mode::Pure),
+        Command::Audit(Mode::Sha256),
+        Command::Audit(Mode::Sha512),
+        Command::Check(Mode::Pure),
+        Command::Check(Mode::Sha256),
+        Command::Check(Mode::Sha512),
+    ];
+
+    fn name(self) -> &'static [u8]
+        ensures { result.now ≡ command_name self }
+    {
+        match self {
+            Command::Keygen => b"keygen",
+            Command::Sign(Mode::Pure) => b"sign",
+            Command::Sign(Mode::Sha256) => b"sign-sha256",
+            Command::Sign(Mode::Sha512) => b"sign-sha512",
+            Command::Verify(Mode::Pure) => b"verify",
+            Command::Verify(Mode::Sha256) => b"verify-sha256",
+            Command::Verify(Mode::Sha512) => b"verify-sha512",
+            Command::Audit(Mode::Pure) => b"audit",
+            Command::Audit(Mode::Sha256) => b"audit-sha256",
+            Command::Audit(Mode::Sha512) => b"audit-sha512",
+            Command::Check(Mode::Pure) => b"check",
+            Command::Check(Mode::Sha256) => b"check-sha256",
+            Command::Check(Mode::Sha512) => b"check-sha512",
+        }
+    }
+
+    #[tactic(auto, unfolding(crate::specs::Requests::command_named))]
     fn from_name(name: &[u8]) -> Option<Command>
         ensures { result ≡ command_named name.now }
     {
-        if name == b"keygen".as_slice() {
-            Some(Command::Keygen)
-        } else if name == b"sign".as_slice() {
-            Some(Command::Sign(Mode::Pure))
-        } else if name == b"sign-sha256".as_slice() {
-            Some(Command::Sign(Mode::Sha256))
-        } else if name == b"sign-sha512".as_slice() {
-            Some(Command::Sign(Mode::Sha512))
-        } else if name == b"verify".as_slice() {
-            Some(Command::Verify(Mode::Pure))
-        } else if name == b"verify-sha256".as_slice() {
-            Some(Command::Verify(Mode::Sha256))
-        } else if name == b"verify-sha512".as_slice() {
-            Some(Command::Verify(Mode::Sha512))
-        } else if name == b"audit".as_slice() {
-            Some(Command::Audit(Mode::Pure))
-        } else if name == b"audit-sha256".as_slice() {
-            Some(Command::Audit(Mode::Sha256))
-        } else if name == b"audit-sha512".as_slice() {
-            Some(Command::Audit(Mode::Sha512))
-        } else if name == b"check".as_slice() {
-            Some(Command::Check(Mode::Pure))
-        } else if name == b"check-sha256".as_slice() {
-            Some(Command::Check(Mode::Sha256))
-        } else if name == b"check-sha512".as_slice() {
-            Some(Command::Check(Mode::Sha512))
-        } else {
-            None
-        }
+        first_named(&Command::ALL, name)
     }
+}
+
+fn first_named(commands: &[Command], name: &[u8]) -> Option<Command>
+    ensures { result ≡ find (λ command. bytes_eq name.now (command_name command)) commands.now }
+{
+    commands
+        .iter()
+        .copied()
+        .find(|command| name == command.name())
 }
 
 fn read_keyed_message(alloc: Global, fields: &[&[u8]]) -> Result<KeyedMessage, LineError>
