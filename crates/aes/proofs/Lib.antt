@@ -1,0 +1,12 @@
+pub mod Adding
+pub mod Blocks
+pub mod Bytes
+pub mod Chaining
+pub mod Linear
+pub mod Messages
+pub mod Multiplying
+pub mod Padding
+pub mod Rounds
+pub mod Tables
+pub mod Undone
+pub mod Words
