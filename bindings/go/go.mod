@@ -1,0 +1,3 @@
+module vireoamalgam.example/slhdsa
+
+go 1.19
