@@ -4,3 +4,4 @@ pub mod Spans
 pub mod Bits
 pub mod Places
 pub mod Reading
+pub mod Told

@@ -12,25 +12,34 @@ use merkle_tree::{DIGEST_LEN, TreeHash};
 
 /// Where tiles are read, as the files of a folder or those of a server. Nothing is believed of what
 /// it gives.
-pub trait TileSource {
-    ghost use Rattle.std.specs.Prelude.{◌≡◌, Bool, false};
+pub trait TileSource<H: TreeHash> {
+    ghost use Rattle.std.specs.Prelude.{◌≡◌, Bool, IsTrue, List, ℕ, false};
     ghost use Rattle.std.specs.Bool.{OnFalse};
+    ghost use Rattle.log_tiles.specs.Source.{AreHashesOf};
     ghost use Rattle.log_tiles.specs.declared.names.Tile.{Tile};
 
-    /// Whether it promises a tile, whatever its bytes are.
+    /// Whether it tells the hashes of a log. Where it doesn't, nothing is said of what it gives.
+    ghost tells: { Bool };
+
+    /// Whether it promises a tile, whatever its hashes are.
     ghost has: { Self → Tile → Bool };
 
-    /// Puts the bytes of a tile in `out`, which has 32 for each of its hashes. False where there is
-    /// no such tile, or where it has more bytes or fewer. A log that grew may have the full tile
+    /// The digests of the log's entries, where it tells them: of as many as the log will ever have.
+    ghost digest: { Self → ℕ → List ℕ };
+
+    /// Puts the hashes of a tile in `out`, which has a place for each of them. False where there is
+    /// no such tile, or where it has more hashes or fewer. A log that grew may have the full tile
     /// alone where a partial one is asked for, which is the front of it.
-    fn read(&self, tile: Tile, out: &mut [u8]) -> bool
-        ensures { OnFalse result (has self.now tile ≡ false) };
+    fn read(&self, tile: Tile, out: &mut [[u8; DIGEST_LEN]]) -> bool
+        ensures given { OnFalse result (has self.now tile ≡ false) }
+        ensures told { IsTrue tells → IsTrue result
+            → AreHashesOf H.hash (digest self.now) tile out.new };
 }
 
 /// The tiles of a log of `size` entries, as a store of nodes that isn't believed. Each node is made
 /// of one tile, which is read into 8 KiB and not kept.
 #[derive(Drop)]
-pub struct StoredTiles<'a, S: TileSource> {
+pub struct StoredTiles<'a, S> {
     /// Where the tiles are read.
     pub source: &'a S,
     /// How many entries the log has.
@@ -64,23 +73,22 @@ pub(crate) fn tile_at(place: &NodePlace, size: u64) -> Tile
     }
 }
 
-impl<'a, H: TreeHash, S: TileSource> Nodes<H> for StoredTiles<'a, S> {
-    ghost use Rattle.std.specs.Prelude.{false, [], replicate};
-    ghost use Rattle.log_tiles.specs.Source.{tile_under};
+impl<'a, H: TreeHash, S: TileSource<H>> Nodes<H> for StoredTiles<'a, S> {
+    ghost use Rattle.log_tiles.specs.Source.{first_digests, tile_under};
 
-    ghost tells = { false };
+    ghost tells = { S.tells };
 
     ghost gives = { λ s height index. S.has s.source.now (tile_under s.size height index) };
 
-    ghost digests = { λ s. replicate s.size [] };
+    ghost digests = { λ s. first_digests (S.digest s.source.now) s.size };
 
     fn node(&self, level: u32, index: u64) -> Option<[u8; DIGEST_LEN]> {
         let size = self.size;
         let place = node_place(level, index);
         let tile = tile_at(&place, size);
-        let mut hashes = [[0; DIGEST_LEN]; FULL as usize];
-        let bytes = hashes[..tile.width as usize].as_flattened_mut();
-        if !self.source.read(tile, bytes) {
+        let mut room = [[0; DIGEST_LEN]; FULL as usize];
+        let hashes = &mut room[..tile.width as usize];
+        if !self.source.read(tile, hashes) {
             return None;
         }
         let under = &hashes[place.start..place.start + place.len];
