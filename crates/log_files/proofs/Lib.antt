@@ -2,3 +2,6 @@ mod Steps
 mod Kept
 mod Levels
 mod Separate
+mod TileNames
+mod Apart
+mod OwnNames

@@ -35,3 +35,11 @@ all_of ps n few first i p is = elim (cases_lt i n) [
       let no : Some p ≡ None = sym is ∙ slice_get_past ps i (omega (arith, few, past)) in
       absurd (cc no)
 ]
+
+-- a piece whose two names are one
+pub not_separate : (ps : List Piece) (i : ℕ) (d : Piece) → i < length ps
+    → bytes_eq (get_or ps i d).part.now (get_or ps i d).path.now ≡ true
+    → ((j : ℕ) (p : Piece) → slice_get ps j ≡ Some p → IsSeparate p) → ⊥
+not_separate ps i d inside same all =
+    all i (get_or ps i d) (slice_get-get_or ps i d inside)
+    ((bytes_eq-Decides (get_or ps i d).part.now (get_or ps i d).path.now).0 same)

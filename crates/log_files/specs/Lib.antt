@@ -1,3 +1,4 @@
 pub mod Publishing
 pub mod Folders
 pub mod Appending
+pub mod Names

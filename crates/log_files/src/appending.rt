@@ -214,6 +214,13 @@ impl<H: TreeHash> Appending<H> {
             ↔ (self.old.tiles.count ≡ 2 ^ 64 - 1) }
         ensures long { (result ≡ Err AppendError.TooLong)
             ↔ ((self.old.tiles.count ≢ 2 ^ 64 - 1) × (65535 < length entry.now)) }
+
+        // What isn't added for its length, or since the log is full, changes nothing.
+        ensures same { IfErr result (λ e. e ≢ Memory
+            → (self.new.tiles ≡ self.old.tiles)
+            × (self.new.bundle.items ≡ self.old.bundle.items)
+            × (self.new.bundles ≡ self.old.bundles)
+            × (self.new.full_tiles ≡ self.old.full_tiles)) }
     {
         if self.tiles.len() == u64::MAX {
             return Err(AppendError::Full);

@@ -1,8 +1,15 @@
-//! What publishing keeps, as contracts of functions that do nothing.
-ghost use Rattle.std.specs.Prelude.{◌≡◌, ◌⊎◌, ℕ, List, ◌∷◌};
+//! What publishing keeps, and that files have names of their own, as contracts of functions that do
+//! nothing.
+ghost use Rattle.std.specs.Prelude.{◌≡◌, ◌≢◌, ◌⊎◌, ◌<◌, ◌+◌, ◌^◌, ℕ, List, [], ◌∷◌, ◌++◌, codes};
 ghost use Rattle.std.specs.List.{AllByRecursion};
+ghost use Rattle.log_files.specs.Appending.{Named, full_bundle, of_levels, partial_bundle};
+ghost use Rattle.log_files.specs.Appending.{partial_files, tile_files};
+ghost use Rattle.log_files.specs.Names.{AreBelow, AreFull, AreSuch, IsName};
 ghost use Rattle.log_files.specs.Publishing.{AreWhole, HaveNames, IsApart, IsPublishing, IsWhole};
 ghost use Rattle.log_files.specs.declared.publishing.Piece.{Piece};
+ghost use Rattle.log_tiles.specs.Names.{bundle_path, tile_path};
+ghost use Rattle.log_tiles.specs.Tiles.{full_levels};
+ghost use Rattle.merkle_tree.specs.Hashes.{HashFunction};
 ghost use Rattle.whole_files.specs.Files.{Files};
 
 /// Wherever everything stops: a path that is no name of a piece or the head has what it had
@@ -13,4 +20,43 @@ pub fn old_or_all()
     ensures head_is_last { (m n : Files) (ps : List Piece) (head : Piece) → HaveNames ps head
         → IsPublishing m ps head n → (n head.path.now ≡ m head.path.now)
         ⊎ (AreWhole ps n × IsWhole head.bytes.now (n head.path.now)) }
+{}
+
+/// Names of different files of a log are different, and none is `checkpoint`: of tiles below level
+/// 10, and of bundles.
+pub fn names_differ()
+    ensures tiles { (level index width other number size : ℕ) → level < 10 → other < 10
+        → index < 2 ^ 64 → number < 2 ^ 64 → width < 2 ^ 64 → size < 2 ^ 64
+        → tile_path level index width ≡ tile_path other number size
+        → (level ≡ other) × (index ≡ number) × (width ≡ size) }
+    ensures bundles { (index width number size : ℕ)
+        → index < 2 ^ 64 → number < 2 ^ 64 → width < 2 ^ 64 → size < 2 ^ 64
+        → bundle_path index width ≡ bundle_path number size → (index ≡ number) × (width ≡ size) }
+    ensures kinds { (level index width number size : ℕ) → level < 10
+        → tile_path level index width ≢ bundle_path number size }
+    ensures heads { (level index width : ℕ) → (tile_path level index width ≢ codes "checkpoint")
+        × (bundle_path index width ≢ codes "checkpoint") }
+{}
+
+/// What an append writes has names of its own. Nothing is full at first (`begun`); what an entry makes
+/// full, as [`Appending::push`](crate::Appending::push) puts it, has other names (`pushed`); and all
+/// that [`Appending::finish`](crate::Appending::finish) gives are bundles and tiles with names of
+/// their own (`finished`).
+pub fn names_stay_apart()
+    ensures begun { (count : ℕ) → AreFull count [] [] }
+    ensures pushed { (H : HashFunction) (count : ℕ) (bundles tiles : List Named) (bytes : List ℕ)
+        (q : List (List ℕ)) → count + 1 < 2 ^ 64 → AreFull count bundles tiles
+        → AreFull (count + 1) (bundles ++ full_bundle (count + 1) bytes)
+        (tiles ++ of_levels (tile_files H (count + 1) q) (full_levels (count + 1))) }
+    ensures finished { (H : HashFunction) (count : ℕ) (bundles tiles : List Named) (bytes : List ℕ)
+        (q : List (List ℕ)) → count < 2 ^ 64 → AreFull count bundles tiles
+        → AreSuch IsName ((bundles ++ partial_bundle count bytes)
+        ++ (tiles ++ of_levels (partial_files H count q) 8)) }
+{}
+
+/// Files of a log, put below a folder under other names first, and the checkpoint beside them have
+/// names of their own, as [`old_or_all`] asks for.
+pub fn files_have_names()
+    ensures { (folder : List ℕ) (files : List Named) (ps : List Piece) (head : Piece)
+        → AreSuch IsName files → AreBelow folder files ps head → HaveNames ps head }
 {}

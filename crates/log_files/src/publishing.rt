@@ -1,5 +1,5 @@
 //! Files that are written whole, and then the one that speaks of them.
-ghost use Rattle.std.specs.Prelude.{◌≡◌, ◌<◌, ◌≤◌, ℕ, Some, IfErr, IfOk, IsTrue, length, slice_get};
+ghost use Rattle.std.specs.Prelude.{◌≡◌, ◌↔◌, ◌<◌, ◌≤◌, ℕ, Some, IfErr, IfOk, IsTrue, length, slice_get};
 ghost use Rattle.log_files.specs.Publishing.{FirstWritten, IsPublishing, IsSeparate, Publishes};
 ghost use Rattle.log_files.specs.Publishing.{HasFaults, HasFaultsAt, IsWritingPiece, PutsPiece};
 ghost use Rattle.log_files.specs.declared.publishing.Piece.{Piece};
@@ -43,7 +43,7 @@ fn put_piece<F: FileSystem>(fs: &mut F, pieces: &[Piece<'_>], i: usize) -> Resul
 /// Whether each of these files has another name while it is written, as [`publish`] needs it.
 pub fn are_separate(pieces: &[Piece<'_>]) -> bool
     ensures { IsTrue result
-        → (i : ℕ) (p : Piece) → slice_get pieces.now i ≡ Some p → IsSeparate p }
+        ↔ ((i : ℕ) (p : Piece) → slice_get pieces.now i ≡ Some p → IsSeparate p) }
 {
     for i in 0usize..pieces.len() {
         if pieces[i].part == pieces[i].path {

@@ -1,5 +1,5 @@
 //! Files in memory.
-ghost use Rattle.std.specs.Prelude.{◌≡◌, ◌≢◌, ◌<◌, ◌≤◌, ℕ, List, length, IfSome, OnOk, OnErr, IsErr, vec_len, true, []};
+ghost use Rattle.std.specs.Prelude.{◌≡◌, ◌≢◌, ◌<◌, ◌≤◌, ℕ, List, length, IfSome, OnOk, OnErr, IsErr, vec_len, true, false, []};
 ghost use Rattle.whole_files.specs.NameTable.{ArePlaces, place_of};
 
 use crate::file::{Failed, FileId, Kind, Mode, Stat};
@@ -124,6 +124,7 @@ impl MemFiles {
         ensures err { OnErr result (self.new.names.entries ≡ self.old.names.entries) }
         ensures inodes { self.new.inodes ≡ self.old.inodes }
         ensures script { self.new.script ≡ self.old.script }
+        ensures unsettled { self.new.settled ≡ false }
     {
         self.settled = false;
         let key = Vec::from_slice(self.alloc, path.as_bytes())?;
@@ -137,6 +138,7 @@ impl MemFiles {
         ensures ok { OnOk result (Moves (mem_files self.old) from.now to.now (mem_files self.new)) }
         ensures err { OnErr result (Same (mem_files self.old) (mem_files self.new)) }
         ensures script { self.new.script ≡ self.old.script }
+        ensures unsettled { self.new.settled ≡ false }
     {
         self.settled = false;
         let from = Vec::from_slice(self.alloc, from.as_bytes())?;
@@ -155,6 +157,7 @@ impl MemFiles {
             (record { device = 0; number = vec_len self.old.inodes }) }
         ensures err { OnErr result (Same (mem_files self.old) (mem_files self.new)) }
         ensures script { self.new.script ≡ self.old.script }
+        ensures unsettled { self.new.settled ≡ false }
     {
         self.settled = false;
         let key = Vec::from_slice(self.alloc, path.as_bytes())?;

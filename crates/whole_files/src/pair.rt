@@ -1,7 +1,7 @@
 //! A secret and a public file that are made together.
 ghost use Rattle.std.specs.Prelude.{◌≡◌, ◌≢◌, ◌≤◌, ◌↔◌, IsTrue, IfOk, Result, IsErrOf};
 ghost use Rattle.whole_files.specs.declared.file.Failed.{Failed};
-ghost use Rattle.whole_files.specs.declared.error.WriteError.TheVariants.{Failed as NothingLeft};
+ghost use Rattle.whole_files.specs.declared.error.WriteError.TheVariants.{Failed as NothingLeft, Left};
 ghost use Rattle.whole_files.specs.declared.error.Written.TheVariants.{Settled, Unsettled};
 ghost use Rattle.whole_files.specs.Causes.{RoseBy};
 ghost use Rattle.whole_files.specs.Files.{Files, Removes, Same};
@@ -32,6 +32,7 @@ fn take_back<F: FileSystem>(fs: &mut F, path: &str, error: WriteError) -> WriteE
     ensures files { IsTrue F.tells
         → TakesBack (F.files fs.old) path.now error result (F.files fs.new) }
     ensures failed { result ≡ NothingLeft → error ≡ NothingLeft }
+    ensures left { result ≡ Left → error ≢ Left → RoseBy 1 (F.faults fs.old) (F.faults fs.new) }
     ensures later { F.faults fs.old ≤ F.faults fs.new }
 {
     if let WriteError::Left = error {
@@ -84,6 +85,7 @@ pub fn make_pair<F: FileSystem>(
     ensures unsettled { IfOk result (λ written. written ≡ Unsettled
         → RoseBy 1 (F.faults fs.old) (F.faults fs.new)) }
     ensures failed { IsErrOf result NothingLeft → RoseBy 1 (F.faults fs.old) (F.faults fs.new) }
+    ensures left { IsErrOf result Left → RoseBy 1 (F.faults fs.old) (F.faults fs.new) }
     ensures later { F.faults fs.old ≤ F.faults fs.new }
 {
     link_new(fs, key_path, key_part, SECRET_MODE, key)?;

@@ -20,6 +20,7 @@ returns-in_err-link_new g c = record {
   kept = grind (arith, common_steps);
   unsettled = grind (arith, common_steps);
   failed = grind (arith, common_steps);
+  left = grind (arith, common_steps);
   later = grind (arith, common_steps);
 }
 
@@ -43,6 +44,7 @@ returns-in-Ok g c = record {
   kept = grind (arith, common_steps);
   unsettled = grind (arith, common_steps);
   failed = grind (arith, common_steps);
+  left = grind (arith, common_steps);
   later = grind (arith, common_steps);
 }
 
@@ -53,5 +55,6 @@ returns-in-Err g c = record {
   kept = grind (arith, common_steps);
   unsettled = grind (arith, common_steps);
   failed = grind (arith, common_steps);
+  left = grind (arith, common_steps);
   later = grind (arith, common_steps);
 }
