@@ -4,3 +4,4 @@ pub mod ActiveLists
 pub mod Chains
 pub mod ActiveSteps
 pub mod Incomparable
+pub mod Refusals

@@ -7,3 +7,4 @@ pub mod Wots
 pub mod Costs
 pub mod Steps
 pub mod ActiveChains
+pub mod Refusals

@@ -4,7 +4,7 @@ ghost use Rattle.slh_core.specs.Digits.{IsBelowSomewhere};
 ghost use Rattle.slh_core.specs.Wots.{chain, wots_pk, wots_sig, wots_pk_from_sig};
 ghost use Rattle.slh_core.specs.Suite.{Seeded, seeded};
 
-use crate::params::WotsParams;
+use crate::params::WotsSizes;
 
 /// The digits of two different messages of n bytes are incomparable: some digit of each is below
 /// the other's. So no signature of the one gives all chain values for the other.
@@ -26,7 +26,7 @@ pub fn chain_continues()
 {}
 
 /// The signature of a message leads to the key pair's own public key.
-pub fn signature_leads_to_leaf<P: WotsParams>()
+pub fn signature_leads_to_leaf<P: WotsSizes>()
     ensures { (s sk m : List ℕ) (j t l : ℕ)
         → let K = seeded P.suite P.N.USIZE s in
         wots_pk_from_sig K j t l (wots_sig K sk j t l m) m ≡ wots_pk K sk j t l }

@@ -1,6 +1,6 @@
 //! Hash suites, addresses, digits and WOTS+ key pairs (FIPS 205, sections 4 and 5), over any suite.
 //!
-//! For trees above them, as those of `slh_trees`, and hash functions below, as those of `slh_hash`.
+//! For trees above them, as those of `slh_merkle`, and hash functions below, as those of `slh_hash`.
 //! A [`suite::HashSuite`] has the hash functions of a parameter set, `params` its sizes, and `wots`
 //! chains and key pairs with them. Values of n bytes are [`nbytes::NBytes`], the place of a hash is
 //! an [`address::Address`], and [`steps::Steps`] counts hash calls. No call takes memory.

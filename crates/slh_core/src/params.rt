@@ -5,6 +5,7 @@ ghost use Rattle.slh_core.specs.Parameters.{IsValidHypertree, IsValidFors};
 ghost use Rattle.slh_core.specs.Parameters.{Scheme, scheme_of, bytes_for, chain_count};
 
 use crate::suite::HashSuite;
+use hybrid_array::ArraySize;
 
 /// The most bytes that a value has: a seed, a hash, or a message that a key pair signs.
 pub const MAX_N: usize = 32;
@@ -32,8 +33,61 @@ pub const MAX_DIGEST_LEN: usize = 256;
 /// frames them, for which 512 bytes are more than enough.
 pub const MAX_MESSAGE_LEN: usize = (1 << 60) + 512;
 
-/// The sizes of a WOTS+ key pair.
+/// The sizes of a WOTS+ key pair, as types.
 pub trait WotsParams: HashSuite {
+    /// How many digits a message has.
+    type WotsMsgLen: ArraySize;
+
+    /// How many chains a key pair has.
+    type WotsSigLen: ArraySize;
+
+    ghost valid_wots: { IsValidWots Self.N.USIZE Self.WotsMsgLen.USIZE Self.WotsSigLen.USIZE };
+}
+
+/// The size of an XMSS tree, as a type.
+pub trait XmssParams: WotsParams {
+    /// The height of a tree.
+    type HPrime: ArraySize;
+
+    ghost valid_xmss: { IsValidXmss Self.HPrime.USIZE };
+}
+
+/// The sizes of a hypertree, as types.
+pub trait HypertreeParams: XmssParams {
+    /// The number of layers.
+    type D: ArraySize;
+
+    /// The height of all layers together.
+    type H: ArraySize;
+
+    ghost valid_hypertree: { IsValidHypertree Self.HPrime.USIZE Self.D.USIZE Self.H.USIZE };
+}
+
+/// The sizes of a forest, and of the digest that names a leaf in each of its trees, as types.
+pub trait ForsParams: HypertreeParams {
+    /// The number of trees.
+    type K: ArraySize;
+
+    /// The height of a tree, in bits of a digit.
+    type A: ArraySize;
+
+    /// How many bytes of the digest hold the digits.
+    type MD: ArraySize;
+
+    /// The suite and all sizes.
+    ghost scheme: { Scheme };
+
+    ghost scheme_is: { scheme ≡ scheme_of Self.suite Self.N.USIZE
+        Self.HPrime.USIZE Self.D.USIZE Self.A.USIZE Self.K.USIZE };
+
+    ghost valid_fors: { IsValidFors Self.HPrime.USIZE Self.H.USIZE Self.K.USIZE
+        Self.A.USIZE Self.MD.USIZE Self.M.USIZE };
+}
+
+/// The sizes of a WOTS+ key pair, as numbers. Who has [`WotsParams`] has these, too, and so on for
+/// the three traits below. What is generic over numbers alone is proved in less time than over
+/// types, so the calls ask for no more.
+pub trait WotsSizes: HashSuite {
     /// How many digits a message has.
     const WOTS_MSG_LEN: usize;
 
@@ -47,18 +101,19 @@ pub trait WotsParams: HashSuite {
     ghost valid_wots: { IsValidWots Self.N.USIZE WOTS_MSG_LEN WOTS_SIG_LEN };
 }
 
-/// The size of an XMSS tree.
-pub trait XmssParams: WotsParams {
+/// The size of an XMSS tree, as a number.
+pub trait XmssSizes: WotsSizes {
     /// The height of a tree.
     const H_PRIME: usize;
 
     ghost H_PRIME: { ℕ };
 
-    ghost valid_xmss: { IsValidXmss H_PRIME };
+    // a law, and no value, since it names what a trait above has
+    ghost valid_xmss: { let n = Self.N.USIZE in IsValidXmss H_PRIME };
 }
 
-/// The sizes of a hypertree.
-pub trait HypertreeParams: XmssParams {
+/// The sizes of a hypertree, as numbers.
+pub trait HypertreeSizes: XmssSizes {
     /// The number of layers.
     const D: usize;
 
@@ -72,8 +127,8 @@ pub trait HypertreeParams: XmssParams {
     ghost valid_hypertree: { IsValidHypertree Self.H_PRIME D H };
 }
 
-/// The sizes of a forest, and of the digest that names a leaf in each of its trees.
-pub trait ForsParams: HypertreeParams {
+/// The sizes of a forest, and of the digest that names a leaf in each of its trees, as numbers.
+pub trait ForsSizes: HypertreeSizes {
     /// The number of trees.
     const K: usize;
 
@@ -96,11 +151,63 @@ pub trait ForsParams: HypertreeParams {
         Self.H_PRIME Self.D A K };
 
     ghost valid_fors: { IsValidFors Self.H_PRIME Self.H K
-        A MD Self.DIGEST_LEN };
+        A MD Self.M.USIZE };
+}
+
+impl<P: WotsParams> WotsSizes for P {
+    const WOTS_MSG_LEN: usize = P::WotsMsgLen::USIZE;
+
+    ghost WOTS_MSG_LEN = { P.WotsMsgLen.USIZE };
+
+    const WOTS_SIG_LEN: usize = P::WotsSigLen::USIZE;
+
+    ghost WOTS_SIG_LEN = { P.WotsSigLen.USIZE };
+
+    ghost valid_wots = { P.valid_wots };
+}
+
+impl<P: XmssParams> XmssSizes for P {
+    const H_PRIME: usize = P::HPrime::USIZE;
+
+    ghost H_PRIME = { P.HPrime.USIZE };
+
+    ghost valid_xmss = { P.valid_xmss };
+}
+
+impl<P: HypertreeParams> HypertreeSizes for P {
+    const D: usize = P::D::USIZE;
+
+    ghost D = { P.D.USIZE };
+
+    const H: usize = P::H::USIZE;
+
+    ghost H = { P.H.USIZE };
+
+    ghost valid_hypertree = { P.valid_hypertree };
+}
+
+impl<P: ForsParams> ForsSizes for P {
+    const K: usize = P::K::USIZE;
+
+    ghost K = { P.K.USIZE };
+
+    const A: usize = P::A::USIZE;
+
+    ghost A = { P.A.USIZE };
+
+    const MD: usize = P::MD::USIZE;
+
+    ghost MD = { P.MD.USIZE };
+
+    ghost scheme = { P.scheme };
+
+    ghost scheme_is = { P.scheme_is };
+
+    ghost valid_fors = { P.valid_fors };
 }
 
 /// What the law says of the sizes of key pairs.
-pub fn chain_sizes<P: WotsParams>()
+pub fn chain_sizes<P: WotsSizes>()
     ensures n_low { 1 ≤ P.N.USIZE }
     ensures n_high { P.N.USIZE ≤ 32 }
     ensures message_len { P.WOTS_MSG_LEN ≡ 2 * P.N.USIZE }
@@ -108,7 +215,7 @@ pub fn chain_sizes<P: WotsParams>()
 {}
 
 /// What the law says of the sizes of trees.
-pub fn tree_sizes<P: XmssParams>()
+pub fn tree_sizes<P: XmssSizes>()
     ensures n_low { 1 ≤ P.N.USIZE }
     ensures n_high { P.N.USIZE ≤ 32 }
     ensures message_len { P.WOTS_MSG_LEN ≡ 2 * P.N.USIZE }
@@ -118,7 +225,7 @@ pub fn tree_sizes<P: XmssParams>()
 {}
 
 /// What the law says of the sizes of layers.
-pub fn layer_sizes<P: HypertreeParams>()
+pub fn layer_sizes<P: HypertreeSizes>()
     ensures n_low { 1 ≤ P.N.USIZE }
     ensures n_high { P.N.USIZE ≤ 32 }
     ensures signature_len { P.WOTS_SIG_LEN ≡ chain_count P.N.USIZE }
@@ -131,7 +238,7 @@ pub fn layer_sizes<P: HypertreeParams>()
 {}
 
 /// What the law says of the sizes of a forest and of a digest.
-pub fn forest_sizes<P: ForsParams>()
+pub fn forest_sizes<P: ForsSizes>()
     ensures n_low { 1 ≤ P.N.USIZE }
     ensures n_high { P.N.USIZE ≤ 32 }
     ensures bits_low { 1 ≤ P.A }
@@ -141,8 +248,8 @@ pub fn forest_sizes<P: ForsParams>()
     ensures leaves { P.K * 2 ^ P.A < 2 ^ 32 }
     ensures forest_len { P.MD ≡ bytes_for (P.K * P.A) }
     ensures digest_len { let tree_bits = P.H - P.H_PRIME in
-        P.DIGEST_LEN ≡ P.MD + bytes_for tree_bits + bytes_for P.H_PRIME }
-    ensures digest_small { P.DIGEST_LEN ≤ 140 }
+        P.M.USIZE ≡ P.MD + bytes_for tree_bits + bytes_for P.H_PRIME }
+    ensures digest_small { P.M.USIZE ≤ 140 }
     ensures scheme { let hp = P.H_PRIME in
         P.scheme ≡ scheme_of P.suite P.N.USIZE hp P.D P.A P.K }
 {}

@@ -60,8 +60,8 @@ pub trait MessageSuite: HashSuite {
 
     /// Writes H_msg of what was absorbed into `out`.
     fn end_digest(digest: Self::Digest, out: &mut [u8])
-        requires room { length out.old ≡ Self.DIGEST_LEN }
-        requires small { Self.DIGEST_LEN ≤ MAX_DIGEST_LEN }
+        requires room { length out.old ≡ Self.M.USIZE }
+        requires small { Self.M.USIZE ≤ MAX_DIGEST_LEN }
         ensures { (r s root m : List ℕ) → digests digest r s root m
             → out.new ≡ Self.suite.h_msg r s root m };
 }

@@ -9,7 +9,7 @@ use std::sync::ledger::{Blank, Book, Ledger, Share};
 /// only fill up a group of values hashed side by side count none. Only `tick` changes the count, and
 /// it has no bytes and no code when the program runs.
 ///
-/// A caller that counts nothing calls the functions without a counter (`slh_internal::uncounted`,
+/// A caller that counts nothing calls the functions without a counter (`slh_trees::uncounted`,
 /// those of keys in `slh_dsa`), or passes `Blank::new(1)` to a function that makes the count, and
 /// `Brand` for its ledger.
 #[derive(Drop)]

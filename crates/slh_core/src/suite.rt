@@ -29,9 +29,7 @@ pub trait HashSuite {
     type N: ArraySize;
 
     /// How many bytes the digest of a message has.
-    const DIGEST_LEN: usize;
-
-    ghost DIGEST_LEN: { ℕ };
+    type M: ArraySize;
 
     /// A state for one public seed.
     type Keyed: Drop;
@@ -364,8 +362,8 @@ pub trait HashSuite {
         out: &mut [u8],
     )
         requires message { length head.now + length ctx.now + length msg.now ≤ MAX_MESSAGE_LEN }
-        requires room { length out.old ≡ DIGEST_LEN }
-        requires small { DIGEST_LEN ≤ MAX_DIGEST_LEN }
+        requires room { length out.old ≡ Self.M.USIZE }
+        requires small { Self.M.USIZE ≤ MAX_DIGEST_LEN }
         ensures { let message = head.now ++ ctx.now ++ msg.now in
             out.new ≡ suite.h_msg rand.now pk_seed.now pk_root.now message };
 
@@ -377,7 +375,7 @@ pub trait HashSuite {
     ghost lengths: { Self.N.USIZE ≤ 32 → HasLength suite Self.N.USIZE };
 
     /// So does the digest of a message.
-    ghost digest_length: { DIGEST_LEN ≤ MAX_DIGEST_LEN → HasDigestLength suite DIGEST_LEN };
+    ghost digest_length: { Self.M.USIZE ≤ MAX_DIGEST_LEN → HasDigestLength suite Self.M.USIZE };
 
     /// What H and T give is bytes.
     ghost value_bytes: { HasBytes suite };

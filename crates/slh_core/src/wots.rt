@@ -14,7 +14,7 @@ use crate::chain_rows::{chain_numbers, first_numbers};
 use crate::digits::message_digits;
 use crate::equal_parts::put_part;
 use crate::nbytes::NBytes;
-use crate::params::{MAX_ENDS_LEN, WotsParams, chain_sizes};
+use crate::params::{MAX_ENDS_LEN, WotsSizes, chain_sizes};
 use crate::steps::Steps;
 use hybrid_array::ArraySize;
 use std::sync::ledger::Ledger;
@@ -22,7 +22,7 @@ use std::sync::ledger::Ledger;
 /// `x`, taken `s` steps on from step `i` of the chain of an address, whose own step doesn't matter
 /// (FIPS 205, algorithm 5).
 #[tactic(auto, unfolding(crate::specs::Wots::chain))]
-pub fn wots_chain<P: WotsParams, L: Ledger>(
+pub fn wots_chain<P: WotsSizes, L: Ledger>(
     x: &NBytes<P::N>,
     i: u32,
     s: u32,
@@ -45,7 +45,7 @@ pub fn wots_chain<P: WotsParams, L: Ledger>(
 }
 
 /// The key's own chain `c` after `q` steps.
-pub fn own_chain<P: WotsParams, L: Ledger>(
+pub fn own_chain<P: WotsSizes, L: Ledger>(
     sk_seed: &NBytes<P::N>,
     keyed: &P::Keyed,
     adrs: &WotsHash,
@@ -68,7 +68,7 @@ pub fn own_chain<P: WotsParams, L: Ledger>(
 }
 
 /// Writes the ends of a key pair's chains, which are all taken on together, step by step.
-fn write_ends<P: WotsParams, L: Ledger>(
+fn write_ends<P: WotsSizes, L: Ledger>(
     sk_seed: &NBytes<P::N>,
     keyed: &P::Keyed,
     adrs: &WotsHash,
@@ -95,7 +95,7 @@ fn write_ends<P: WotsParams, L: Ledger>(
 
 /// How many bytes the values of all chains of a key pair have.
 #[inline]
-pub fn ends_len<P: WotsParams>() -> usize
+pub fn ends_len<P: WotsSizes>() -> usize
     ensures value { result ≡ P.WOTS_SIG_LEN * P.N.USIZE }
     ensures small { result ≤ MAX_ENDS_LEN }
 {
@@ -104,7 +104,7 @@ pub fn ends_len<P: WotsParams>() -> usize
 }
 
 /// The public key of a key pair, which is its tree's leaf (FIPS 205, algorithm 6).
-pub fn wots_pk_gen<P: WotsParams, L: Ledger>(
+pub fn wots_pk_gen<P: WotsSizes, L: Ledger>(
     sk_seed: &NBytes<P::N>,
     keyed: &P::Keyed,
     adrs: &WotsHash,
@@ -124,7 +124,7 @@ pub fn wots_pk_gen<P: WotsParams, L: Ledger>(
 
 /// Writes the signature of a message: each chain's value at its digit (FIPS 205, algorithm 7).
 #[tactic(auto, using(crate::proofs::DigitSteps::wots_digits_below))]
-pub fn wots_sign<P: WotsParams, L: Ledger>(
+pub fn wots_sign<P: WotsSizes, L: Ledger>(
     m: &NBytes<P::N>,
     sk_seed: &NBytes<P::N>,
     keyed: &P::Keyed,
@@ -148,7 +148,7 @@ pub fn wots_sign<P: WotsParams, L: Ledger>(
 
 /// Writes the chain values that belong to digits.
 #[tactic(auto, unfolding(crate::specs::Wots::chain_values, crate::specs::Bytes::joined))]
-fn write_chains<P: WotsParams, L: Ledger>(
+fn write_chains<P: WotsSizes, L: Ledger>(
     digits: &[u16],
     sk_seed: &NBytes<P::N>,
     keyed: &P::Keyed,
@@ -175,7 +175,7 @@ fn write_chains<P: WotsParams, L: Ledger>(
 
 /// Writes the signature of a message, and answers the public key: each chain is taken to its digit,
 /// and on from there to its end.
-pub fn wots_sign_leaf<P: WotsParams, L: Ledger>(
+pub fn wots_sign_leaf<P: WotsSizes, L: Ledger>(
     m: &NBytes<P::N>,
     sk_seed: &NBytes<P::N>,
     keyed: &P::Keyed,
@@ -203,7 +203,7 @@ pub fn wots_sign_leaf<P: WotsParams, L: Ledger>(
 
 /// The public key that the signature of a message leads to (FIPS 205, algorithm 8).
 #[tactic(auto, using(crate::proofs::DigitSteps::wots_digits_below))]
-pub fn wots_pk_from_sig<P: WotsParams, L: Ledger>(
+pub fn wots_pk_from_sig<P: WotsSizes, L: Ledger>(
     sig: &[u8],
     m: &NBytes<P::N>,
     keyed: &P::Keyed,

@@ -8,7 +8,7 @@ pub returns-clause-cost : goal.returns-clause-cost
 returns-clause-cost g c =
     let digits = wots_digits g.P.N.ArraySize.USIZE c.args.m.now in
     let cost : c.finish_each.new.steps + sum digits
-    ≡ c.args.steps.now + 15 * g.P.WotsParams.WOTS_SIG_LEN = search rules in
+    ≡ c.args.steps.now + 15 * g.P.WotsSizes.WOTS_SIG_LEN = search rules in
     omega (arith, wots_digits-sum g.P.N.ArraySize.USIZE c.args.m.now)
 
 pub returns-clause-value : goal.returns-clause-value

@@ -6,7 +6,7 @@ use Rattle.slh_core.proofs.wots.write_ends.Goals as goal
 pub loop-q-init : goal.loop-q-init
 loop-q-init g c =
     let K = g.P.HashSuite.keyed_suite c.args.keyed.now in
-    let len = g.P.WotsParams.WOTS_SIG_LEN in
+    let len = g.P.WotsSizes.WOTS_SIG_LEN in
     let a = c.args.adrs.now in
     let count : length c.first_numbers-numbers.result.now ≡ len = c.first_numbers-numbers.ensures.len ∙ c.WOTS_SIG_LEN.ensures in
     let numbered : (k : ℕ) → k < len → slice_index c.first_numbers-numbers.result.now k ≡ k = λ k low. c.first_numbers-numbers.ensures.numbered k (omega (arith, c.WOTS_SIG_LEN.ensures)) in
@@ -21,8 +21,8 @@ loop-q-preserved g c =
     let K = g.P.HashSuite.keyed_suite c.args.keyed.now in
     let same = g.met.P.HashSuite.keyed_suite_is c.args.keyed.now in
     let size : K.n ≡ g.P.N.ArraySize.USIZE = ap (λ k. k.n) same in
-    let law : HasLength K.suite K.n = rw same (g.met.P.HashSuite.lengths g.met.P.WotsParams.valid_wots.n_high) in
-    let len = g.P.WotsParams.WOTS_SIG_LEN in
+    let law : HasLength K.suite K.n = rw same (g.met.P.HashSuite.lengths g.met.P.WotsSizes.valid_wots.n_high) in
+    let len = g.P.WotsSizes.WOTS_SIG_LEN in
     let a = c.args.adrs.now in
     let i = c.loop-q.invariant in
     let count : length c.first_numbers-numbers.result.now ≡ len = c.first_numbers-numbers.ensures.len ∙ c.WOTS_SIG_LEN.ensures in
