@@ -6,17 +6,17 @@ use Rattle.slh_core.specs.Parameters.{IsValidWots, IsValidXmss, IsValidHypertree
 use Rattle.slh_core.specs.Suite.{HasLength, HasBytes, HasDigestLength, seeded}
 use Rattle.slh_core.specs.Wots.{chain as project_chain, wots_pk, wots_sig, wots_pk_from_sig}
 use Rattle.slh_core.specs.Digits.{wots_digits}
-use Rattle.slh_internal.specs.Checking.{checked_root}
-use Rattle.slh_trees.specs.Checking.{checked_node, checked_message, fors_pk_from_sig}
-use Rattle.slh_internal.specs.Checking.{signature_size}
-use Rattle.slh_trees.specs.Checking.{forest_size}
-use Rattle.slh_trees.specs.Fors.{fors_secret, fors_node as project_fors_node, fors_sig}
+use Rattle.slh_trees.specs.Checking.{checked_root}
+use Rattle.slh_merkle.specs.Checking.{checked_node, checked_message, fors_pk_from_sig}
+use Rattle.slh_trees.specs.Checking.{signature_size}
+use Rattle.slh_merkle.specs.Checking.{forest_size}
+use Rattle.slh_merkle.specs.Fors.{fors_secret, fors_node as project_fors_node, fors_sig}
 use Rattle.slh_frames.specs.Frames.{frame}
-use Rattle.slh_trees.specs.Hypertree.{layer_size, ht_sig}
-use Rattle.slh_internal.specs.Keys.{signing_key_bytes, top_root}
-use Rattle.slh_internal.specs.Signing.{signature_of}
+use Rattle.slh_merkle.specs.Hypertree.{layer_size, ht_sig}
+use Rattle.slh_trees.specs.Keys.{signing_key_bytes, top_root}
+use Rattle.slh_trees.specs.Signing.{signature_of}
 use Rattle.slh_core.specs.Bytes.{number_of, big_endian, part}
-use Rattle.slh_trees.specs.Xmss.{xmss_node as project_xmss_node, xmss_sig}
+use Rattle.slh_merkle.specs.Xmss.{xmss_node as project_xmss_node, xmss_sig}
 use Rattle.fips205_law.specs.Addresses.{WOTS_HASH, FORS_TREE}
 use Rattle.fips205_law.specs.External.{slh_keygen, slh_sign, slh_verify, PreHash, sha256_oid}
 use Rattle.fips205_law.specs.External.{sha512_oid}

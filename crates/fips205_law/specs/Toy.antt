@@ -3,7 +3,7 @@
 -- the chains on the standard's values are others: of n at 1 it has four chains, and the suite five.
 use Rattle.std.specs.Prelude.{◌≡◌, ℕ, List, [], ◌∷◌}
 use Rattle.slh_core.specs.Parameters.{scheme_of}
-use Rattle.slh_trees.specs.ToySuite.{toy}
+use Rattle.slh_merkle.specs.ToySuite.{toy}
 use Rattle.fips205_law.specs.Fors.{fors_sign, fors_pkFromSig, fors_node, fors_skGen}
 use Rattle.fips205_law.specs.Parameters.{Instance, instance_of}
 use Rattle.fips205_law.specs.Slh.{Split, split, fors_address, pure_message}

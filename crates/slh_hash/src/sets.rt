@@ -4,7 +4,10 @@ ghost use Rattle.slh_hash.specs.Sets.{sha2_256s, sha2_256f};
 
 use crate::sha2_l1::Sha2L1;
 use crate::sha2_l35::Sha2L35;
-use hybrid_array::sizes::{U16, U24, U30, U32, U34, U39, U42, U47, U49};
+use hybrid_array::sizes::{
+    U3, U4, U6, U7, U8, U9, U12, U14, U16, U17, U21, U22, U24, U25, U30, U32, U33, U34, U35, U39,
+    U40, U42, U47, U48, U49, U51, U63, U64, U66, U67, U68,
+};
 use slh_core::params::{ForsParams, HypertreeParams, WotsParams, XmssParams};
 
 /// SLH-DSA-SHA2-128s: small signatures.
@@ -28,13 +31,9 @@ pub type Sha2_256f = Sha2L35<U32, U49>;
 impl WotsParams for Sha2_128s {
     ghost use Rattle.std.proofs.Common.{rules};
 
-    const WOTS_MSG_LEN: usize = 32;
+    type WotsMsgLen = U32;
 
-    ghost WOTS_MSG_LEN = { 32 };
-
-    const WOTS_SIG_LEN: usize = 35;
-
-    ghost WOTS_SIG_LEN = { 35 };
+    type WotsSigLen = U35;
 
     ghost valid_wots = { Prim.search rules };
 }
@@ -42,9 +41,7 @@ impl WotsParams for Sha2_128s {
 impl XmssParams for Sha2_128s {
     ghost use Rattle.std.proofs.Common.{lit≤};
 
-    const H_PRIME: usize = 9;
-
-    ghost H_PRIME = { 9 };
+    type HPrime = U9;
 
     ghost valid_xmss = { record { height_low = lit≤ tt; height_high = lit≤ tt } };
 }
@@ -52,13 +49,9 @@ impl XmssParams for Sha2_128s {
 impl HypertreeParams for Sha2_128s {
     ghost use Rattle.std.proofs.Common.{rules};
 
-    const D: usize = 7;
+    type D = U7;
 
-    ghost D = { 7 };
-
-    const H: usize = 63;
-
-    ghost H = { 63 };
+    type H = U63;
 
     ghost valid_hypertree = { Prim.search rules };
 }
@@ -66,17 +59,11 @@ impl HypertreeParams for Sha2_128s {
 impl ForsParams for Sha2_128s {
     ghost use Rattle.std.proofs.Common.{refl, rules};
 
-    const K: usize = 14;
+    type K = U14;
 
-    ghost K = { 14 };
+    type A = U12;
 
-    const A: usize = 12;
-
-    ghost A = { 12 };
-
-    const MD: usize = 21;
-
-    ghost MD = { 21 };
+    type MD = U21;
 
     ghost scheme = { sha2_128s.scheme };
 
@@ -88,13 +75,9 @@ impl ForsParams for Sha2_128s {
 impl WotsParams for Sha2_128f {
     ghost use Rattle.std.proofs.Common.{rules};
 
-    const WOTS_MSG_LEN: usize = 32;
+    type WotsMsgLen = U32;
 
-    ghost WOTS_MSG_LEN = { 32 };
-
-    const WOTS_SIG_LEN: usize = 35;
-
-    ghost WOTS_SIG_LEN = { 35 };
+    type WotsSigLen = U35;
 
     ghost valid_wots = { Prim.search rules };
 }
@@ -102,9 +85,7 @@ impl WotsParams for Sha2_128f {
 impl XmssParams for Sha2_128f {
     ghost use Rattle.std.proofs.Common.{lit≤};
 
-    const H_PRIME: usize = 3;
-
-    ghost H_PRIME = { 3 };
+    type HPrime = U3;
 
     ghost valid_xmss = { record { height_low = lit≤ tt; height_high = lit≤ tt } };
 }
@@ -112,13 +93,9 @@ impl XmssParams for Sha2_128f {
 impl HypertreeParams for Sha2_128f {
     ghost use Rattle.std.proofs.Common.{rules};
 
-    const D: usize = 22;
+    type D = U22;
 
-    ghost D = { 22 };
-
-    const H: usize = 66;
-
-    ghost H = { 66 };
+    type H = U66;
 
     ghost valid_hypertree = { Prim.search rules };
 }
@@ -126,17 +103,11 @@ impl HypertreeParams for Sha2_128f {
 impl ForsParams for Sha2_128f {
     ghost use Rattle.std.proofs.Common.{refl, rules};
 
-    const K: usize = 33;
+    type K = U33;
 
-    ghost K = { 33 };
+    type A = U6;
 
-    const A: usize = 6;
-
-    ghost A = { 6 };
-
-    const MD: usize = 25;
-
-    ghost MD = { 25 };
+    type MD = U25;
 
     ghost scheme = { sha2_128f.scheme };
 
@@ -148,13 +119,9 @@ impl ForsParams for Sha2_128f {
 impl WotsParams for Sha2_192s {
     ghost use Rattle.std.proofs.Common.{rules};
 
-    const WOTS_MSG_LEN: usize = 48;
+    type WotsMsgLen = U48;
 
-    ghost WOTS_MSG_LEN = { 48 };
-
-    const WOTS_SIG_LEN: usize = 51;
-
-    ghost WOTS_SIG_LEN = { 51 };
+    type WotsSigLen = U51;
 
     ghost valid_wots = { Prim.search rules };
 }
@@ -162,9 +129,7 @@ impl WotsParams for Sha2_192s {
 impl XmssParams for Sha2_192s {
     ghost use Rattle.std.proofs.Common.{lit≤};
 
-    const H_PRIME: usize = 9;
-
-    ghost H_PRIME = { 9 };
+    type HPrime = U9;
 
     ghost valid_xmss = { record { height_low = lit≤ tt; height_high = lit≤ tt } };
 }
@@ -172,13 +137,9 @@ impl XmssParams for Sha2_192s {
 impl HypertreeParams for Sha2_192s {
     ghost use Rattle.std.proofs.Common.{rules};
 
-    const D: usize = 7;
+    type D = U7;
 
-    ghost D = { 7 };
-
-    const H: usize = 63;
-
-    ghost H = { 63 };
+    type H = U63;
 
     ghost valid_hypertree = { Prim.search rules };
 }
@@ -186,17 +147,11 @@ impl HypertreeParams for Sha2_192s {
 impl ForsParams for Sha2_192s {
     ghost use Rattle.std.proofs.Common.{refl, rules};
 
-    const K: usize = 17;
+    type K = U17;
 
-    ghost K = { 17 };
+    type A = U14;
 
-    const A: usize = 14;
-
-    ghost A = { 14 };
-
-    const MD: usize = 30;
-
-    ghost MD = { 30 };
+    type MD = U30;
 
     ghost scheme = { sha2_192s.scheme };
 
@@ -208,13 +163,9 @@ impl ForsParams for Sha2_192s {
 impl WotsParams for Sha2_192f {
     ghost use Rattle.std.proofs.Common.{rules};
 
-    const WOTS_MSG_LEN: usize = 48;
+    type WotsMsgLen = U48;
 
-    ghost WOTS_MSG_LEN = { 48 };
-
-    const WOTS_SIG_LEN: usize = 51;
-
-    ghost WOTS_SIG_LEN = { 51 };
+    type WotsSigLen = U51;
 
     ghost valid_wots = { Prim.search rules };
 }
@@ -222,9 +173,7 @@ impl WotsParams for Sha2_192f {
 impl XmssParams for Sha2_192f {
     ghost use Rattle.std.proofs.Common.{lit≤};
 
-    const H_PRIME: usize = 3;
-
-    ghost H_PRIME = { 3 };
+    type HPrime = U3;
 
     ghost valid_xmss = { record { height_low = lit≤ tt; height_high = lit≤ tt } };
 }
@@ -232,13 +181,9 @@ impl XmssParams for Sha2_192f {
 impl HypertreeParams for Sha2_192f {
     ghost use Rattle.std.proofs.Common.{rules};
 
-    const D: usize = 22;
+    type D = U22;
 
-    ghost D = { 22 };
-
-    const H: usize = 66;
-
-    ghost H = { 66 };
+    type H = U66;
 
     ghost valid_hypertree = { Prim.search rules };
 }
@@ -246,17 +191,11 @@ impl HypertreeParams for Sha2_192f {
 impl ForsParams for Sha2_192f {
     ghost use Rattle.std.proofs.Common.{refl, rules};
 
-    const K: usize = 33;
+    type K = U33;
 
-    ghost K = { 33 };
+    type A = U8;
 
-    const A: usize = 8;
-
-    ghost A = { 8 };
-
-    const MD: usize = 33;
-
-    ghost MD = { 33 };
+    type MD = U33;
 
     ghost scheme = { sha2_192f.scheme };
 
@@ -268,13 +207,9 @@ impl ForsParams for Sha2_192f {
 impl WotsParams for Sha2_256s {
     ghost use Rattle.std.proofs.Common.{rules};
 
-    const WOTS_MSG_LEN: usize = 64;
+    type WotsMsgLen = U64;
 
-    ghost WOTS_MSG_LEN = { 64 };
-
-    const WOTS_SIG_LEN: usize = 67;
-
-    ghost WOTS_SIG_LEN = { 67 };
+    type WotsSigLen = U67;
 
     ghost valid_wots = { Prim.search rules };
 }
@@ -282,9 +217,7 @@ impl WotsParams for Sha2_256s {
 impl XmssParams for Sha2_256s {
     ghost use Rattle.std.proofs.Common.{lit≤};
 
-    const H_PRIME: usize = 8;
-
-    ghost H_PRIME = { 8 };
+    type HPrime = U8;
 
     ghost valid_xmss = { record { height_low = lit≤ tt; height_high = lit≤ tt } };
 }
@@ -292,13 +225,9 @@ impl XmssParams for Sha2_256s {
 impl HypertreeParams for Sha2_256s {
     ghost use Rattle.std.proofs.Common.{rules};
 
-    const D: usize = 8;
+    type D = U8;
 
-    ghost D = { 8 };
-
-    const H: usize = 64;
-
-    ghost H = { 64 };
+    type H = U64;
 
     ghost valid_hypertree = { Prim.search rules };
 }
@@ -306,17 +235,11 @@ impl HypertreeParams for Sha2_256s {
 impl ForsParams for Sha2_256s {
     ghost use Rattle.std.proofs.Common.{refl, rules};
 
-    const K: usize = 22;
+    type K = U22;
 
-    ghost K = { 22 };
+    type A = U14;
 
-    const A: usize = 14;
-
-    ghost A = { 14 };
-
-    const MD: usize = 39;
-
-    ghost MD = { 39 };
+    type MD = U39;
 
     ghost scheme = { sha2_256s.scheme };
 
@@ -328,13 +251,9 @@ impl ForsParams for Sha2_256s {
 impl WotsParams for Sha2_256f {
     ghost use Rattle.std.proofs.Common.{rules};
 
-    const WOTS_MSG_LEN: usize = 64;
+    type WotsMsgLen = U64;
 
-    ghost WOTS_MSG_LEN = { 64 };
-
-    const WOTS_SIG_LEN: usize = 67;
-
-    ghost WOTS_SIG_LEN = { 67 };
+    type WotsSigLen = U67;
 
     ghost valid_wots = { Prim.search rules };
 }
@@ -342,9 +261,7 @@ impl WotsParams for Sha2_256f {
 impl XmssParams for Sha2_256f {
     ghost use Rattle.std.proofs.Common.{lit≤};
 
-    const H_PRIME: usize = 4;
-
-    ghost H_PRIME = { 4 };
+    type HPrime = U4;
 
     ghost valid_xmss = { record { height_low = lit≤ tt; height_high = lit≤ tt } };
 }
@@ -352,13 +269,9 @@ impl XmssParams for Sha2_256f {
 impl HypertreeParams for Sha2_256f {
     ghost use Rattle.std.proofs.Common.{rules};
 
-    const D: usize = 17;
+    type D = U17;
 
-    ghost D = { 17 };
-
-    const H: usize = 68;
-
-    ghost H = { 68 };
+    type H = U68;
 
     ghost valid_hypertree = { Prim.search rules };
 }
@@ -366,17 +279,11 @@ impl HypertreeParams for Sha2_256f {
 impl ForsParams for Sha2_256f {
     ghost use Rattle.std.proofs.Common.{refl, rules};
 
-    const K: usize = 35;
+    type K = U35;
 
-    ghost K = { 35 };
+    type A = U9;
 
-    const A: usize = 9;
-
-    ghost A = { 9 };
-
-    const MD: usize = 40;
-
-    ghost MD = { 40 };
+    type MD = U40;
 
     ghost scheme = { sha2_256f.scheme };
 

@@ -34,9 +34,7 @@ pub struct Sha2L1<N: ArraySize, M: ArraySize> {
 impl<N: ArraySize, M: ArraySize> HashSuite for Sha2L1<N, M> {
     type N = N;
 
-    const DIGEST_LEN: usize = M::USIZE;
-
-    ghost DIGEST_LEN = { M.USIZE };
+    type M = M;
 
     type Keyed = Sha2Keyed<N>;
 

@@ -58,8 +58,8 @@ pub trait SmallSuite: HashSuite {
         out: &mut [u8],
     )
         requires message { length head.now + length ctx.now + length msg.now ≤ MAX_MESSAGE_LEN }
-        requires room { length out.old ≡ Self.DIGEST_LEN }
-        requires small { Self.DIGEST_LEN ≤ MAX_DIGEST_LEN }
+        requires room { length out.old ≡ Self.M.USIZE }
+        requires small { Self.M.USIZE ≤ MAX_DIGEST_LEN }
         ensures { let message = head.now ++ ctx.now ++ msg.now in
             out.new ≡ Self.suite.h_msg rand.now pk_seed.now pk_root.now message };
 }

@@ -1,9 +1,5 @@
-pub mod Merkle
-pub mod Xmss
-pub mod Hypertree
-pub mod Fors
-pub mod Lengths
+pub mod MessageDigest
 pub mod Checking
-pub mod Treehash
-pub mod ToySuite
-pub mod Refusals
+pub mod SignatureParts
+pub mod Keys
+pub mod Signing

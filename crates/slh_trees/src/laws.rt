@@ -1,57 +1,34 @@
-//! Laws of trees, layers and forests, each the contract of a function that does nothing.
-ghost use Rattle.std.specs.Prelude.{◌≡◌, ℕ, suc, ◌/◌, ◌*◌, ◌^◌, ◌<◌, ◌≤◌, List};
-ghost use Rattle.slh_core.specs.Wots.{wots_pk};
-ghost use Rattle.slh_core.specs.Suite.{seeded};
-ghost use Rattle.slh_trees.specs.Checking.{fors_pk_from_sig, checked_message, checked_node};
-ghost use Rattle.slh_trees.specs.Fors.{fors_pk, fors_sig};
-ghost use Rattle.slh_trees.specs.Hypertree.{ht_sig, layer_message};
-ghost use Rattle.slh_trees.specs.Merkle.{climb};
-ghost use Rattle.slh_trees.specs.Xmss.{tree_place, xmss_node, auth_path, xmss_sig};
+//! Laws of signatures, each the contract of a function that does nothing.
+ghost use Rattle.std.specs.Prelude.{◌≡◌, ℕ, ◌+◌, ◌*◌, List, length};
+ghost use Rattle.slh_core.specs.Bytes.{part};
+ghost use Rattle.slh_trees.specs.Checking.{checked_root, digest_root, signature_size};
+ghost use Rattle.slh_trees.specs.Keys.{top_root};
+ghost use Rattle.slh_trees.specs.Signing.{digest_signature, signature_with};
 
-pub use slh_core::laws::{chain_continues, digits_are_incomparable, signature_leads_to_leaf};
-use slh_core::params::{ForsParams, HypertreeParams, XmssParams};
+use slh_core::params::ForsSizes;
 
-/// A leaf of a tree and the siblings on the way up from it lead to the tree's root.
-pub fn path_leads_to_root<P: XmssParams>()
-    ensures { (s sk : List ℕ) (j t y : ℕ)
-        → y < 2 ^ P.H_PRIME
-        → let K = seeded P.suite P.N.USIZE s in
-        let hp = P.H_PRIME in
-        let path = auth_path K sk j t y hp in
-        climb K (tree_place j t) (wots_pk K sk j t y) y path hp ≡ xmss_node K sk j t hp 0 }
+/// The signature of a digest with any randomizer leads to the root of the key's top tree.
+pub fn signature_leads_to_top<P: ForsSizes>()
+    ensures { (s sk rand digest : List ℕ)
+        → length rand ≡ P.N.USIZE
+        → let sig = digest_signature P.scheme s sk rand digest in
+        digest_root P.scheme s digest sig ≡ top_root P.scheme s sk }
 {}
 
-/// The signature of a message under a leaf of a tree leads to the tree's root.
-pub fn signature_leads_to_root<P: XmssParams>()
-    ensures { (s sk m : List ℕ) (j t y : ℕ)
-        → y < 2 ^ P.H_PRIME
-        → let K = seeded P.suite P.N.USIZE s in
-        let hp = P.H_PRIME in
-        checked_node K j t y (xmss_sig K sk j t y m hp) m hp ≡ xmss_node K sk j t hp 0 }
+/// What a signing key makes of a message with any randomizer leads to the root of the key's top
+/// tree, whatever root the key has.
+pub fn made_leads_to_top<P: ForsSizes>()
+    ensures { (key rand message : List ℕ)
+        → length rand ≡ P.N.USIZE
+        → let Z = P.scheme in
+        let s = part Z.n key 2 in
+        let sig = signature_with Z key rand message in
+        checked_root Z s (part Z.n key 3) message sig ≡ top_root Z s (part Z.n key 0) }
 {}
 
-/// What the layers of a signature lead to, below any layer, is the message that this layer signs,
-/// and that is the root of the tree below.
-pub fn layers_sign_roots<P: HypertreeParams>()
-    ensures below { (s sk m : List ℕ) (t l d j : ℕ)
-        → l < 2 ^ P.H_PRIME
-        → j ≤ d
-        → let K = seeded P.suite P.N.USIZE s in
-        let hp = P.H_PRIME in
-        let sig = ht_sig K hp sk t l m d in
-        checked_message K hp t l sig m j ≡ layer_message K hp sk t l m j }
-    ensures root { (s sk m : List ℕ) (t l j : ℕ)
-        → let K = seeded P.suite P.N.USIZE s in
-        let hp = P.H_PRIME in
-        layer_message K hp sk t l m (suc j) ≡ xmss_node K sk j (t / 2 ^ (j * hp)) hp 0 }
-{}
-
-/// The signature of the digest's first part leads to the forest's own public key.
-pub fn forest_leads_to_key<P: ForsParams>()
-    ensures { (s sk md : List ℕ) (t l : ℕ)
-        → let K = seeded P.suite P.N.USIZE s in
-        let k = P.K in
-        let a = P.A in
-        let sig = fors_sig K sk t l k a md in
-        fors_pk_from_sig K t l k a sig md ≡ fors_pk K sk t l k a }
+/// How many bytes a signature has, as the standard counts them: in values of n bytes.
+pub fn signature_values<P: ForsSizes>()
+    ensures { let forest = P.K * (1 + P.A) in
+        let values = 1 + forest + P.H + P.D * P.WOTS_SIG_LEN in
+        signature_size P.scheme ≡ values * P.N.USIZE }
 {}

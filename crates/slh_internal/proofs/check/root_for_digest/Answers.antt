@@ -1,8 +1,0 @@
-use Rattle.std.proofs.Common.{arith}
-use Rattle.std.proofs.lemmas.Grind.{common_steps}
-use Rattle.slh_internal.specs.Checking.{digest_root}
-use Rattle.slh_internal.proofs.check.root_for_digest.Goals as goal
-
-pub returns-clause-value : goal.returns-clause-value
-unfolding digest_root
-returns-clause-value g c = grind (arith, common_steps)

@@ -1,6 +1,0 @@
-use Rattle.slh_trees.proofs.Layers.{part_fits}
-use Rattle.slh_internal.proofs.sig_view.SigView.auth.Goals as goal
-
-pub value-requires : goal.value-requires
-value-requires g c =
-    part_fits c.args.z g.P.XmssParams.H_PRIME g.P.N.ArraySize.USIZE _ c.requires.height c.layer_values.ensures.siblings_len

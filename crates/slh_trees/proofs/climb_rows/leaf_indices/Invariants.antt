@@ -1,9 +1,0 @@
-use Rattle.std.proofs.Common.{◌≡◌, ◌<◌, ℕ, length, slice_index}
-use Rattle.slh_trees.specs.Fors.{leaf_index}
-use Rattle.slh_trees.proofs.climb_rows.leaf_indices.Given as goal
-
--- the indices so far
-abbrev pub invariant-loop-i : goal.invariant-loop-i
-invariant-loop-i g l =
-    (length l.indices ≡ length l.initial.indices)
-    × ((k : ℕ) → k < l.i → slice_index l.indices k ≡ leaf_index g.P.ForsParams.A l.digits k)
