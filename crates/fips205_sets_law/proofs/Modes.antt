@@ -12,10 +12,10 @@ use Rattle.slh_dsa.specs.declared.error.Error.{Error}
 use Rattle.slh_dsa.specs.declared.error.Error.TheVariants.{Length, ContextTooLong, MessageTooLong}
 use Rattle.slh_frames.specs.declared.frame.Mode.{Mode}
 use Rattle.slh_frames.specs.declared.frame.Mode.TheVariants.{Pure, Sha256, Sha512}
-use Rattle.slh_trees.proofs.Refusals.{first_none, at_most, passed}
-use Rattle.slh_internal.specs.Checking.{checked_root, signature_size}
-use Rattle.slh_internal.specs.Signing.{signature_of}
-use Rattle.slh_trees.specs.Refusals.{context_refusal, length_refusal, message_refusal}
+use Rattle.slh_core.proofs.Refusals.{first_none, at_most, passed}
+use Rattle.slh_trees.specs.Checking.{checked_root, signature_size}
+use Rattle.slh_trees.specs.Signing.{signature_of}
+use Rattle.slh_core.specs.Refusals.{context_refusal, length_refusal, message_refusal}
 use Rattle.sha256_lanes.specs.Sha256.{sha256}
 use Rattle.sha2.specs.Sha512.{sha512}
 use Rattle.fips205_law.proofs.External.{hash_messages, hash_signs, hash_verifies, signs, verifies}

@@ -11,9 +11,9 @@ use Rattle.slh_dsa.specs.declared.error.Error.TheVariants.{ContextTooLong}
 use Rattle.slh_frames.specs.declared.frame.Mode.{Mode}
 use Rattle.slh_hash.specs.HmacSha512.{hmac_sha512}
 use Rattle.slh_hash.specs.Sets.{sha2_128s, sha2_128f, sha2_192s, sha2_192f, sha2_256s, sha2_256f}
-use Rattle.slh_internal.specs.Checking.{checked_root, signature_size}
-use Rattle.slh_internal.specs.Keys.{signing_key_bytes, top_root}
-use Rattle.slh_internal.specs.Signing.{signature_of}
+use Rattle.slh_trees.specs.Checking.{checked_root, signature_size}
+use Rattle.slh_trees.specs.Keys.{signing_key_bytes, top_root}
+use Rattle.slh_trees.specs.Signing.{signature_of}
 use Rattle.fips205_law.specs.External.{slh_keygen}
 use Rattle.fips205_law.specs.Law.{secret_key_bytes, secret_key_of, public_key_of}
 use Rattle.fips205_law.specs.Parameters.{Instance, instance_of}

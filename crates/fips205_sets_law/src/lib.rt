@@ -3,6 +3,8 @@
 //! does nothing.
 #![tactic(auto)]
 
+pub mod names;
+
 ghost use Rattle.fips205_sets_law.specs.Law.{TablesAgree, SetsAgree};
 
 /// Does nothing: its clause says that the six sets have the sizes of table 2 and the functions of

@@ -12,10 +12,10 @@ use Rattle.slh_dsa.proofs.KeyParts.{part_first, part_later, part_only, key_parts
 use Rattle.slh_dsa.specs.Calls.{hash_verify_error}
 use Rattle.slh_frames.specs.Frames.{mode_frame}
 use Rattle.slh_frames.specs.declared.frame.Mode.{Mode}
-use Rattle.slh_internal.proofs.Signatures.{checked_root-signature, length-digest_signature}
-use Rattle.slh_internal.specs.Checking.{checked_root, signature_size}
-use Rattle.slh_internal.specs.Keys.{IsTrueKey, top_root}
-use Rattle.slh_internal.specs.Signing.{signature_of}
+use Rattle.slh_trees.proofs.Signatures.{checked_root-signature, length-digest_signature}
+use Rattle.slh_trees.specs.Checking.{checked_root, signature_size}
+use Rattle.slh_trees.specs.Keys.{IsTrueKey, top_root}
+use Rattle.slh_trees.specs.Signing.{signature_of}
 
 part_len : (n : ℕ) (key : List ℕ) (c : ℕ) → (c + 1) * n ≤ length key → length (part n key c) ≡ n
 part_len n key c fits =

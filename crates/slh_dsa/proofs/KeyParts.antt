@@ -3,7 +3,7 @@ use Rattle.std.proofs.Common.{◌≡◌, ℕ, suc, ◌+◌, ◌-◌, ◌*◌, Li
 use Rattle.std.proofs.Math.Seq.{take-append_seam, drop-append-add}
 use Rattle.slh_core.specs.Bytes.{part}
 use Rattle.slh_core.specs.Parameters.{Scheme}
-use Rattle.slh_internal.specs.Signing.{digest_signature, signature_of}
+use Rattle.slh_trees.specs.Signing.{digest_signature, signature_of}
 
 -- the first part
 pub part_first : (n : ℕ) (a rest : List ℕ) → length a ≡ n → part n (a ++ rest) 0 ≡ a

@@ -1,15 +1,14 @@
 -- What the calls on keys answer (FIPS 205, sections 9 and 10). Z is the scheme, of values of n
 -- bytes.
-use Rattle.std.specs.Prelude.{◌≡◌, ℕ, ◌*◌, ◌^◌, ◌≤◌, List, [], ◌∷◌, length, Bool}
+use Rattle.std.specs.Prelude.{◌≡◌, ℕ, ◌*◌, List, [], ◌∷◌, length, Bool}
 use Rattle.std.specs.Prelude.{Option, None, Some, Result, IfOk, if◌then◌else◌}
-use Rattle.std.specs.Option.{ForSome}
 use Rattle.std.specs.Str.{bytes_eq}
 use Rattle.slh_core.specs.Bytes.{part}
 use Rattle.slh_core.specs.Parameters.{Scheme}
-use Rattle.slh_internal.specs.Checking.{checked_root, signature_size}
-use Rattle.slh_internal.specs.Keys.{IsTrueKey, signing_key_bytes}
-use Rattle.slh_trees.specs.Refusals.{RefusedExactly, context_refusal, first_refusal, length_refusal}
-use Rattle.slh_trees.specs.Refusals.{message_refusal, randomizer_refusal}
+use Rattle.slh_trees.specs.Checking.{checked_root, signature_size}
+use Rattle.slh_trees.specs.Keys.{IsTrueKey, signing_key_bytes}
+use Rattle.slh_core.specs.Refusals.{RefusedExactly, context_refusal, first_refusal, length_refusal}
+use Rattle.slh_core.specs.Refusals.{message_refusal, randomizer_refusal}
 use Rattle.slh_frames.specs.Frames.{mode_frame}
 use Rattle.slh_dsa.specs.declared.error.Error.{Error}
 use Rattle.slh_dsa.specs.declared.error.Error.TheVariants.{Length, ContextTooLong, RandomizerLength}
@@ -44,6 +43,11 @@ sign_input_refusal Z context opt_rand message = first_refusal
     (context_refusal ContextTooLong context ∷ opt_rand_refusal Z opt_rand
     ∷ message_refusal MessageTooLong message ∷ [])
 
+-- why signing a message that was made is refused, for the sizes of what comes with it
+abbrev pub sign_message_refusal : Scheme → Option (List ℕ) → ℕ → Option Error
+sign_message_refusal Z opt_rand len =
+    first_refusal (signature_refusal Z len ∷ opt_rand_refusal Z opt_rand ∷ [])
+
 -- why signing into so many bytes is refused
 abbrev pub sign_refusal : Scheme → List ℕ → Option (List ℕ) → List ℕ → ℕ → Option Error
 sign_refusal Z context opt_rand message len = first_refusal
@@ -64,6 +68,11 @@ leads_to_root Z key message sig =
 -- why a signature is refused that has been looked at
 abbrev pub root_refusal : Scheme → List ℕ → List ℕ → List ℕ → Option Error
 root_refusal Z key message sig = if leads_to_root Z key message sig then None else Some Invalid
+
+-- what verifying a signature of a message that was made answers
+abbrev pub verify_message_error : Scheme → List ℕ → List ℕ → List ℕ → Option Error
+verify_message_error Z key message sig =
+    first_refusal (signature_refusal Z (length sig) ∷ root_refusal Z key message sig ∷ [])
 
 -- whether a signature of a message with a context, signed in a mode, leads there
 abbrev pub is_valid : Scheme → Mode → List ℕ → List ℕ → List ℕ → List ℕ → Bool
@@ -89,13 +98,6 @@ sign_internal_refusal Z opt_rand message = first_refusal
 abbrev pub verify_internal_error : Scheme → List ℕ → List ℕ → List ℕ → Option Error
 verify_internal_error Z key message sig = first_refusal
     (message_refusal MessageTooLong message ∷ root_refusal Z key message sig ∷ [])
-
--- what is to be signed has sizes that signing takes, for values of n bytes
-pub record IsSignable (n : ℕ) (context : List ℕ) (opt_rand : Option (List ℕ)) (message : List ℕ)
-    : Type 0 where
-  pub context_fits : length context ≤ 255
-  pub opt_rand_fits : ForSome opt_rand (λ bytes. length bytes ≡ n)
-  pub message_fits : length message ≤ 2 ^ 60
 
 -- the key of three seeds, made where all have n bytes. It is a true key, of 4n bytes.
 pub record IsKeygenAnswer (Z : Scheme) (sk_seed sk_prf pk_seed : List ℕ)

@@ -4,14 +4,14 @@ ghost use Rattle.std.specs.Prelude.{◌≡◌, ℕ, ◌*◌, ◌^◌, ◌≤◌,
 ghost use Rattle.slh_dsa.specs.Calls.{hash_verify_error};
 ghost use Rattle.slh_frames.specs.Frames.{mode_frame};
 ghost use Rattle.slh_frames.specs.declared.frame.Mode.{Mode as SigningMode};
-ghost use Rattle.slh_internal.specs.Keys.{IsTrueKey};
-ghost use Rattle.slh_internal.specs.Signing.{signature_of};
+ghost use Rattle.slh_trees.specs.Keys.{IsTrueKey};
+ghost use Rattle.slh_trees.specs.Signing.{signature_of};
 
-use crate::parameter_set::ParameterSet;
+use crate::parameter_set::SetSizes;
 
 /// What a key with the root of its own seeds signs, in any mode, with any `opt_rand` or none, is
 /// accepted under its verifying key in the same mode with the same context and message.
-pub fn signed_is_accepted<P: ParameterSet>()
+pub fn signed_is_accepted<P: SetSizes>()
     ensures { (mode : SigningMode) (key context message : List ℕ) (opt_rand : Option (List ℕ))
         → IsTrueKey P.scheme key
         → length key ≡ 4 * P.N.USIZE

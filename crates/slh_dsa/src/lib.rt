@@ -25,8 +25,9 @@
 //! }
 //! ```
 //!
-//! [`SigningKey::sign_into`] and [`VerifyingKey::verify_bytes`] do the same on slices of the caller
-//! and take no memory; the calls whose names end in `_counted` besides count the addressed hash calls
+//! A [`Message`] is what is signed as a value: a mode, a context, and a message or its digest.
+//! [`SigningKey::sign_message`] and [`VerifyingKey::verify_message`] take one and slices of the
+//! caller, and no memory; the calls whose names end in `_counted` besides count the addressed hash calls
 //! on the caller's counter. Each refusal comes for the cause that
 //! its variant of [`Error`] names, the first in the order of the variants.
 #![tactic(auto)]
@@ -44,9 +45,9 @@ mod verifying_key;
 
 pub use checks::check_opt_rand;
 pub use error::Error;
-pub use parameter_set::{ArrayLengths, ParameterSet};
+pub use parameter_set::{ParameterSet, SetSizes};
 pub use signature::Signature;
 pub use signing_key::SigningKey;
-pub use slh_frames::{Frame, Mode};
+pub use slh_frames::{Frame, Message, MessageError, Mode};
 pub use slh_hash::{Sha2_128f, Sha2_128s, Sha2_192f, Sha2_192s, Sha2_256f, Sha2_256s};
 pub use verifying_key::VerifyingKey;

@@ -4,21 +4,23 @@ ghost use Rattle.std.specs.Prelude.{codes};
 ghost use Rattle.slh_hash.specs.Sets.{sha2_128s, sha2_128f, sha2_192s, sha2_192f};
 ghost use Rattle.slh_hash.specs.Sets.{sha2_256s, sha2_256f};
 
-use crate::parameter_set::{ArrayLengths, ParameterSet};
+use crate::parameter_set::ParameterSet;
 use hybrid_array::sizes::{
     U2, U4, U21, U32, U48, U64, U96, U128, U7856, U16224, U17088, U29792, U35664, U49856,
 };
 use slh_hash::{Sha2_128f, Sha2_128s, Sha2_192f, Sha2_192s, Sha2_256f, Sha2_256s};
-use slh_trees::toy::Toy;
+use slh_merkle::toy::Toy;
 
 impl ParameterSet for Sha2_128s {
     ghost use Rattle.std.proofs.Common.{refl, rules};
 
     const NAME: &'static str = "SLH-DSA-SHA2-128s";
 
-    const SIG_LEN: usize = 7856;
+    type SkLen = U64;
 
-    ghost SIG_LEN = { 7856 };
+    type VkLen = U32;
+
+    type SigLen = U7856;
 
     ghost set_name = { sha2_128s.name };
 
@@ -28,23 +30,11 @@ impl ParameterSet for Sha2_128s {
 
     ghost name_len = { Prim.search rules };
 
-    ghost sig_len = { refl };
-}
-
-impl ArrayLengths for Sha2_128s {
-    ghost use Rattle.std.proofs.Common.{refl};
-
-    type SkLen = U64;
-
-    type VkLen = U32;
-
-    type SigLen = U7856;
-
     ghost sk_len = { refl };
 
     ghost vk_len = { refl };
 
-    ghost array_len = { refl };
+    ghost sig_len = { refl };
 }
 
 impl ParameterSet for Sha2_128f {
@@ -52,9 +42,11 @@ impl ParameterSet for Sha2_128f {
 
     const NAME: &'static str = "SLH-DSA-SHA2-128f";
 
-    const SIG_LEN: usize = 17088;
+    type SkLen = U64;
 
-    ghost SIG_LEN = { 17088 };
+    type VkLen = U32;
+
+    type SigLen = U17088;
 
     ghost set_name = { sha2_128f.name };
 
@@ -64,23 +56,11 @@ impl ParameterSet for Sha2_128f {
 
     ghost name_len = { Prim.search rules };
 
-    ghost sig_len = { refl };
-}
-
-impl ArrayLengths for Sha2_128f {
-    ghost use Rattle.std.proofs.Common.{refl};
-
-    type SkLen = U64;
-
-    type VkLen = U32;
-
-    type SigLen = U17088;
-
     ghost sk_len = { refl };
 
     ghost vk_len = { refl };
 
-    ghost array_len = { refl };
+    ghost sig_len = { refl };
 }
 
 impl ParameterSet for Sha2_192s {
@@ -88,9 +68,11 @@ impl ParameterSet for Sha2_192s {
 
     const NAME: &'static str = "SLH-DSA-SHA2-192s";
 
-    const SIG_LEN: usize = 16224;
+    type SkLen = U96;
 
-    ghost SIG_LEN = { 16224 };
+    type VkLen = U48;
+
+    type SigLen = U16224;
 
     ghost set_name = { sha2_192s.name };
 
@@ -100,23 +82,11 @@ impl ParameterSet for Sha2_192s {
 
     ghost name_len = { Prim.search rules };
 
-    ghost sig_len = { refl };
-}
-
-impl ArrayLengths for Sha2_192s {
-    ghost use Rattle.std.proofs.Common.{refl};
-
-    type SkLen = U96;
-
-    type VkLen = U48;
-
-    type SigLen = U16224;
-
     ghost sk_len = { refl };
 
     ghost vk_len = { refl };
 
-    ghost array_len = { refl };
+    ghost sig_len = { refl };
 }
 
 impl ParameterSet for Sha2_192f {
@@ -124,9 +94,11 @@ impl ParameterSet for Sha2_192f {
 
     const NAME: &'static str = "SLH-DSA-SHA2-192f";
 
-    const SIG_LEN: usize = 35664;
+    type SkLen = U96;
 
-    ghost SIG_LEN = { 35664 };
+    type VkLen = U48;
+
+    type SigLen = U35664;
 
     ghost set_name = { sha2_192f.name };
 
@@ -136,23 +108,11 @@ impl ParameterSet for Sha2_192f {
 
     ghost name_len = { Prim.search rules };
 
-    ghost sig_len = { refl };
-}
-
-impl ArrayLengths for Sha2_192f {
-    ghost use Rattle.std.proofs.Common.{refl};
-
-    type SkLen = U96;
-
-    type VkLen = U48;
-
-    type SigLen = U35664;
-
     ghost sk_len = { refl };
 
     ghost vk_len = { refl };
 
-    ghost array_len = { refl };
+    ghost sig_len = { refl };
 }
 
 impl ParameterSet for Sha2_256s {
@@ -160,9 +120,11 @@ impl ParameterSet for Sha2_256s {
 
     const NAME: &'static str = "SLH-DSA-SHA2-256s";
 
-    const SIG_LEN: usize = 29792;
+    type SkLen = U128;
 
-    ghost SIG_LEN = { 29792 };
+    type VkLen = U64;
+
+    type SigLen = U29792;
 
     ghost set_name = { sha2_256s.name };
 
@@ -172,23 +134,11 @@ impl ParameterSet for Sha2_256s {
 
     ghost name_len = { Prim.search rules };
 
-    ghost sig_len = { refl };
-}
-
-impl ArrayLengths for Sha2_256s {
-    ghost use Rattle.std.proofs.Common.{refl};
-
-    type SkLen = U128;
-
-    type VkLen = U64;
-
-    type SigLen = U29792;
-
     ghost sk_len = { refl };
 
     ghost vk_len = { refl };
 
-    ghost array_len = { refl };
+    ghost sig_len = { refl };
 }
 
 impl ParameterSet for Sha2_256f {
@@ -196,9 +146,11 @@ impl ParameterSet for Sha2_256f {
 
     const NAME: &'static str = "SLH-DSA-SHA2-256f";
 
-    const SIG_LEN: usize = 49856;
+    type SkLen = U128;
 
-    ghost SIG_LEN = { 49856 };
+    type VkLen = U64;
+
+    type SigLen = U49856;
 
     ghost set_name = { sha2_256f.name };
 
@@ -208,23 +160,11 @@ impl ParameterSet for Sha2_256f {
 
     ghost name_len = { Prim.search rules };
 
-    ghost sig_len = { refl };
-}
-
-impl ArrayLengths for Sha2_256f {
-    ghost use Rattle.std.proofs.Common.{refl};
-
-    type SkLen = U128;
-
-    type VkLen = U64;
-
-    type SigLen = U49856;
-
     ghost sk_len = { refl };
 
     ghost vk_len = { refl };
 
-    ghost array_len = { refl };
+    ghost sig_len = { refl };
 }
 
 impl ParameterSet for Toy {
@@ -232,9 +172,11 @@ impl ParameterSet for Toy {
 
     const NAME: &'static str = "TOY";
 
-    const SIG_LEN: usize = 21;
+    type SkLen = U4;
 
-    ghost SIG_LEN = { 21 };
+    type VkLen = U2;
+
+    type SigLen = U21;
 
     ghost set_name = { codes "TOY" };
 
@@ -244,21 +186,9 @@ impl ParameterSet for Toy {
 
     ghost name_len = { Prim.search rules };
 
-    ghost sig_len = { refl };
-}
-
-impl ArrayLengths for Toy {
-    ghost use Rattle.std.proofs.Common.{refl};
-
-    type SkLen = U4;
-
-    type VkLen = U2;
-
-    type SigLen = U21;
-
     ghost sk_len = { refl };
 
     ghost vk_len = { refl };
 
-    ghost array_len = { refl };
+    ghost sig_len = { refl };
 }

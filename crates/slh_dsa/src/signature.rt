@@ -1,27 +1,27 @@
 //! Signatures (FIPS 205, section 9.2).
 ghost use Rattle.std.specs.Prelude.{◌≡◌, length, IfOk};
 ghost use Rattle.slh_dsa.specs.Calls.{signature_refusal};
-ghost use Rattle.slh_internal.specs.Checking.{signature_size};
-ghost use Rattle.slh_trees.specs.Refusals.{RefusedOrNoMemory};
+ghost use Rattle.slh_trees.specs.Checking.{signature_size};
+ghost use Rattle.slh_core.specs.Refusals.{RefusedOrNoMemory};
 ghost use Rattle.slh_dsa.specs.declared.error.Error.TheVariants.{Memory};
 
 use crate::error::Error;
-use crate::parameter_set::ArrayLengths;
+use crate::parameter_set::ParameterSet;
 use hybrid_array::{Array, ArraySize, SliceError};
-use slh_internal::SigView;
+use slh_trees::SigView;
 use std::alloc::{AllocError, Global};
 use std::marker::Model;
 
 /// A signature: the randomizer, the forest's part and the layers' parts. Clauses see it as its
 /// bytes.
 #[derive(Drop)]
-pub struct Signature<P: ArrayLengths> {
+pub struct Signature<P: ParameterSet> {
     bytes: Array<u8, P::SigLen>,
 }
 
-impl<P: ArrayLengths> Model for Signature<P> {
+impl<P: ParameterSet> Model for Signature<P> {
     ghost use Rattle.std.specs.Prelude.{◌≡◌, ℕ, List, length};
-    ghost use Rattle.slh_internal.specs.Checking.{signature_size};
+    ghost use Rattle.slh_trees.specs.Checking.{signature_size};
 
     ghost Value = { List ℕ };
 
@@ -30,7 +30,7 @@ impl<P: ArrayLengths> Model for Signature<P> {
     ghost invariant = { λ s. length s.bytes ≡ signature_size P.scheme };
 }
 
-impl<P: ArrayLengths> Signature<P> {
+impl<P: ParameterSet> Signature<P> {
     /// The signature of a slice's bytes. `Length`: they aren't as many as a signature has; `Memory`.
     pub fn try_from(alloc: Global, bytes: &[u8]) -> Result<Self, Error>
         ensures refusal { RefusedOrNoMemory Memory result
@@ -98,11 +98,11 @@ impl<P: ArrayLengths> Signature<P> {
     pub fn encoded_len(&self) -> usize
         ensures { result ≡ signature_size P.scheme }
     {
-        P::SIG_LEN
+        P::SigLen::USIZE
     }
 }
 
-impl<P: ArrayLengths> PartialEq for Signature<P> {
+impl<P: ParameterSet> PartialEq for Signature<P> {
     ghost use Rattle.std.specs.Prelude.{◌==◌};
     ghost use Rattle.std.specs.Cmp.Rules.{comparing};
     ghost use Rattle.std.specs.Cmp.Lexicographic.{pointwise};
@@ -117,7 +117,7 @@ impl<P: ArrayLengths> PartialEq for Signature<P> {
     }
 }
 
-impl<P: ArrayLengths> Eq for Signature<P> {
+impl<P: ParameterSet> Eq for Signature<P> {
     ghost use Rattle.std.specs.Cmp.Rules.{comparing};
     ghost use Rattle.std.proofs.Common.{rules};
 

@@ -5,27 +5,28 @@ ghost use Rattle.std.specs.Option.{option_copied, ForSome};
 ghost use Rattle.slh_core.specs.Bytes.{part};
 ghost use Rattle.slh_core.specs.Costs.{slh_keygen_cost, slh_sign_cost};
 ghost use Rattle.slh_core.specs.Steps.{IsFresh};
-ghost use Rattle.slh_internal.specs.Checking.{signature_size};
+ghost use Rattle.slh_trees.specs.Checking.{signature_size};
 ghost use Rattle.slh_frames.specs.Frames.{frame, mode_frame};
-ghost use Rattle.slh_internal.specs.Signing.{signature_of};
-ghost use Rattle.slh_trees.specs.Refusals.{RefusedExactly, RefusedOrNoMemory};
-ghost use Rattle.slh_dsa.specs.Calls.{IsKeygenAnswer, IsSignable};
+ghost use Rattle.slh_frames.specs.Messages.{joined, whole_message};
+ghost use Rattle.slh_trees.specs.Signing.{signature_of};
+ghost use Rattle.slh_core.specs.Refusals.{RefusedExactly, RefusedOrNoMemory};
+ghost use Rattle.slh_dsa.specs.Calls.{IsKeygenAnswer, sign_message_refusal};
 ghost use Rattle.slh_dsa.specs.Calls.{sign_input_refusal, sign_internal_refusal, sign_refusal};
 ghost use Rattle.slh_dsa.specs.Calls.{signing_key_refusal};
 ghost use Rattle.slh_dsa.specs.declared.error.Error.TheVariants.{Memory};
 
-use crate::checks::{check_context, check_message, check_opt_rand, check_signature, zeros};
+use crate::checks::{check_opt_rand, check_signature, zeros};
 use crate::error::Error;
-use crate::parameter_set::{ArrayLengths, ParameterSet};
+use crate::parameter_set::{ParameterSet, SetSizes};
 use crate::signature::Signature;
 use crate::verifying_key::{VerifyingKey, both};
 use hybrid_array::{Array, ArraySize};
 use slh_core::nbytes::NBytes;
 use slh_core::params::{MAX_MESSAGE_LEN, chain_sizes};
 use slh_core::steps::Steps;
-use slh_frames::{Frame, Mode};
-use slh_internal::sign::sign_message;
-use slh_internal::top_root;
+use slh_frames::{Frame, Message, Mode, check_context, check_message};
+use slh_trees::sign::sign_message;
+use slh_trees::top_root;
 use std::alloc::{AllocError, Global};
 use std::marker::{Brand, Model};
 use std::sync::ledger::{Blank, Ledger};
@@ -33,13 +34,13 @@ use std::sync::ledger::{Blank, Ledger};
 /// A signing key: the secret seed and the PRF key, of n bytes each, and the verifying key. Clauses
 /// see it as these 4n bytes.
 #[derive(Drop)]
-pub struct SigningKey<P: ParameterSet> {
+pub struct SigningKey<P: SetSizes> {
     sk_seed: NBytes<P::N>,
     sk_prf: NBytes<P::N>,
     verifying_key: VerifyingKey<P>,
 }
 
-impl<P: ParameterSet> Model for SigningKey<P> {
+impl<P: SetSizes> Model for SigningKey<P> {
     ghost use Rattle.std.specs.Prelude.{◌≡◌, ℕ, List, ◌++◌, ◌*◌, length};
 
     ghost Value = { List ℕ };
@@ -50,7 +51,7 @@ impl<P: ParameterSet> Model for SigningKey<P> {
         × (length k.verifying_key ≡ 2 * P.N.USIZE) };
 }
 
-impl<P: ParameterSet> SigningKey<P> {
+impl<P: SetSizes> SigningKey<P> {
     /// The key of three seeds of n bytes each (FIPS 205, algorithm 18). `Length`: a seed has fewer
     /// or more.
     pub fn slh_keygen_internal(sk_seed: &[u8], sk_prf: &[u8], pk_seed: &[u8]) -> Result<Self, Error>
@@ -145,80 +146,18 @@ impl<P: ParameterSet> SigningKey<P> {
         ensures cost { OnOk result (steps.new ≡ steps.old + slh_sign_cost P.scheme) }
         ensures free { OnErr result (steps.new ≡ steps.old) }
     {
-        Self::check_sign_into(msg, ctx, opt_rand, out.len())?;
-        self.hash_sign_checked(mode, msg, ctx, opt_rand, out, steps);
+        check_signature::<P>(out.len())?;
+        let message = Self::message(mode, msg, ctx, opt_rand)?;
+        self.sign_checked_counted(&message, opt_rand, out, steps);
         Ok(())
     }
 
-    /// The refusals of signing, in every mode, but those of its output: `ContextTooLong`,
-    /// `RandomizerLength`, `MessageTooLong`. A caller that takes memory for a signature asks this
-    /// first, and then calls [`SigningKey::hash_sign_checked`].
-    pub fn check_sign(msg: &[u8], ctx: &[u8], opt_rand: Option<&[u8]>) -> Result<(), Error>
-        ensures refusal { let opt_rand = option_copied opt_rand.entry in
-            RefusedExactly result (sign_input_refusal P.scheme ctx.now opt_rand msg.now) }
-        ensures fits { let opt_rand = option_copied opt_rand.entry in
-            OnOk result (IsSignable P.N.USIZE ctx.now opt_rand msg.now) }
-    {
-        check_context(ctx)?;
-        check_opt_rand::<P, Error>(opt_rand, Error::RandomizerLength)?;
-        check_message(msg)
-    }
-
-    // The refusals of signing into so many bytes, in every mode.
-    fn check_sign_into(
-        msg: &[u8],
-        ctx: &[u8],
-        opt_rand: Option<&[u8]>,
-        len: usize,
-    ) -> Result<(), Error>
-        ensures refusal { let opt_rand = option_copied opt_rand.entry in
-            RefusedExactly result (sign_refusal P.scheme ctx.now opt_rand msg.now len) }
-        ensures fits { let opt_rand = option_copied opt_rand.entry in
-            OnOk result (IsSignable P.N.USIZE ctx.now opt_rand msg.now) }
-        ensures room { OnOk result (len ≡ signature_size P.scheme) }
-    {
-        check_signature::<P>(len)?;
-        Self::check_sign(msg, ctx, opt_rand)
-    }
-
-    /// As `hash_sign_counted`, of what [`SigningKey::check_sign`] doesn't refuse, into the bytes of
-    /// a signature.
-    pub fn hash_sign_checked<L: Ledger>(
+    /// As `hash_sign_counted`, without a counter. Takes no memory.
+    pub fn hash_sign_into(
         &self,
         mode: Mode,
         msg: &[u8],
         ctx: &[u8],
-        opt_rand: Option<&[u8]>,
-        out: &mut [u8],
-        steps: &mut Steps<L>,
-    )
-        requires fits { IsSignable P.N.USIZE ctx.now (option_copied opt_rand) msg.now }
-        requires room { length out.old ≡ signature_size P.scheme }
-        ensures value { let opt_rand = option_copied opt_rand.entry in
-            let message = mode_frame mode ctx.now msg.now in
-            out.new ≡ signature_of P.scheme self.now opt_rand message }
-        ensures cost { steps.new ≡ steps.old + slh_sign_cost P.scheme }
-    {
-        let opt_rand = self.opt_rand_or_seed(opt_rand);
-        let frame = Frame::new(mode, ctx, msg);
-        self.sign_slices(
-            &opt_rand,
-            frame.head(),
-            frame.ctx(),
-            frame.tail(),
-            out,
-            steps,
-        );
-    }
-
-    /// As `hash_sign_counted`, without a counter. `Length`: `out` doesn't have the bytes of a
-    /// signature; `ContextTooLong`, `RandomizerLength`, `MessageTooLong`. After a refusal `out` is
-    /// as it was. Takes no memory.
-    pub fn sign_into(
-        &self,
-        mode: Mode,
-        ctx: &[u8],
-        msg: &[u8],
         opt_rand: Option<&[u8]>,
         out: &mut [u8],
     ) -> Result<(), Error>
@@ -230,49 +169,130 @@ impl<P: ParameterSet> SigningKey<P> {
             OnOk result (out.new ≡ signature_of P.scheme self.now opt_rand message) }
         ensures same { OnErr result (out.new ≡ out.old) }
     {
-        Self::check_sign_into(msg, ctx, opt_rand, out.len())?;
-        self.sign_checked_into(mode, ctx, msg, opt_rand, out);
+        check_signature::<P>(out.len())?;
+        let message = Self::message(mode, msg, ctx, opt_rand)?;
+        self.sign_checked(&message, opt_rand, out);
         Ok(())
     }
 
-    /// As `hash_sign_checked`, without a counter: what [`SigningKey::check_sign`] doesn't refuse is
-    /// signed into the bytes of a signature.
-    pub fn sign_checked_into(
-        &self,
+    /// The message that is signed with `opt_rand`: `ContextTooLong`, `RandomizerLength`,
+    /// `MessageTooLong`. A caller that takes memory for a signature makes it first, and then calls
+    /// [`SigningKey::sign_checked`].
+    pub fn message<'a>(
         mode: Mode,
-        ctx: &[u8],
-        msg: &[u8],
+        msg: &'a [u8],
+        ctx: &'a [u8],
+        opt_rand: Option<&[u8]>,
+    ) -> Result<Message<'a>, Error>
+        ensures refusal { let opt_rand = option_copied opt_rand.entry in
+            RefusedExactly result (sign_input_refusal P.scheme ctx.now opt_rand msg.now) }
+        ensures value { IfOk result (λ m. m ≡ whole_message mode ctx.now msg.now) }
+        ensures fits { OnOk result
+            (ForSome (option_copied opt_rand.entry) (λ bytes. length bytes ≡ P.N.USIZE)) }
+    {
+        check_context(ctx, Error::ContextTooLong)?;
+        check_opt_rand::<P, Error>(opt_rand, Error::RandomizerLength)?;
+        check_message(msg, Error::MessageTooLong)?;
+        Ok(Message::fitting(mode, msg, ctx))
+    }
+
+    /// Writes the signature of a message into `out`. Where no `opt_rand` is given the public seed
+    /// stands for it. `Length`: `out` doesn't have the bytes of a signature; `RandomizerLength`.
+    /// After a refusal `out` is as it was.
+    pub fn sign_message_counted<L: Ledger>(
+        &self,
+        message: &Message<'_>,
         opt_rand: Option<&[u8]>,
         out: &mut [u8],
-    )
-        requires fits { IsSignable P.N.USIZE ctx.now (option_copied opt_rand) msg.now }
+        steps: &mut Steps<L>,
+    ) -> Result<(), Error>
+        ensures refusal { let opt_rand = option_copied opt_rand.entry in
+            RefusedExactly result (sign_message_refusal P.scheme opt_rand (length out.old)) }
+        ensures value { let opt_rand = option_copied opt_rand.entry in
+            let message = joined message.now in
+            OnOk result (out.new ≡ signature_of P.scheme self.now opt_rand message) }
+        ensures same { OnErr result (out.new ≡ out.old) }
+        ensures cost { OnOk result (steps.new ≡ steps.old + slh_sign_cost P.scheme) }
+        ensures free { OnErr result (steps.new ≡ steps.old) }
+    {
+        check_signature::<P>(out.len())?;
+        check_opt_rand::<P, Error>(opt_rand, Error::RandomizerLength)?;
+        self.sign_checked_counted(message, opt_rand, out, steps);
+        Ok(())
+    }
+
+    /// As `sign_message_counted`, without a counter. Takes no memory.
+    pub fn sign_message(
+        &self,
+        message: &Message<'_>,
+        opt_rand: Option<&[u8]>,
+        out: &mut [u8],
+    ) -> Result<(), Error>
+        ensures refusal { let opt_rand = option_copied opt_rand.entry in
+            RefusedExactly result (sign_message_refusal P.scheme opt_rand (length out.old)) }
+        ensures value { let opt_rand = option_copied opt_rand.entry in
+            let message = joined message.now in
+            OnOk result (out.new ≡ signature_of P.scheme self.now opt_rand message) }
+        ensures same { OnErr result (out.new ≡ out.old) }
+    {
+        check_signature::<P>(out.len())?;
+        check_opt_rand::<P, Error>(opt_rand, Error::RandomizerLength)?;
+        self.sign_checked(message, opt_rand, out);
+        Ok(())
+    }
+
+    /// As `sign_message`, of what isn't refused.
+    pub fn sign_checked(&self, message: &Message<'_>, opt_rand: Option<&[u8]>, out: &mut [u8])
+        requires opt_rand { ForSome (option_copied opt_rand) (λ bytes. length bytes ≡ P.N.USIZE) }
         requires room { length out.old ≡ signature_size P.scheme }
         ensures { let opt_rand = option_copied opt_rand.entry in
-            let message = mode_frame mode ctx.now msg.now in
-            out.new ≡ signature_of P.scheme self.now opt_rand message }
+            out.new ≡ signature_of P.scheme self.now opt_rand (joined message.now) }
     {
-        self.sign_on::<Brand>(mode, ctx, msg, opt_rand, out, Blank::new(1));
+        self.sign_checked_on::<Brand>(message, opt_rand, out, Blank::new(1));
     }
 
     // The same, on a counter that is made here.
-    fn sign_on<L: Ledger>(
+    fn sign_checked_on<L: Ledger>(
         &self,
-        mode: Mode,
-        ctx: &[u8],
-        msg: &[u8],
+        message: &Message<'_>,
         opt_rand: Option<&[u8]>,
         out: &mut [u8],
         blank: Blank,
     )
-        requires fits { IsSignable P.N.USIZE ctx.now (option_copied opt_rand) msg.now }
+        requires opt_rand { ForSome (option_copied opt_rand) (λ bytes. length bytes ≡ P.N.USIZE) }
         requires room { length out.old ≡ signature_size P.scheme }
         requires fresh { IsFresh blank L.name L.parts }
         ensures { let opt_rand = option_copied opt_rand.entry in
-            let message = mode_frame mode ctx.now msg.now in
-            out.new ≡ signature_of P.scheme self.now opt_rand message }
+            out.new ≡ signature_of P.scheme self.now opt_rand (joined message.now) }
     {
         let mut steps = Steps::<L>::new(blank);
-        self.hash_sign_checked(mode, msg, ctx, opt_rand, out, &mut steps);
+        self.sign_checked_counted(message, opt_rand, out, &mut steps);
+    }
+
+    /// As `sign_message_counted`, of what isn't refused.
+    pub(crate) fn sign_checked_counted<L: Ledger>(
+        &self,
+        message: &Message<'_>,
+        opt_rand: Option<&[u8]>,
+        out: &mut [u8],
+        steps: &mut Steps<L>,
+    )
+        requires opt_rand { ForSome (option_copied opt_rand) (λ bytes. length bytes ≡ P.N.USIZE) }
+        requires room { length out.old ≡ signature_size P.scheme }
+        ensures value { let opt_rand = option_copied opt_rand.entry in
+            out.new ≡ signature_of P.scheme self.now opt_rand (joined message.now) }
+        ensures cost { steps.new ≡ steps.old + slh_sign_cost P.scheme }
+    {
+        let opt_rand = self.opt_rand_or_seed(opt_rand);
+        let frame = Frame::of(message);
+        self.sign_slices(
+            &opt_rand,
+            frame.head(),
+            frame.ctx(),
+            frame.tail(),
+            out,
+            steps,
+        );
     }
 
     /// Writes the signature of the message that the three slices joined are, as it stands (FIPS 205,
@@ -363,6 +383,34 @@ impl<P: ParameterSet> SigningKey<P> {
         Ok(bytes)
     }
 
+    /// The secret seed, of n bytes.
+    pub fn sk_seed(&self) -> &NBytes<P::N>
+        ensures { result.now ≡ part P.N.USIZE self.now 0 }
+    {
+        &self.sk_seed
+    }
+
+    /// The PRF key, of n bytes.
+    pub fn sk_prf(&self) -> &NBytes<P::N>
+        ensures { result.now ≡ part P.N.USIZE self.now 1 }
+    {
+        &self.sk_prf
+    }
+
+    /// The public seed, of n bytes.
+    pub fn pk_seed(&self) -> &NBytes<P::N>
+        ensures { result.now ≡ part P.N.USIZE self.now 2 }
+    {
+        &self.verifying_key.pk_seed
+    }
+
+    /// The root of the top tree, of n bytes.
+    pub fn pk_root(&self) -> &NBytes<P::N>
+        ensures { result.now ≡ part P.N.USIZE self.now 3 }
+    {
+        &self.verifying_key.pk_root
+    }
+
     /// The verifying key: the key's last 2n bytes.
     pub fn verifying_key(&self) -> VerifyingKey<P>
         ensures { result ≡ drop (2 * P.N.USIZE) self.now }
@@ -383,7 +431,7 @@ impl<P: ParameterSet> SigningKey<P> {
 }
 
 /// Signatures and bytes in new memory.
-impl<P: ArrayLengths> SigningKey<P> {
+impl<P: ParameterSet> SigningKey<P> {
     // The signature of the message that the three slices joined are, in new memory, on a counter
     // that is made here. `Memory`.
     fn sign_new<L: Ledger>(
@@ -425,7 +473,7 @@ impl<P: ArrayLengths> SigningKey<P> {
             IfOk result (λ sig. sig ≡ signature_of P.scheme self.now opt_rand msg.now) }
     {
         check_opt_rand::<P, Error>(opt_rand, Error::RandomizerLength)?;
-        check_message(msg)?;
+        check_message(msg, Error::MessageTooLong)?;
         self.sign_new::<Brand>(alloc, &[], &[], msg, opt_rand, Blank::new(1))
     }
 
@@ -464,9 +512,9 @@ impl<P: ArrayLengths> SigningKey<P> {
             let message = mode_frame mode ctx.now msg.now in
             IfOk result (λ sig. sig ≡ signature_of P.scheme self.now opt_rand message) }
     {
-        Self::check_sign(msg, ctx, opt_rand)?;
+        let message = Self::message(mode, msg, ctx, opt_rand)?;
         let mut bytes = zeros::<P::SigLen>(alloc)?;
-        self.sign_checked_into(mode, ctx, msg, opt_rand, bytes.as_mut_slice());
+        self.sign_checked(&message, opt_rand, bytes.as_mut_slice());
         Ok(Signature::from_array(bytes))
     }
 
@@ -480,7 +528,7 @@ impl<P: ArrayLengths> SigningKey<P> {
     }
 }
 
-impl<P: ParameterSet> Clone for SigningKey<P> {
+impl<P: SetSizes> Clone for SigningKey<P> {
     ghost use Rattle.std.specs.Prelude.{◌≡◌, ⊤};
 
     ghost is_clone = { λ key copy. copy ≡ key };
@@ -492,7 +540,7 @@ impl<P: ParameterSet> Clone for SigningKey<P> {
     }
 }
 
-impl<P: ParameterSet> PartialEq for SigningKey<P> {
+impl<P: SetSizes> PartialEq for SigningKey<P> {
     ghost use Rattle.std.specs.Prelude.{◌==◌};
     ghost use Rattle.std.specs.Cmp.Rules.{comparing};
     ghost use Rattle.std.specs.Cmp.Lexicographic.{pointwise};
@@ -508,7 +556,7 @@ impl<P: ParameterSet> PartialEq for SigningKey<P> {
     }
 }
 
-impl<P: ParameterSet> Eq for SigningKey<P> {
+impl<P: SetSizes> Eq for SigningKey<P> {
     ghost use Rattle.std.specs.Cmp.Rules.{comparing};
     ghost use Rattle.std.proofs.Common.{rules};
 

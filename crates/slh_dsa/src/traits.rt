@@ -4,15 +4,15 @@ ghost use Rattle.std.specs.Prelude.{◌≡◌, ◌*◌, ◌^◌, ◌≤◌, [], 
 ghost use Rattle.rand_core.specs.Stream.{fill_bytes};
 ghost use Rattle.slh_core.specs.Steps.{IsFresh};
 ghost use Rattle.slh_frames.specs.Frames.{frame};
-ghost use Rattle.slh_internal.specs.Keys.{IsTrueKey, signing_key_bytes};
-ghost use Rattle.slh_internal.specs.Signing.{signature_of};
-ghost use Rattle.slh_trees.specs.Refusals.{message_refusal};
+ghost use Rattle.slh_trees.specs.Keys.{IsTrueKey, signing_key_bytes};
+ghost use Rattle.slh_trees.specs.Signing.{signature_of};
+ghost use Rattle.slh_core.specs.Refusals.{message_refusal};
 ghost use Rattle.slh_dsa.specs.Calls.{verify_error};
 ghost use Rattle.slh_dsa.specs.declared.error.Error.TheVariants.{Memory, MessageTooLong};
 
-use crate::checks::{check_message, zeros};
+use crate::checks::zeros;
 use crate::error::Error;
-use crate::parameter_set::{ArrayLengths, ParameterSet};
+use crate::parameter_set::{ParameterSet, SetSizes};
 use crate::signature::Signature;
 use crate::signing_key::SigningKey;
 use crate::verifying_key::VerifyingKey;
@@ -22,13 +22,13 @@ use signature_core::{KeypairRef, RandomizedSigner, SignatureEncoding, Signer, Ve
 use slh_core::nbytes::NBytes;
 use slh_core::params::{MAX_N, chain_sizes};
 use slh_core::steps::Steps;
-use slh_frames::Mode;
+use slh_frames::{Message, Mode, check_message};
 use std::alloc::{AllocError, Global};
 use std::marker::Brand;
 use std::sync::ledger::{Blank, Ledger};
 
 // The next n bytes of a generator.
-fn drawn<P: ParameterSet, R: Rng>(rng: &mut R) -> NBytes<P::N>
+fn drawn<P: SetSizes, R: Rng>(rng: &mut R) -> NBytes<P::N>
     ensures value { result ≡ (fill_bytes P.N.USIZE (R.stream rng.old)).0 }
     ensures rest { R.stream rng.new ≡ (fill_bytes P.N.USIZE (R.stream rng.old)).1 }
     ensures len { length result ≡ P.N.USIZE }
@@ -40,7 +40,7 @@ fn drawn<P: ParameterSet, R: Rng>(rng: &mut R) -> NBytes<P::N>
     NBytes::exact(bytes)
 }
 
-impl<P: ParameterSet> SigningKey<P> {
+impl<P: SetSizes> SigningKey<P> {
     /// A key of random bytes: a generator fills n bytes for the secret seed, n for the PRF key and n
     /// for the public seed.
     pub fn new<R: Rng>(rng: &mut R) -> Self
@@ -67,7 +67,7 @@ impl<P: ParameterSet> SigningKey<P> {
     }
 }
 
-impl<P: ArrayLengths> SigningKey<P> {
+impl<P: ParameterSet> SigningKey<P> {
     // The signature of a message in these bytes, by n random ones, on a counter that is made here.
     fn sign_drawn<R: Rng, L: Ledger>(
         &self,
@@ -84,21 +84,15 @@ impl<P: ArrayLengths> SigningKey<P> {
     {
         let opt_rand = drawn::<P, R>(rng);
         let mut steps = Steps::<L>::new(blank);
-        let out = bytes.as_mut_slice();
-        self.hash_sign_checked(
-            Mode::Pure,
-            msg,
-            b"",
-            Some(opt_rand.as_slice()),
-            out,
-            &mut steps,
-        );
+        let message = Message::fitting(Mode::Pure, msg, b"");
+        let opt_rand = Some(opt_rand.as_slice());
+        self.sign_checked_counted(&message, opt_rand, bytes.as_mut_slice(), &mut steps);
         Signature::from_array(bytes)
     }
 }
 
 /// Signs with an empty context, and without random bytes.
-impl<P: ArrayLengths> Signer<Signature<P>> for SigningKey<P> {
+impl<P: ParameterSet> Signer<Signature<P>> for SigningKey<P> {
     type Error = Error;
 
     ghost signs = { λ _ msg. length msg ≤ 2 ^ 60 };
@@ -113,7 +107,7 @@ impl<P: ArrayLengths> Signer<Signature<P>> for SigningKey<P> {
 }
 
 /// Signs with an empty context, and with n random bytes.
-impl<P: ArrayLengths> RandomizedSigner<Signature<P>> for SigningKey<P> {
+impl<P: ParameterSet> RandomizedSigner<Signature<P>> for SigningKey<P> {
     type Error = Error;
 
     ghost signs = { λ _ msg. length msg ≤ 2 ^ 60 };
@@ -130,13 +124,13 @@ impl<P: ArrayLengths> RandomizedSigner<Signature<P>> for SigningKey<P> {
         rng: &mut R,
         msg: &[u8],
     ) -> Result<Signature<P>, Error> {
-        check_message(msg)?;
+        check_message(msg, Error::MessageTooLong)?;
         let bytes = zeros::<P::SigLen>(alloc)?;
         Ok(self.sign_drawn::<R, Brand>(rng, msg, bytes, Blank::new(1)))
     }
 }
 
-impl<P: ParameterSet> KeypairRef for SigningKey<P> {
+impl<P: SetSizes> KeypairRef for SigningKey<P> {
     type VerifyingKey = VerifyingKey<P>;
 
     ghost verifying_key = { λ key. drop (2 * P.N.USIZE) key };
@@ -147,7 +141,7 @@ impl<P: ParameterSet> KeypairRef for SigningKey<P> {
 }
 
 /// Verifies with an empty context.
-impl<P: ArrayLengths> Verifier<Signature<P>> for VerifyingKey<P> {
+impl<P: ParameterSet> Verifier<Signature<P>> for VerifyingKey<P> {
     type Error = Error;
 
     ghost accepts = { λ key msg sig. verify_error P.scheme key [] msg sig ≡ None };
@@ -159,7 +153,7 @@ impl<P: ArrayLengths> Verifier<Signature<P>> for VerifyingKey<P> {
     }
 }
 
-impl<P: ArrayLengths> SignatureEncoding for Signature<P> {
+impl<P: ParameterSet> SignatureEncoding for Signature<P> {
     type Size = P::SigLen;
 
     ghost encoding = { λ sig. sig };

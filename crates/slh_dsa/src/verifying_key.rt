@@ -3,24 +3,26 @@ ghost use Rattle.std.specs.Prelude.{◌≡◌, ◌≢◌, ◌≤◌, ◌+◌, �
 ghost use Rattle.std.specs.Prelude.{◌&&◌};
 ghost use Rattle.slh_core.specs.Costs.{slh_verify_bound};
 ghost use Rattle.slh_core.specs.Steps.{IsFresh};
-ghost use Rattle.slh_dsa.specs.Calls.{hash_verify_error, is_valid as spec_is_valid};
+ghost use Rattle.slh_core.specs.Bytes.{part};
+ghost use Rattle.slh_dsa.specs.Calls.{hash_verify_error, leads_to_root, verify_message_error};
 ghost use Rattle.slh_dsa.specs.Calls.{root_refusal, verify_error};
 ghost use Rattle.slh_dsa.specs.Calls.{verify_internal_error, verify_refusal};
 ghost use Rattle.slh_dsa.specs.Calls.{verifying_key_refusal};
-ghost use Rattle.slh_internal.specs.Checking.{signature_size};
-ghost use Rattle.slh_trees.specs.Refusals.{RefusedExactly};
+ghost use Rattle.slh_frames.specs.Messages.{joined, whole_message};
+ghost use Rattle.slh_trees.specs.Checking.{signature_size};
+ghost use Rattle.slh_core.specs.Refusals.{RefusedExactly};
 ghost use Rattle.slh_dsa.specs.declared.error.Error.TheVariants.{Invalid};
 
-use crate::checks::{check_context, check_message, check_signature, zeros};
+use crate::checks::{check_signature, zeros};
 use crate::error::Error;
-use crate::parameter_set::{ArrayLengths, ParameterSet};
+use crate::parameter_set::{ParameterSet, SetSizes};
 use crate::signature::Signature;
 use hybrid_array::{Array, ArraySize};
 use slh_core::nbytes::NBytes;
 use slh_core::params::{MAX_MESSAGE_LEN, chain_sizes};
 use slh_core::steps::Steps;
-use slh_frames::{Frame, Mode};
-use slh_internal::{SigView, check_root};
+use slh_frames::{Frame, Message, Mode, check_context, check_message};
+use slh_trees::{SigView, check_root};
 use std::alloc::{AllocError, Global};
 use std::marker::{Brand, Model};
 use std::sync::ledger::{Blank, Ledger};
@@ -28,12 +30,12 @@ use std::sync::ledger::{Blank, Ledger};
 /// A verifying key: the public seed and the root of the top tree, of n bytes each. Clauses see it
 /// as these 2n bytes.
 #[derive(Drop)]
-pub struct VerifyingKey<P: ParameterSet> {
+pub struct VerifyingKey<P: SetSizes> {
     pub(crate) pk_seed: NBytes<P::N>,
     pub(crate) pk_root: NBytes<P::N>,
 }
 
-impl<P: ParameterSet> Model for VerifyingKey<P> {
+impl<P: SetSizes> Model for VerifyingKey<P> {
     ghost use Rattle.std.specs.Prelude.{◌≡◌, ℕ, List, ◌++◌, length};
 
     ghost Value = { List ℕ };
@@ -43,7 +45,7 @@ impl<P: ParameterSet> Model for VerifyingKey<P> {
     ghost invariant = { λ k. (length k.pk_seed ≡ P.N.USIZE) × (length k.pk_root ≡ P.N.USIZE) };
 }
 
-impl<P: ParameterSet> VerifyingKey<P> {
+impl<P: SetSizes> VerifyingKey<P> {
     /// The key of 2n bytes. `Length`: there are fewer or more.
     pub fn try_from(bytes: &[u8]) -> Result<Self, Error>
         ensures refusal { RefusedExactly result (verifying_key_refusal P.scheme bytes.now) }
@@ -96,24 +98,73 @@ impl<P: ParameterSet> VerifyingKey<P> {
         ensures rises { steps.old ≤ steps.new }
         ensures free { IfErr result (λ e. e ≢ Invalid → steps.new ≡ steps.old) }
     {
-        Self::check_verify(msg, ctx, sig)?;
-        let frame = Frame::new(mode, ctx, msg);
-        let sig = SigView::exact(sig);
-        self.verify_slices(frame.head(), frame.ctx(), frame.tail(), &sig, steps)
+        let message = Self::message(mode, msg, ctx, sig)?;
+        self.verify_frame(&Frame::of(&message), sig, steps)
     }
 
-    /// The refusals of verifying, in every mode, but `Invalid`: `Length`, `ContextTooLong`,
-    /// `MessageTooLong`.
-    pub fn check_verify(msg: &[u8], ctx: &[u8], sig: &[u8]) -> Result<(), Error>
+    /// As `hash_verify_counted`, without a counter. Takes no memory.
+    pub fn hash_verify(&self, mode: Mode, msg: &[u8], ctx: &[u8], sig: &[u8]) -> Result<(), Error>
+        ensures { RefusedExactly result
+            (hash_verify_error P.scheme mode self.now ctx.now msg.now sig.now) }
+    {
+        let message = Self::message(mode, msg, ctx, sig)?;
+        self.verify_frame_on::<Brand>(&Frame::of(&message), sig, Blank::new(1))
+    }
+
+    /// The message that a signature is of: `Length`, `ContextTooLong`, `MessageTooLong`.
+    pub fn message<'a>(
+        mode: Mode,
+        msg: &'a [u8],
+        ctx: &'a [u8],
+        sig: &[u8],
+    ) -> Result<Message<'a>, Error>
         ensures refusal { RefusedExactly result
             (verify_refusal P.scheme ctx.now msg.now sig.now) }
+        ensures value { IfOk result (λ m. m ≡ whole_message mode ctx.now msg.now) }
         ensures sig { OnOk result (length sig.now ≡ signature_size P.scheme) }
-        ensures ctx { OnOk result (length ctx.now ≤ 255) }
-        ensures msg { OnOk result (length msg.now ≤ 2 ^ 60) }
     {
         check_signature::<P>(sig.len())?;
-        check_context(ctx)?;
-        check_message(msg)
+        check_context(ctx, Error::ContextTooLong)?;
+        check_message(msg, Error::MessageTooLong)?;
+        Ok(Message::fitting(mode, msg, ctx))
+    }
+
+    /// Verifies the bytes of a signature of a message, where they stand. `Length`: they aren't as
+    /// many as a signature has; `Invalid`: they don't lead to the key's root.
+    pub fn verify_message_counted<L: Ledger>(
+        &self,
+        message: &Message<'_>,
+        sig: &[u8],
+        steps: &mut Steps<L>,
+    ) -> Result<(), Error>
+        ensures value { RefusedExactly result
+            (verify_message_error P.scheme self.now (joined message.now) sig.now) }
+        ensures bound { steps.new ≤ steps.old + slh_verify_bound P.scheme }
+        ensures rises { steps.old ≤ steps.new }
+        ensures free { IfErr result (λ e. e ≢ Invalid → steps.new ≡ steps.old) }
+    {
+        check_signature::<P>(sig.len())?;
+        self.verify_frame(&Frame::of(message), sig, steps)
+    }
+
+    // Verifies a signature of what is signed. `Invalid`.
+    fn verify_frame<L: Ledger>(
+        &self,
+        frame: &Frame<'_>,
+        sig: &[u8],
+        steps: &mut Steps<L>,
+    ) -> Result<(), Error>
+        requires sig { length sig.now ≡ signature_size P.scheme }
+        requires fits { length frame.now.head + length frame.now.ctx + length frame.now.tail
+            ≤ MAX_MESSAGE_LEN }
+        ensures value { RefusedExactly result
+            (root_refusal P.scheme self.now (joined frame.now) sig.now) }
+        ensures only { IfErr result (λ e. e ≡ Invalid) }
+        ensures bound { steps.new ≤ steps.old + slh_verify_bound P.scheme }
+        ensures rises { steps.old ≤ steps.new }
+    {
+        let sig = SigView::exact(sig);
+        self.verify_slices(frame.head(), frame.ctx(), frame.tail(), &sig, steps)
     }
 
     // Verifies a signature of the message that the three slices joined are. `Invalid`.
@@ -139,36 +190,37 @@ impl<P: ParameterSet> VerifyingKey<P> {
         Ok(())
     }
 
-    /// As `hash_verify_counted`, without a counter. `Length`: `sig` doesn't have the bytes of a
-    /// signature; `ContextTooLong`, `MessageTooLong`; `Invalid`: it doesn't lead to the key's root.
-    /// Takes no memory.
-    pub fn verify_bytes(&self, mode: Mode, ctx: &[u8], msg: &[u8], sig: &[u8]) -> Result<(), Error>
+    /// As `verify_message_counted`, without a counter. Takes no memory.
+    pub fn verify_message(&self, message: &Message<'_>, sig: &[u8]) -> Result<(), Error>
+        ensures { RefusedExactly result
+            (verify_message_error P.scheme self.now (joined message.now) sig.now) }
+    {
+        check_signature::<P>(sig.len())?;
+        self.verify_frame_on::<Brand>(&Frame::of(message), sig, Blank::new(1))
+    }
+
+    /// As `hash_verify_counted`, without a counter, and with the message hashed block by block where
+    /// it is signed by its digest: for programs that are to be small.
+    pub fn verify_small(&self, mode: Mode, msg: &[u8], ctx: &[u8], sig: &[u8]) -> Result<(), Error>
         ensures { RefusedExactly result
             (hash_verify_error P.scheme mode self.now ctx.now msg.now sig.now) }
     {
-        self.verify_bytes_on::<Brand>(mode, ctx, msg, sig, Blank::new(1))
+        let message = Self::message(mode, msg, ctx, sig)?;
+        self.verify_frame_on::<Brand>(&Frame::small(&message), sig, Blank::new(1))
     }
 
-    /// As `verify_bytes`, where a message that is signed by its digest is hashed block by block: for
-    /// programs that are to be small.
-    pub fn verify_small(&self, mode: Mode, ctx: &[u8], msg: &[u8], sig: &[u8]) -> Result<(), Error>
-        ensures { RefusedExactly result
-            (hash_verify_error P.scheme mode self.now ctx.now msg.now sig.now) }
-    {
-        Self::check_verify(msg, ctx, sig)?;
-        self.verify_frame::<Brand>(&Frame::small(mode, ctx, msg), sig, Blank::new(1))
-    }
-
-    /// As `verify_bytes` in the mode `Pure`, without the code of the other modes.
-    pub fn verify_pure(&self, ctx: &[u8], msg: &[u8], sig: &[u8]) -> Result<(), Error>
+    /// The same in the mode `Pure`, without the code of the other modes.
+    pub fn verify_pure(&self, msg: &[u8], ctx: &[u8], sig: &[u8]) -> Result<(), Error>
         ensures { RefusedExactly result (verify_error P.scheme self.now ctx.now msg.now sig.now) }
     {
-        Self::check_verify(msg, ctx, sig)?;
-        self.verify_frame::<Brand>(&Frame::pure(ctx, msg), sig, Blank::new(1))
+        check_signature::<P>(sig.len())?;
+        check_context(ctx, Error::ContextTooLong)?;
+        check_message(msg, Error::MessageTooLong)?;
+        self.verify_frame_on::<Brand>(&Frame::pure(ctx, msg), sig, Blank::new(1))
     }
 
     // Verifies a signature of what is signed, on a counter that is made here.
-    fn verify_frame<L: Ledger>(
+    fn verify_frame_on<L: Ledger>(
         &self,
         frame: &Frame<'_>,
         sig: &[u8],
@@ -178,40 +230,33 @@ impl<P: ParameterSet> VerifyingKey<P> {
         requires fits { length frame.now.head + length frame.now.ctx + length frame.now.tail
             ≤ MAX_MESSAGE_LEN }
         requires fresh { IsFresh blank L.name L.parts }
-        ensures { let message = frame.now.head ++ frame.now.ctx ++ frame.now.tail in
-            RefusedExactly result (root_refusal P.scheme self.now message sig.now) }
-    {
-        let sig = SigView::exact(sig);
-        let mut steps = Steps::<L>::new(blank);
-        self.verify_slices(frame.head(), frame.ctx(), frame.tail(), &sig, &mut steps)
-    }
-
-    /// Whether the bytes of a signature lead to the key's root, for a message and a context of sizes
-    /// that no call refuses.
-    pub fn is_valid(&self, mode: Mode, ctx: &[u8], msg: &[u8], sig: &[u8]) -> bool
-        requires ctx { length ctx.now ≤ 255 }
-        requires msg { length msg.now ≤ 2 ^ 60 }
-        requires sig { length sig.now ≡ signature_size P.scheme }
-        ensures { result ≡ spec_is_valid P.scheme mode self.now ctx.now msg.now sig.now }
-    {
-        self.verify_bytes(mode, ctx, msg, sig).is_ok()
-    }
-
-    // As `verify_bytes`, on a counter that is made here.
-    fn verify_bytes_on<L: Ledger>(
-        &self,
-        mode: Mode,
-        ctx: &[u8],
-        msg: &[u8],
-        sig: &[u8],
-        blank: Blank,
-    ) -> Result<(), Error>
-        requires fresh { IsFresh blank L.name L.parts }
         ensures { RefusedExactly result
-            (hash_verify_error P.scheme mode self.now ctx.now msg.now sig.now) }
+            (root_refusal P.scheme self.now (joined frame.now) sig.now) }
     {
         let mut steps = Steps::<L>::new(blank);
-        self.hash_verify_counted(mode, msg, ctx, sig, &mut steps)
+        self.verify_frame(frame, sig, &mut steps)
+    }
+
+    /// Whether the bytes of a signature lead to the key's root, for a message.
+    pub fn is_valid(&self, message: &Message<'_>, sig: &[u8]) -> bool
+        requires { length sig.now ≡ signature_size P.scheme }
+        ensures { result ≡ leads_to_root P.scheme self.now (joined message.now) sig.now }
+    {
+        self.verify_message(message, sig).is_ok()
+    }
+
+    /// The public seed, of n bytes.
+    pub fn pk_seed(&self) -> &NBytes<P::N>
+        ensures { result.now ≡ part P.N.USIZE self.now 0 }
+    {
+        &self.pk_seed
+    }
+
+    /// The root of the top tree, of n bytes.
+    pub fn pk_root(&self) -> &NBytes<P::N>
+        ensures { result.now ≡ part P.N.USIZE self.now 1 }
+    {
+        &self.pk_root
     }
 
     /// Writes the key's 2n bytes.
@@ -246,7 +291,7 @@ impl<P: ParameterSet> VerifyingKey<P> {
 }
 
 /// Verifying what a `Signature` holds, and keys as arrays.
-impl<P: ArrayLengths> VerifyingKey<P> {
+impl<P: ParameterSet> VerifyingKey<P> {
     // Verifies a signature of the message that the three slices joined are, on a counter that is
     // made here.
     fn verify_new<L: Ledger>(
@@ -272,7 +317,7 @@ impl<P: ArrayLengths> VerifyingKey<P> {
         ensures { RefusedExactly result
             (verify_internal_error P.scheme self.now msg.now signature.now) }
     {
-        check_message(msg)?;
+        check_message(msg, Error::MessageTooLong)?;
         self.verify_new::<Brand>(&[], &[], msg, signature, Blank::new(1))
     }
 
@@ -302,7 +347,7 @@ impl<P: ArrayLengths> VerifyingKey<P> {
         ensures { RefusedExactly result
             (hash_verify_error P.scheme mode self.now ctx.now msg.now signature.now) }
     {
-        self.verify_bytes(mode, ctx, msg, signature.as_slice())
+        self.hash_verify(mode, msg, ctx, signature.as_slice())
     }
 
     /// The key of the 2n bytes of an array.
@@ -325,7 +370,7 @@ impl<P: ArrayLengths> VerifyingKey<P> {
     }
 }
 
-impl<P: ParameterSet> Clone for VerifyingKey<P> {
+impl<P: SetSizes> Clone for VerifyingKey<P> {
     ghost use Rattle.std.specs.Prelude.{◌≡◌, ⊤};
 
     ghost is_clone = { λ key copy. copy ≡ key };
@@ -344,7 +389,7 @@ pub(crate) fn both(first: bool, rest: bool) -> bool
     first && rest
 }
 
-impl<P: ParameterSet> PartialEq for VerifyingKey<P> {
+impl<P: SetSizes> PartialEq for VerifyingKey<P> {
     ghost use Rattle.std.specs.Prelude.{◌==◌};
     ghost use Rattle.std.specs.Cmp.Rules.{comparing};
     ghost use Rattle.std.specs.Cmp.Lexicographic.{pointwise};
@@ -359,7 +404,7 @@ impl<P: ParameterSet> PartialEq for VerifyingKey<P> {
     }
 }
 
-impl<P: ParameterSet> Eq for VerifyingKey<P> {
+impl<P: SetSizes> Eq for VerifyingKey<P> {
     ghost use Rattle.std.specs.Cmp.Rules.{comparing};
     ghost use Rattle.std.proofs.Common.{rules};
 

@@ -4,14 +4,14 @@ use Rattle.std.specs.List.{find}
 use Rattle.std.specs.Option.{option_map}
 use Rattle.std.specs.Str.{bytes_eq}
 use Rattle.slh_core.specs.Parameters.{Scheme}
-use Rattle.slh_hash.specs.Sets.{ParameterSet, sha2_128s, sha2_128f, sha2_192s, sha2_192f}
+use Rattle.slh_hash.specs.Sets.{SetSizes, sha2_128s, sha2_128f, sha2_192s, sha2_192f}
 use Rattle.slh_hash.specs.Sets.{sha2_256s, sha2_256f}
 use Rattle.slh_sets.specs.declared.set.Set.{Set}
 use Rattle.slh_sets.specs.declared.set.Set.TheVariants.{Sha2_128s, Sha2_128f}
 use Rattle.slh_sets.specs.declared.set.Set.TheVariants.{Sha2_192s, Sha2_192f}
 use Rattle.slh_sets.specs.declared.set.Set.TheVariants.{Sha2_256s, Sha2_256f}
 
-abbrev pub parameters_of : Set → ParameterSet
+abbrev pub parameters_of : Set → SetSizes
 parameters_of Sha2_128s = sha2_128s
 parameters_of Sha2_128f = sha2_128f
 parameters_of Sha2_192s = sha2_192s

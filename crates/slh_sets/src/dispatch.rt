@@ -4,11 +4,11 @@ ghost use Rattle.slh_core.specs.Parameters.{Scheme};
 ghost use Rattle.slh_sets.specs.Sets.{name_of, scheme_for};
 
 use crate::set::Set;
-use slh_dsa::{ParameterSet, Sha2_128f, Sha2_128s, Sha2_192f, Sha2_192s, Sha2_256f, Sha2_256s};
+use slh_dsa::{SetSizes, Sha2_128f, Sha2_128s, Sha2_192f, Sha2_192s, Sha2_256f, Sha2_256s};
 use slh_hash::ResumableSuite;
 
 /// What each of the sets is as a type.
-pub trait SetSuite: ParameterSet + ResumableSuite {}
+pub trait SetSuite: SetSizes + ResumableSuite {}
 
 impl SetSuite for Sha2_128s {}
 
@@ -57,6 +57,21 @@ pub trait WriteOnSet {
         ensures same { (wrote result → ⊥) → out.new ≡ out.old };
 }
 
+/// Something to do in a scratch buffer of the caller's, of which only the parameter set isn't known.
+/// Nothing is said of what the buffer holds afterwards.
+pub trait OnSetInScratch {
+    /// What it gives.
+    type Out: Drop;
+
+    /// What is said of it, for a suite with its sizes, for the name of the set, and where the buffer
+    /// has so many bytes.
+    ghost gives: { Self → Scheme → List ℕ → ℕ → Self.Out → Type 0 };
+
+    /// Does it.
+    fn on<P: SetSuite>(self, scratch: &mut [u8]) -> Self::Out
+        ensures { gives self P.scheme P.set_name (length scratch.old) result };
+}
+
 impl Set {
     /// Does something in this set.
     pub fn run<T: OnSet>(self, task: T) -> T::Out
@@ -69,6 +84,20 @@ impl Set {
             Set::Sha2_192f => task.on::<Sha2_192f>(),
             Set::Sha2_256s => task.on::<Sha2_256s>(),
             Set::Sha2_256f => task.on::<Sha2_256f>(),
+        }
+    }
+
+    /// Does something in a scratch buffer, in this set.
+    pub fn run_in_scratch<T: OnSetInScratch>(self, task: T, scratch: &mut [u8]) -> T::Out
+        ensures { T.gives task (scheme_for self) (name_of self) (length scratch.old) result }
+    {
+        match self {
+            Set::Sha2_128s => task.on::<Sha2_128s>(scratch),
+            Set::Sha2_128f => task.on::<Sha2_128f>(scratch),
+            Set::Sha2_192s => task.on::<Sha2_192s>(scratch),
+            Set::Sha2_192f => task.on::<Sha2_192f>(scratch),
+            Set::Sha2_256s => task.on::<Sha2_256s>(scratch),
+            Set::Sha2_256f => task.on::<Sha2_256f>(scratch),
         }
     }
 

@@ -22,5 +22,5 @@ pub mod laws;
 mod set;
 mod sizes;
 
-pub use dispatch::{OnSet, SetSuite, WriteOnSet};
+pub use dispatch::{OnSet, OnSetInScratch, SetSuite, WriteOnSet};
 pub use set::Set;

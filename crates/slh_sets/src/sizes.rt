@@ -2,7 +2,7 @@
 ghost use Rattle.std.specs.Prelude.{◌≡◌, ◌*◌, ◌≤◌};
 ghost use Rattle.slh_core.specs.Parameters.{Scheme};
 ghost use Rattle.slh_sets.specs.Sets.{scheme_for};
-ghost use Rattle.slh_internal.specs.Checking.{signature_size};
+ghost use Rattle.slh_trees.specs.Checking.{signature_size};
 
 use crate::dispatch::{OnSet, SetSuite};
 use crate::set::Set;
