@@ -4,24 +4,24 @@ use Rattle.std.proofs.Common.{◌≡◌, ℕ, ◌≤◌, Bool, IsTrue, true, fal
 use Rattle.std.proofs.Common.{Option, Result, Ok, Err}
 use Rattle.std.specs.Str.{bytes_eq}
 use Rattle.std.proofs.lemmas.Slice.Eq.{bytes_eq-Decides}
-use Rattle.slh_evidence.proofs.Binding.{sized_dispute}
+use Rattle.slh_audit.proofs.Binding.{sized_dispute}
 use Rattle.slh_audit.proofs.Judging.{by_search, own_is_genuine}
-use Rattle.slh_evidence.proofs.OwnLayers.{all_own}
-use Rattle.slh_evidence.specs.Evidence.{IsOwnFrom, Parts, dispute, dispute_on, shows}
-use Rattle.slh_evidence.specs.Places.{first_evidence}
+use Rattle.slh_audit.proofs.OwnLayers.{all_own}
+use Rattle.slh_audit.specs.Evidence.{IsOwnFrom, Parts, dispute, dispute_on, shows}
+use Rattle.slh_audit.specs.Places.{first_evidence}
 use Rattle.slh_audit.specs.Verdicts.{digest_audit, digest_of, digest_verdict, foreign_by, key_dispute, message_audit}
 use Rattle.slh_audit.specs.declared.evidence.AuditError.{AuditError}
 use Rattle.slh_audit.specs.declared.evidence.AuditError.TheVariants.{Invalid, KeyMismatch}
-use Rattle.slh_evidence.specs.declared.evidence.Evidence.{Evidence}
+use Rattle.slh_audit.specs.declared.evidence.Evidence.{Evidence}
 use Rattle.slh_audit.specs.declared.evidence.Verdict.{Verdict}
 use Rattle.slh_audit.specs.declared.evidence.Verdict.TheVariants.{Genuine}
 use Rattle.slh_core.specs.Bytes.{part}
 use Rattle.slh_core.specs.Parameters.{Scheme}
 use Rattle.slh_core.specs.Suite.{HasBytes, HasLength}
-use Rattle.slh_internal.specs.Checking.{digest_root, forest_of, layers_of, signature_size}
-use Rattle.slh_internal.specs.Keys.{top_root}
-use Rattle.slh_internal.specs.MessageDigest.{split_digest}
-use Rattle.slh_trees.specs.Fors.{fors_sig}
+use Rattle.slh_trees.specs.Checking.{digest_root, forest_of, layers_of, signature_size}
+use Rattle.slh_trees.specs.Keys.{top_root}
+use Rattle.slh_trees.specs.MessageDigest.{split_digest}
+use Rattle.slh_merkle.specs.Fors.{fors_sig}
 
 -- what a key and a signature bring for a digest
 abbrev pub parts_of : Scheme → List ℕ → List ℕ → List ℕ → List ℕ → Parts

@@ -4,29 +4,29 @@ use Rattle.std.specs.Str.{bytes_eq}
 use Rattle.std.proofs.lemmas.Slice.Eq.{bytes_eq-Decides}
 use Rattle.std.proofs.Common.{◌⊎◌, inl, inr, Some, Option, Result, Ok, Err, IfOk, ◌∙◌, sym, ap}
 use Rattle.std.proofs.Common.{refl}
-use Rattle.slh_evidence.proofs.Binding.{IsSized, binding, made_from_own, none_shows, own_from_made}
-use Rattle.slh_evidence.proofs.Meaning.{dispute_of, shows_means}
-use Rattle.slh_evidence.proofs.Order.{none_found, shown_found, two}
-use Rattle.slh_evidence.proofs.OwnLayers.{not_true}
-use Rattle.slh_evidence.specs.Evidence.{shows}
-use Rattle.slh_evidence.specs.Places.{first_evidence, places}
+use Rattle.slh_audit.proofs.Binding.{IsSized, binding, made_from_own, none_shows, own_from_made}
+use Rattle.slh_audit.proofs.Meaning.{dispute_of, shows_means}
+use Rattle.slh_audit.proofs.Order.{none_found, shown_found, two}
+use Rattle.slh_audit.proofs.OwnLayers.{not_true}
+use Rattle.slh_audit.specs.Evidence.{shows}
+use Rattle.slh_audit.specs.Places.{first_evidence, places}
 use Rattle.slh_audit.specs.Verdicts.{IsGenuineExactly, digest_verdict, foreign_by, message_audit}
 use Rattle.slh_audit.specs.declared.evidence.AuditError.{AuditError}
 use Rattle.slh_audit.specs.declared.evidence.Verdict.{Verdict}
 use Rattle.slh_audit.specs.declared.evidence.Verdict.TheVariants.{Foreign, Genuine}
-use Rattle.slh_evidence.specs.declared.evidence.Evidence.{Evidence}
+use Rattle.slh_audit.specs.declared.evidence.Evidence.{Evidence}
 use Rattle.slh_core.specs.Bytes.{part}
 use Rattle.slh_core.specs.Suite.{HasBytes}
-use Rattle.slh_internal.specs.Checking.{checked_root}
-use Rattle.slh_internal.specs.Keys.{top_root}
-use Rattle.slh_internal.specs.Signing.{signature_with}
+use Rattle.slh_trees.specs.Checking.{checked_root}
+use Rattle.slh_trees.specs.Keys.{top_root}
+use Rattle.slh_trees.specs.Signing.{signature_with}
 use Rattle.std.proofs.Common.{false, true}
 use Rattle.std.proofs.lemmas.Bool.{false≢true}
-use Rattle.slh_evidence.specs.Evidence.{IsOwn, dispute}
+use Rattle.slh_audit.specs.Evidence.{IsOwn, dispute}
 use Rattle.slh_core.specs.Parameters.{Scheme}
 use Rattle.slh_core.specs.Suite.{HasLength}
-use Rattle.slh_internal.specs.Checking.{signature_size}
-use Rattle.slh_internal.specs.Signing.{digest_signature}
+use Rattle.slh_trees.specs.Checking.{signature_size}
+use Rattle.slh_trees.specs.Signing.{digest_signature}
 
 -- accepted bytes are those that the key makes, or the search finds evidence
 pub made_or_found : (Z : Scheme) (key message sig : List ℕ) → HasLength Z.suite Z.n → HasBytes Z.suite → Z.n ≤ 32 → 1 ≤ Z.d → 1 ≤ Z.hp → length sig ≡ signature_size Z

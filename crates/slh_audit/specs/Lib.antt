@@ -1,1 +1,3 @@
+pub mod Evidence
+pub mod Places
 pub mod Verdicts

@@ -6,20 +6,20 @@ use Rattle.slh_audit.specs.declared.evidence.AuditError.{AuditError}
 use Rattle.slh_audit.specs.declared.evidence.AuditError.TheVariants.{Length, ContextTooLong}
 use Rattle.slh_audit.specs.declared.evidence.AuditError.TheVariants.{MessageTooLong, KeyMismatch}
 use Rattle.slh_audit.specs.declared.evidence.AuditError.TheVariants.{Invalid}
-use Rattle.slh_evidence.specs.declared.evidence.Evidence.{Evidence}
+use Rattle.slh_audit.specs.declared.evidence.Evidence.{Evidence}
 use Rattle.slh_audit.specs.declared.evidence.Verdict.{Verdict}
 use Rattle.slh_audit.specs.declared.evidence.Verdict.TheVariants.{Genuine, Foreign}
-use Rattle.slh_evidence.specs.Evidence.{Dispute, dispute, dispute_of, shows}
-use Rattle.slh_evidence.specs.Places.{first_evidence}
+use Rattle.slh_audit.specs.Evidence.{Dispute, dispute, dispute_of, shows}
+use Rattle.slh_audit.specs.Places.{first_evidence}
 use Rattle.slh_core.specs.Bytes.{part}
 use Rattle.slh_core.specs.Parameters.{Scheme}
-use Rattle.slh_internal.specs.Checking.{checked_root, digest_root, signature_size}
+use Rattle.slh_trees.specs.Checking.{checked_root, digest_root, signature_size}
 use Rattle.slh_frames.specs.Frames.{frame, mode_frame}
 use Rattle.slh_frames.specs.declared.frame.Mode.{Mode}
-use Rattle.slh_internal.specs.Keys.{top_root}
-use Rattle.slh_internal.specs.Signing.{digest_signature, signature_with}
-use Rattle.slh_trees.specs.Refusals.{context_refusal, first_refusal, length_refusal, message_refusal}
-use Rattle.slh_trees.specs.Refusals.{unless_refused}
+use Rattle.slh_trees.specs.Keys.{top_root}
+use Rattle.slh_trees.specs.Signing.{digest_signature, signature_with}
+use Rattle.slh_core.specs.Refusals.{context_refusal, first_refusal, length_refusal, message_refusal}
+use Rattle.slh_core.specs.Refusals.{unless_refused}
 
 -- the first refusal by size, where there is one
 abbrev pub size_refusal : Scheme → List ℕ → List ℕ → List ℕ → List ℕ → Option AuditError

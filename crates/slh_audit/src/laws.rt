@@ -2,23 +2,22 @@
 //! speaks of.
 ghost use Rattle.std.specs.Prelude.{◌≡◌, ◌⊎◌, ℕ, List, length, take, Some, Ok, true, false};
 ghost use Rattle.std.specs.List.{Contains};
-ghost use Rattle.slh_evidence.specs.Evidence.{Dispute, dispute_of, shows};
-ghost use Rattle.slh_evidence.specs.Places.{IsFirst, first_evidence, places};
+ghost use Rattle.slh_audit.specs.Evidence.{Dispute, dispute_of, shows};
+ghost use Rattle.slh_audit.specs.Places.{IsFirst, first_evidence, places};
 ghost use Rattle.slh_audit.specs.Verdicts.{IsGenuineExactly, message_audit};
-ghost use Rattle.slh_evidence.specs.declared.evidence.Evidence.{Evidence};
+ghost use Rattle.slh_audit.specs.declared.evidence.Evidence.{Evidence};
 ghost use Rattle.slh_audit.specs.declared.evidence.Verdict.{Verdict};
 ghost use Rattle.slh_core.specs.Bytes.{part};
-ghost use Rattle.slh_internal.specs.Checking.{checked_root, signature_size};
-ghost use Rattle.slh_internal.specs.Keys.{top_root};
-ghost use Rattle.slh_internal.specs.Signing.{signature_with};
+ghost use Rattle.slh_trees.specs.Checking.{checked_root, signature_size};
+ghost use Rattle.slh_trees.specs.Keys.{top_root};
+ghost use Rattle.slh_trees.specs.Signing.{signature_with};
 
-use crate::evidence::Verdict;
-use slh_core::params::ForsParams;
-use slh_evidence::Evidence;
+use crate::evidence::{Evidence, Verdict};
+use slh_core::params::ForsSizes;
 
 /// Bytes that lead to the root of a key's seeds are those that the key makes with their own
 /// randomizer, or the search finds evidence against them.
-pub fn accepted_is_made_or_found<P: ForsParams>()
+pub fn accepted_is_made_or_found<P: ForsSizes>()
     ensures { (key message sig : List ℕ)
         → length sig ≡ signature_size P.scheme
         → let Z = P.scheme in
@@ -30,7 +29,7 @@ pub fn accepted_is_made_or_found<P: ForsParams>()
 
 /// Where the audit of a message has a verdict, it is `Genuine` exactly for the bytes that the key
 /// makes with their own randomizer.
-pub fn genuine_is_made<P: ForsParams>()
+pub fn genuine_is_made<P: ForsSizes>()
     ensures { (key message sig : List ℕ) (verdict : Verdict)
         → length sig ≡ signature_size P.scheme
         → message_audit P.scheme key message sig ≡ Ok verdict
@@ -38,7 +37,7 @@ pub fn genuine_is_made<P: ForsParams>()
 {}
 
 /// Nothing shows against the bytes that a key makes, whatever root it has.
-pub fn nothing_shows_against_made<P: ForsParams>()
+pub fn nothing_shows_against_made<P: ForsSizes>()
     ensures { (key message sig : List ℕ) (e : Evidence)
         → length sig ≡ signature_size P.scheme
         → let Z = P.scheme in

@@ -12,7 +12,7 @@
 //!
 //! ```
 //! use slh_audit::{AuditError, Evidence, Verdict, audit, check_evidence};
-//! use slh_trees::toy::Toy;
+//! use slh_merkle::toy::Toy;
 //!
 //! const KEY: [u8; 4] = [5, 7, 3, 0xe1];
 //!
@@ -30,19 +30,27 @@
 //! Where byte 9 of the key's own signature is 0x48 in place of 0x49, the key accepts it, and the
 //! verdict is `Foreign` with [`Evidence::ChainStep`]: a value that the key doesn't make, from which
 //! a step of the chain leads where it leads from the key's. [`hash_audit`] and
-//! [`hash_check_evidence`] do the same of what was signed in a mode. Each refusal comes for the
-//! cause that its variant of [`AuditError`] names, the first in the order of the variants.
+//! [`hash_check_evidence`] do the same of what was signed in a mode, [`audit_message`] and
+//! [`check_message_evidence`] of a [`Message`] that was made. Each refusal comes for the cause that its variant of [`AuditError`] names, the
+//! first in the order of the variants.
 #![tactic(auto)]
 
 mod calls;
 pub mod clones;
+mod dispute;
 pub mod evidence;
+mod forest;
 pub mod laws;
+mod layer;
+mod made;
+mod search;
+mod showing;
 mod size_checks;
 
 pub use calls::{
-    audit, audit_for_digest, audit_framed, check_evidence, check_evidence_for_digest,
-    check_evidence_framed, hash_audit, hash_check_evidence,
+    audit, audit_for_digest, audit_framed, audit_message, check_evidence,
+    check_evidence_for_digest, check_evidence_framed, check_message_evidence, hash_audit,
+    hash_check_evidence,
 };
-pub use evidence::{AuditError, Verdict};
-pub use slh_evidence::Evidence;
+pub use evidence::{AuditError, Evidence, Verdict};
+pub use slh_frames::Message;

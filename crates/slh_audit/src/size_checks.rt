@@ -1,17 +1,18 @@
 //! The checks of sizes that come before anything is hashed.
-ghost use Rattle.std.specs.Prelude.{◌≡◌, ◌≤◌, ◌+◌, ◌*◌, ◌^◌, length, IfOk, OnOk};
+ghost use Rattle.std.specs.Prelude.{◌≡◌, ◌*◌, length, IfOk, None, OnOk};
 ghost use Rattle.slh_audit.specs.Verdicts.{length_refusals, size_refusal};
-ghost use Rattle.slh_internal.specs.Checking.{signature_size};
-ghost use Rattle.slh_trees.specs.Refusals.{RefusedExactly};
+ghost use Rattle.slh_frames.specs.Messages.{whole_message};
+ghost use Rattle.slh_trees.specs.Checking.{signature_size};
+ghost use Rattle.slh_core.specs.Refusals.{RefusedExactly};
 
 use crate::evidence::AuditError;
 use hybrid_array::ArraySize;
-use slh_core::params::{ForsParams, forest_sizes};
-use slh_frames::{MAX_CONTEXT, MAX_MESSAGE};
-use slh_internal::SigView;
+use slh_core::params::{ForsSizes, forest_sizes};
+use slh_frames::{Message, Mode, check_context, check_message};
+use slh_trees::SigView;
 
 /// A view of the signature, where the key and the signature have their lengths.
-pub(crate) fn check_lengths<'a, P: ForsParams>(
+pub(crate) fn check_lengths<'a, P: ForsSizes>(
     key: &[u8],
     sig: &'a [u8],
 ) -> Result<SigView<'a, P>, AuditError>
@@ -30,30 +31,22 @@ pub(crate) fn check_lengths<'a, P: ForsParams>(
     }
 }
 
-/// The same, or the first refusal by size, in the order of `AuditError`.
-pub(crate) fn check_sizes<'a, P: ForsParams>(
+/// The message of an audit or of a test of evidence: `Length`, where the key or the signature has a
+/// wrong number of bytes; `ContextTooLong`, `MessageTooLong`.
+pub(crate) fn message<'a, P: ForsSizes>(
+    mode: Mode,
     key: &[u8],
-    ctx: &[u8],
-    msg: &[u8],
-    sig: &'a [u8],
-) -> Result<SigView<'a, P>, AuditError>
+    msg: &'a [u8],
+    ctx: &'a [u8],
+    sig: &[u8],
+) -> Result<Message<'a>, AuditError>
     ensures refusal { let refusal = size_refusal P.scheme key.now ctx.now msg.now sig.now in
         RefusedExactly result refusal }
-    ensures key { OnOk result (length key.now ≡ 4 * P.N.USIZE) }
-    ensures sig { IfOk result (λ view. view ≡ sig.now) }
-    ensures whole { OnOk result (length sig.now ≡ signature_size P.scheme) }
-    ensures ctx { OnOk result (length ctx.now ≤ 255) }
-    ensures msg { OnOk result (length msg.now ≤ 2 ^ 60) }
+    ensures lengths { OnOk result (length_refusals P.scheme key.now sig.now ≡ None) }
+    ensures value { IfOk result (λ m. m ≡ whole_message mode ctx.now msg.now) }
 {
-    let view = match check_lengths(key, sig) {
-        Ok(view) => view,
-        Err(refusal) => return Err(refusal),
-    };
-    if ctx.len() > MAX_CONTEXT {
-        return Err(AuditError::ContextTooLong);
-    }
-    if msg.len() > MAX_MESSAGE {
-        return Err(AuditError::MessageTooLong);
-    }
-    Ok(view)
+    check_lengths::<P>(key, sig)?;
+    check_context(ctx, AuditError::ContextTooLong)?;
+    check_message(msg, AuditError::MessageTooLong)?;
+    Ok(Message::fitting(mode, msg, ctx))
 }

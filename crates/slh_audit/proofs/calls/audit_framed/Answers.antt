@@ -4,14 +4,14 @@ use Rattle.slh_audit.proofs.Judging.{if_genuine}
 use Rattle.slh_core.specs.Parameters.{scheme_of}
 use Rattle.slh_audit.proofs.calls.audit_framed.Goals as goal
 
-pub returns-in-Ok-clause-genuine : goal.returns-in-Ok-clause-genuine
-returns-in-Ok-clause-genuine g c =
-    let Z = scheme_of g.P.HashSuite.suite g.P.N.ArraySize.USIZE g.P.XmssParams.H_PRIME g.P.HypertreeParams.D g.P.ForsParams.A g.P.ForsParams.K in
-    let scheme = g.met.P.ForsParams.scheme_is in
-    let n_high = g.met.P.WotsParams.valid_wots.n_high in
+pub returns-clause-genuine : goal.returns-clause-genuine
+returns-clause-genuine g c =
+    let Z = scheme_of g.P.HashSuite.suite g.P.N.ArraySize.USIZE g.P.XmssSizes.H_PRIME g.P.HypertreeSizes.D g.P.ForsSizes.A g.P.ForsSizes.K in
+    let scheme = g.met.P.ForsSizes.scheme_is in
+    let n_high = g.met.P.WotsSizes.valid_wots.n_high in
     let message = c.args.head.now ++ c.args.ctx.now ++ c.args.msg.now in
-    let answered = rw (scheme, c.in-Ok.ensures.sig) at c.audit_message.ensures in
-    rw scheme (if_genuine Z c.args.key.now message c.args.sig.now c.audit_message.result (g.met.P.HashSuite.lengths n_high) g.met.P.HashSuite.value_bytes n_high g.met.P.HypertreeParams.valid_hypertree.layers g.P.XmssParams.valid_xmss.height_low (rw scheme at c.in-Ok.ensures.whole) answered)
+    let answered = rw (scheme, c.in_ok-sig.ensures.sig) at c.audit_slices.ensures in
+    rw scheme (if_genuine Z c.args.key.now message c.args.sig.now c.audit_slices.result (g.met.P.HashSuite.lengths n_high) g.met.P.HashSuite.value_bytes n_high g.met.P.HypertreeSizes.valid_hypertree.layers g.met.P.XmssSizes.valid_xmss.height_low (rw scheme at c.in_ok-sig.ensures.whole) answered)
 
-pub returns-in-Err : goal.returns-in-Err
-returns-in-Err g c = grind (arith, common_steps)
+pub returns-in_err-sig : goal.returns-in_err-sig
+returns-in_err-sig g c = grind (arith, common_steps)

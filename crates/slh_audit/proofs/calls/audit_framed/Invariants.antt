@@ -1,4 +1,4 @@
 use Rattle.slh_audit.proofs.calls.audit_framed.Given as goal
 
-abbrev pub ghosts-audit_message : goal.ghosts-audit_message
-ghosts-audit_message g a = record { name = a.blank.name; parts = a.blank.parts }
+abbrev pub ghosts-audit_slices : goal.ghosts-audit_slices
+ghosts-audit_slices g a = record { name = a.blank.name; parts = a.blank.parts }

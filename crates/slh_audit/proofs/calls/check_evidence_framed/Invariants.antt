@@ -1,4 +1,4 @@
 use Rattle.slh_audit.proofs.calls.check_evidence_framed.Given as goal
 
-abbrev pub ghosts-check_message : goal.ghosts-check_message
-ghosts-check_message g a = record { name = a.blank.name; parts = a.blank.parts }
+abbrev pub ghosts-check_slices : goal.ghosts-check_slices
+ghosts-check_slices g a = record { name = a.blank.name; parts = a.blank.parts }

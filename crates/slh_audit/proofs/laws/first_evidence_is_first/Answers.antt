@@ -1,4 +1,4 @@
-use Rattle.slh_evidence.proofs.Order.{is_first}
+use Rattle.slh_audit.proofs.Order.{is_first}
 use Rattle.slh_audit.proofs.laws.first_evidence_is_first.Goals as goal
 
 pub returns : goal.returns

@@ -1,5 +1,5 @@
-use Rattle.slh_evidence.proofs.Meaning.{shows_means}
-use Rattle.slh_evidence.proofs.Order.{shown_has}
+use Rattle.slh_audit.proofs.Meaning.{shows_means}
+use Rattle.slh_audit.proofs.Order.{shown_has}
 use Rattle.slh_audit.proofs.laws.shown_has_a_place.Goals as goal
 
 pub returns : goal.returns

@@ -1,0 +1,14 @@
+use Rattle.std.proofs.Common.{◌≡◌, ◌-◌, [], ◌∷◌, None}
+use Rattle.std.specs.List.{find}
+use Rattle.slh_audit.specs.Evidence.{dispute_on, shows}
+use Rattle.slh_audit.specs.Places.{in_turn}
+use Rattle.slh_audit.specs.declared.evidence.Evidence.TheVariants.{ChainStep}
+use Rattle.slh_core.specs.Parameters.{scheme_of}
+use Rattle.slh_audit.proofs.layer.LayerCheck.first_in_chain.Given as goal
+
+-- nothing so far shows
+abbrev pub invariant-loop-down : goal.invariant-loop-down
+invariant-loop-down g l =
+    let Z = scheme_of g.P.HashSuite.suite g.P.N.ArraySize.USIZE g.P.XmssSizes.H_PRIME g.P.HypertreeSizes.D g.P.ForsSizes.A g.P.ForsSizes.K in
+    let D = dispute_on Z l.self.dispute.now in
+    find (shows D) (in_turn (λ down. ChainStep l.layer l.chain (14 - down) ∷ []) l.down) ≡ None

@@ -1,6 +1,0 @@
-use Rattle.slh_trees.proofs.Layers.{part_fits}
-use Rattle.slh_evidence.proofs.dispute.Dispute.layer_sig.Goals as goal
-
-pub piece-requires : goal.piece-requires
-piece-requires g c =
-    part_fits c.args.layer g.P.HypertreeParams.D c.layer_len.result _ c.requires (rw c.layer_len.ensures.value c.self.invariant.2)
