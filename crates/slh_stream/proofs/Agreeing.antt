@@ -14,7 +14,7 @@ use Rattle.slh_dsa.specs.declared.error.Error.{Error}
 use Rattle.slh_dsa.specs.declared.error.Error.TheVariants.{Length, ContextTooLong, MessageTooLong}
 use Rattle.slh_frames.specs.declared.frame.Mode.TheVariants.{Sha256, Sha512}
 use Rattle.slh_stream.specs.Digests.{verify_digest_error}
-use Rattle.slh_trees.specs.Refusals.{context_refusal, first_refusal, length_refusal, message_refusal}
+use Rattle.slh_core.specs.Refusals.{context_refusal, first_refusal, length_refusal, message_refusal}
 
 in_another_order : (a d c m r : Option Error) → d ≡ None → m ≡ None
     → first_refusal (a ∷ d ∷ c ∷ r ∷ []) ≡ first_refusal (first_refusal (a ∷ c ∷ m ∷ []) ∷ r ∷ [])

@@ -3,9 +3,9 @@ use Rattle.std.proofs.Common.{◌≡◌, ℕ, ◌≤◌, List, [], ◌++◌, len
 use Rattle.slh_core.specs.Bytes.{part}
 use Rattle.slh_frames.specs.Frames.{head_of}
 use Rattle.slh_frames.specs.declared.frame.Mode.{Mode}
-use Rattle.slh_stream.specs.Tails.{IsTailOf, mode_of, passed_on}
+use Rattle.slh_frames.specs.Tails.{IsTailOf, mode_of, passed_on}
 use Rattle.slh_stream.specs.Verifying.{IsVerifying}
-use Rattle.slh_stream.specs.declared.tail.Tail.{Tail}
+use Rattle.slh_frames.specs.declared.pieces.Tail.{Tail}
 
 pub begun : (n : ℕ) (digests : List ℕ → List ℕ → List ℕ → List ℕ → Type 0) (tail : Tail) (seed root : List ℕ)
     (mode : Mode) (key context sig view rand : List ℕ)

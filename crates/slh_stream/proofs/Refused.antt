@@ -2,7 +2,7 @@
 use Rattle.std.proofs.Common.{◌≡◌, ℕ, ◌≤◌, ◌^◌, List, [], ◌∷◌, ◌++◌, length, Option, Some, None, refl, ap, inl, inr, if◌then◌else◌, arith, length-append}
 use Rattle.std.specs.Prelude.{nat_lt, false, true, Result, Ok, Err, IsErrAnd}
 use Rattle.std.proofs.lemmas.Bool.{cases_lt, lt-ltb, le-ltb}
-use Rattle.slh_trees.specs.Refusals.{RefusedExactly, first_refusal, message_refusal}
+use Rattle.slh_core.specs.Refusals.{RefusedExactly, first_refusal, message_refusal}
 
 -- what is refused of the empty message is refused of each
 pub begun_refused : {E : Type 0} (a c m r : Option E) (e : E) → first_refusal (a ∷ c ∷ None ∷ []) ≡ Some e

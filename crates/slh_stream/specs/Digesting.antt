@@ -2,15 +2,8 @@
 use Rattle.std.specs.Prelude.{◌≡◌, ℕ, List, Option, length, unwrap_or}
 use Rattle.slh_core.specs.Bytes.{part}
 use Rattle.slh_frames.specs.declared.frame.Mode.{Mode}
-use Rattle.slh_frames.specs.declared.frame.Mode.TheVariants.{Pure, Sha256, Sha512}
-use Rattle.slh_stream.specs.Tails.{IsTailOf, mode_of}
-use Rattle.slh_stream.specs.declared.tail.Tail.{Tail}
-
--- the modes in which a digest is signed
-abbrev pub HasDigest : Mode → Type 0
-HasDigest Pure = ⊥
-HasDigest Sha256 = Unit {0}
-HasDigest Sha512 = Unit {0}
+use Rattle.slh_frames.specs.Tails.{HasDigest, IsTailOf, mode_of}
+use Rattle.slh_frames.specs.declared.pieces.Tail.{Tail}
 
 -- The signer stands for a mode that has a digest, a signing key, a randomizer, or none, a context
 -- and a message.

@@ -4,12 +4,13 @@ use Rattle.sha256_lanes.specs.Sha256.{sha256}
 use Rattle.sha2.specs.Sha512.{sha512}
 use Rattle.slh_core.specs.Parameters.{Scheme}
 use Rattle.slh_dsa.specs.Calls.{opt_rand_refusal, root_refusal, signature_refusal}
-use Rattle.slh_frames.specs.Frames.{head_of, sha256_identifier, sha512_identifier}
+use Rattle.slh_frames.specs.Frames.{head_of}
+use Rattle.slh_frames.specs.Messages.{digest_size_refusal, digest_tail}
 use Rattle.slh_dsa.specs.declared.error.Error.{Error}
 use Rattle.slh_dsa.specs.declared.error.Error.TheVariants.{Length, ContextTooLong}
 use Rattle.slh_frames.specs.declared.frame.Mode.{Mode}
 use Rattle.slh_frames.specs.declared.frame.Mode.TheVariants.{Pure, Sha256, Sha512}
-use Rattle.slh_trees.specs.Refusals.{context_refusal, first_refusal, length_refusal}
+use Rattle.slh_core.specs.Refusals.{context_refusal, first_refusal}
 
 -- the digest of a message in a mode that has one
 abbrev pub digest_in : Mode → List ℕ → List ℕ
@@ -17,21 +18,18 @@ digest_in Pure message = message
 digest_in Sha256 message = sha256 message
 digest_in Sha512 message = sha512 message
 
--- what is signed after the context where a digest is given
-abbrev pub digest_tail : Mode → List ℕ → List ℕ
-digest_tail Pure digest = []
-digest_tail Sha256 digest = sha256_identifier ++ digest
-digest_tail Sha512 digest = sha512_identifier ++ digest
-
 -- the whole, for a context of at most 255 bytes
 abbrev pub digest_frame : Mode → List ℕ → List ℕ → List ℕ
 digest_frame mode context digest = head_of mode context ++ context ++ digest_tail mode digest
 
 -- a digest has the bytes of its hash function; the mode Pure has no digest
 abbrev pub digest_refusal : Mode → ℕ → Option Error
-digest_refusal Pure len = Some Length
-digest_refusal Sha256 len = length_refusal Length 32 len
-digest_refusal Sha512 len = length_refusal Length 64 len
+digest_refusal mode len = digest_size_refusal Length mode len
+
+-- why there is no message of a digest
+abbrev pub digest_input_refusal : Mode → List ℕ → List ℕ → Option Error
+digest_input_refusal mode context digest = first_refusal
+    (digest_refusal mode (length digest) ∷ context_refusal ContextTooLong context ∷ [])
 
 -- what verifying by a digest answers
 abbrev pub verify_digest_error : Scheme → Mode → List ℕ → List ℕ → List ℕ → List ℕ → Option Error

@@ -1,4 +1,3 @@
-pub mod Tails
 pub mod Verifying
 pub mod Passes
 pub mod Digests

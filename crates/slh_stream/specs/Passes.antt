@@ -9,9 +9,10 @@ use Rattle.slh_dsa.specs.declared.error.Error.{Error}
 use Rattle.slh_dsa.specs.declared.error.Error.TheVariants.{MessageTooLong}
 use Rattle.slh_stream.specs.declared.pass_error.PassError.{PassError}
 use Rattle.slh_stream.specs.declared.pass_error.PassError.TheVariants.{Length, Changed}
-use Rattle.slh_internal.specs.Checking.{signature_size}
+use Rattle.slh_trees.specs.Checking.{signature_size}
+use Rattle.slh_trees.specs.Signing.{digest_signature}
 use Rattle.slh_frames.specs.Frames.{frame}
-use Rattle.slh_trees.specs.Refusals.{first_refusal, length_refusal, message_refusal}
+use Rattle.slh_core.specs.Refusals.{first_refusal, length_refusal, message_refusal}
 
 -- The first pass stands for a signing key, a randomizer, or none, a context and a message: PRF_msg
 -- was begun for the key's PRF key, of n bytes, and has absorbed the frame of the message.
@@ -33,6 +34,13 @@ pub record IsSecond (n : ℕ) (authenticates : List ℕ → List ℕ → List �
   pub taken_is : taken ≡ length message
   pub stands : authenticates (part n key 1) kept (frame context message)
   pub hashed : digests rand (part n key 2) (part n key 3) (frame context message)
+
+-- The bytes are the signature by a key, with a randomizer, of what H_msg stands for.
+pub record IsSigned (Z : Scheme) (n : ℕ) (digests : List ℕ → List ℕ → List ℕ → List ℕ → Type 0)
+    (key rand sig : List ℕ) : Type 0 where
+  pub digest : List ℕ
+  pub hashed : (r s root m : List ℕ) → digests r s root m → digest ≡ Z.suite.h_msg r s root m
+  pub written : sig ≡ digest_signature Z (part n key 2) (part n key 0) rand digest
 
 -- PRF_msg of what is signed
 abbrev pub randomizer_for : Scheme → List ℕ → Option (List ℕ) → List ℕ → List ℕ

@@ -4,8 +4,9 @@ use Rattle.slh_core.specs.Bytes.{part}
 use Rattle.slh_core.specs.Parameters.{Scheme}
 use Rattle.slh_frames.specs.Frames.{head_of, mode_frame}
 use Rattle.slh_frames.specs.declared.frame.Mode.{Mode}
-use Rattle.slh_stream.specs.Tails.{StandsAfter, mode_of}
-use Rattle.slh_stream.specs.declared.tail.Tail.{Tail}
+use Rattle.slh_trees.specs.Checking.{digest_root}
+use Rattle.slh_frames.specs.Tails.{StandsAfter, mode_of}
+use Rattle.slh_frames.specs.declared.pieces.Tail.{Tail}
 
 -- The verifier's state stands for a mode, the bytes of a verifying key, a context, a signature and
 -- a message: H_msg was begun for the signature's randomizer, of n bytes, and the parts of the key,
@@ -21,6 +22,11 @@ pub record IsVerifying (n : ℕ) (digests : List ℕ → List ℕ → List ℕ �
   pub taken_is : taken ≡ length message
   pub stands :
       StandsAfter (digests (take n sig) seed root) tail (head_of mode context ++ context) message
+
+-- From some digest a signature leads to a root, under a public seed.
+pub record EndsIn (Z : Scheme) (seed root sig : List ℕ) : Type 0 where
+  pub digest : List ℕ
+  pub ends : digest_root Z seed digest sig ≡ root
 
 -- H_msg of a message that is signed in a mode, with a signature's randomizer, under a verifying key
 abbrev pub message_digest : Scheme → Mode → List ℕ → List ℕ → List ℕ → List ℕ → List ℕ

@@ -4,17 +4,17 @@ ghost use Rattle.std.specs.Option.{option_copied};
 ghost use Rattle.slh_dsa.specs.Calls.{hash_verify_error};
 ghost use Rattle.slh_frames.specs.Frames.{frame};
 ghost use Rattle.slh_stream.specs.Passes.{pass_refusal, passes_refusal, randomizer_for};
-ghost use Rattle.slh_internal.specs.Signing.{signature_of};
-ghost use Rattle.slh_trees.specs.Refusals.{RefusedExactly};
+ghost use Rattle.slh_trees.specs.Signing.{signature_of};
+ghost use Rattle.slh_core.specs.Refusals.{RefusedExactly};
 
 use crate::passes::FirstPass;
 use crate::verifier::MessageVerifier;
 use slh_core::pieces::MessageSuite;
-use slh_dsa::{Error, Mode, ParameterSet, SigningKey, VerifyingKey};
+use slh_dsa::{Error, Mode, SetSizes, SigningKey, VerifyingKey};
 
 /// Verifies a message of two pieces: the answer is that of the call in one piece for the pieces
 /// joined.
-pub fn verify_two<P: ParameterSet + MessageSuite>(
+pub fn verify_two<P: SetSizes + MessageSuite>(
     key: &VerifyingKey<P>,
     mode: Mode,
     ctx: &[u8],
@@ -33,7 +33,7 @@ pub fn verify_two<P: ParameterSet + MessageSuite>(
 
 /// Signs the two pieces of a second pass, whatever the first pass was given. False: PRF_msg of the
 /// two isn't that of what the first pass was given, or `out` doesn't have the bytes of a signature.
-pub fn sign_two<P: ParameterSet + MessageSuite>(
+pub fn sign_two<P: SetSizes + MessageSuite>(
     key: &SigningKey<P>,
     ctx: &[u8],
     opt_rand: Option<&[u8]>,

@@ -10,25 +10,22 @@ ghost use Rattle.slh_dsa.specs.declared.error.Error.TheVariants.{MessageTooLong}
 ghost use Rattle.slh_frames.specs.declared.frame.Mode.{Mode as SigningMode};
 ghost use Rattle.slh_stream.specs.Digesting.{IsDigesting};
 ghost use Rattle.slh_stream.specs.Digests.{begin_digest_refusal};
-ghost use Rattle.slh_stream.specs.Tails.{hashed_count};
-ghost use Rattle.slh_internal.specs.Signing.{signature_of};
-ghost use Rattle.slh_trees.specs.Refusals.{RefusedExactly, message_refusal};
+ghost use Rattle.slh_frames.specs.Tails.{hashed_count};
+ghost use Rattle.slh_trees.specs.Signing.{signature_of};
+ghost use Rattle.slh_core.specs.Refusals.{RefusedExactly, message_refusal};
 
-use crate::absorbing::{begin_tail, head};
 use crate::context::Context;
-use crate::digests::MAX_TAIL;
-use crate::hashing::{end_hash, hash_piece, mode_for};
-use crate::tail::Tail;
 use slh_core::nbytes::NBytes;
 use slh_core::steps::Steps;
-use slh_dsa::{Error, Mode, ParameterSet, SigningKey};
-use slh_frames::MAX_MESSAGE;
+use slh_dsa::{Error, Mode, SetSizes, SigningKey, check_opt_rand};
+use slh_frames::pieces::MAX_TAIL;
+use slh_frames::{MAX_MESSAGE, Tail, check_context, head_of};
 use std::marker::Brand;
 use std::sync::ledger::{Blank, Ledger};
 
 /// A signer of the digest of a message, as the message comes.
 #[derive(Drop)]
-pub struct DigestSigner<'a, P: ParameterSet> {
+pub struct DigestSigner<'a, P: SetSizes> {
     key: &'a SigningKey<P>,
     ctx: Context,
     opt_rand: NBytes<P::N>,
@@ -45,12 +42,12 @@ pub trait Digesting {
     ghost digests: { Self → SigningMode → List ℕ → Option (List ℕ) → List ℕ → List ℕ → Type 0 };
 }
 
-impl<'a, P: ParameterSet> Digesting for DigestSigner<'a, P> {
+impl<'a, P: SetSizes> Digesting for DigestSigner<'a, P> {
     ghost digests = { λ s mode key opt_rand context m. IsDigesting P.N.USIZE s.tail s.key.now s.ctx
         s.opt_rand s.taken mode key opt_rand context m };
 }
 
-impl<'a, P: ParameterSet> DigestSigner<'a, P> {
+impl<'a, P: SetSizes> DigestSigner<'a, P> {
     /// A signer of the empty message, to go on from. `Length`: the mode is `Pure`;
     /// `ContextTooLong`, `RandomizerLength`.
     pub fn new(
@@ -68,13 +65,14 @@ impl<'a, P: ParameterSet> DigestSigner<'a, P> {
         if mode == Mode::Pure {
             return Err(Error::Length);
         }
-        SigningKey::<P>::check_sign(&[], ctx, opt_rand)?;
+        check_context(ctx, Error::ContextTooLong)?;
+        check_opt_rand::<P, Error>(opt_rand, Error::RandomizerLength)?;
         let opt_rand = key.opt_rand_or_seed(opt_rand);
         Ok(DigestSigner {
             key,
             ctx: Context::new(ctx),
             opt_rand,
-            tail: begin_tail(mode),
+            tail: Tail::new(mode),
             taken: 0,
         })
     }
@@ -96,7 +94,7 @@ impl<'a, P: ParameterSet> DigestSigner<'a, P> {
         if piece.len() > MAX_MESSAGE - self.taken as usize {
             return Err(Error::MessageTooLong);
         }
-        hash_piece(&mut self.tail, piece);
+        self.tail.hash(piece);
         self.taken += piece.len() as u64;
         Ok(())
     }
@@ -128,9 +126,9 @@ impl<'a, P: ParameterSet> DigestSigner<'a, P> {
             return Err(Error::Length);
         }
         let ctx = ctx.as_slice();
-        let front = head(mode_for(&tail), ctx);
+        let front = head_of(tail.mode(), ctx);
         let mut store = [0u8; MAX_TAIL];
-        let end = end_hash(tail, &mut store);
+        let end = tail.end_hash(&mut store);
         key.sign_slices(&opt_rand, &front, ctx, &store[..end], out, steps);
         Ok(())
     }

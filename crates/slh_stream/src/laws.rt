@@ -1,6 +1,6 @@
 //! What the calls on pieces and on digests have to do with the calls in one piece.
-ghost use Rattle.std.specs.Prelude.{◌≡◌, ℕ, ◌^◌, ◌≤◌, List, length, Option, None};
-ghost use Rattle.std.specs.Prelude.{◌↔◌, IsTrue};
+ghost use Rattle.std.specs.Prelude.{◌≡◌, ℕ, ◌*◌, ◌^◌, ◌≤◌, List, ◌++◌, drop, length, Option, None};
+ghost use Rattle.std.specs.Prelude.{◌↔◌, IfOk, IsOk, IsTrue};
 ghost use Rattle.sha256_lanes.specs.Sha256.{sha256};
 ghost use Rattle.sha2.specs.Sha512.{sha512};
 ghost use Rattle.slh_dsa.specs.Calls.{hash_verify_error};
@@ -8,13 +8,19 @@ ghost use Rattle.slh_frames.specs.Frames.{mode_frame};
 ghost use Rattle.slh_frames.specs.declared.frame.Mode.TheVariants.{Sha256, Sha512};
 ghost use Rattle.slh_stream.specs.Digests.{digest_frame, verify_digest_error};
 ghost use Rattle.slh_stream.specs.Passes.{pass_refusal, randomizer_for};
-ghost use Rattle.slh_internal.specs.Checking.{signature_size};
+ghost use Rattle.slh_trees.specs.Checking.{signature_size};
+ghost use Rattle.slh_trees.specs.Keys.{IsTrueKey};
 
+use crate::callers::verify_two;
+use crate::digest_signer::{DigestSigner, Digesting};
 use crate::pass_error::PassError;
-use slh_dsa::ParameterSet;
+use crate::passes::{Passing, SecondPass};
+use slh_core::pieces::MessageSuite;
+use slh_dsa::laws::signed_is_accepted;
+use slh_dsa::{Error, Mode, SetSizes, VerifyingKey};
 
 /// A second pass over the bytes of the first is never refused as changed.
-pub fn same_is_unchanged<P: ParameterSet>()
+pub fn same_is_unchanged<P: SetSizes>()
     ensures { (key message : List ℕ) (opt_rand : Option (List ℕ))
         → pass_refusal P.scheme key opt_rand message
         (randomizer_for P.scheme key opt_rand message) (signature_size P.scheme) ≡ None }
@@ -22,7 +28,7 @@ pub fn same_is_unchanged<P: ParameterSet>()
 
 /// What is signed for a digest is what is signed for the message that has it, and verifying answers
 /// the same.
-pub fn digests_agree<P: ParameterSet>()
+pub fn digests_agree<P: SetSizes>()
     ensures frame_256 { (context m : List ℕ)
         → digest_frame Sha256 context (sha256 m) ≡ mode_frame Sha256 context m }
     ensures frame_512 { (context m : List ℕ)
@@ -34,6 +40,57 @@ pub fn digests_agree<P: ParameterSet>()
         → verify_digest_error P.scheme Sha512 key context (sha512 m) sig
         ≡ hash_verify_error P.scheme Sha512 key context m sig }
 {}
+
+/// What a second pass over two pieces writes, a verifier of the same pieces accepts, under a key
+/// with the root of its own seeds.
+pub fn finished_is_accepted<'a, P: SetSizes + MessageSuite>(
+    pass: SecondPass<'a, P>,
+    key: &VerifyingKey<P>,
+    ctx: &[u8],
+    first: &[u8],
+    second: &[u8],
+    out: &mut [u8],
+) -> Result<Result<(), Error>, PassError>
+    ensures { (signing : List ℕ) (opt_rand : Option (List ℕ))
+        → ⟦<SecondPass<'a, P> as Passing>⟧.passes pass.entry signing opt_rand ctx.now
+        (first.now ++ second.now)
+        → IsTrueKey P.scheme signing
+        → length signing ≡ 4 * P.N.USIZE
+        → key.now ≡ drop (2 * P.N.USIZE) signing
+        → length ctx.now ≤ 255
+        → length (first.now ++ second.now) ≤ 2 ^ 60
+        → IfOk result (λ answer. IsOk answer) }
+{
+    signed_is_accepted::<P>();
+    pass.finish_into(out)?;
+    Ok(verify_two(key, Mode::Pure, ctx, out, first, second))
+}
+
+/// What a signer writes of the digest of two pieces, a verifier of the same pieces accepts in the same
+/// mode, under a key with the root of its own seeds.
+pub fn digested_is_accepted<'a, P: SetSizes + MessageSuite>(
+    signer: DigestSigner<'a, P>,
+    key: &VerifyingKey<P>,
+    mode: Mode,
+    ctx: &[u8],
+    first: &[u8],
+    second: &[u8],
+    out: &mut [u8],
+) -> Result<Result<(), Error>, Error>
+    ensures { (signing : List ℕ) (opt_rand : Option (List ℕ))
+        → ⟦<DigestSigner<'a, P> as Digesting>⟧.digests signer.entry mode signing opt_rand ctx.now
+        (first.now ++ second.now)
+        → IsTrueKey P.scheme signing
+        → length signing ≡ 4 * P.N.USIZE
+        → key.now ≡ drop (2 * P.N.USIZE) signing
+        → length ctx.now ≤ 255
+        → length (first.now ++ second.now) ≤ 2 ^ 60
+        → IfOk result (λ answer. IsOk answer) }
+{
+    signed_is_accepted::<P>();
+    signer.finish_into(out)?;
+    Ok(verify_two(key, mode, ctx, out, first, second))
+}
 
 /// A clone of a refusal is that refusal, and `==` holds exactly where both are the same.
 pub fn clone_and_equality_of_pass_errors(a: &PassError, b: &PassError) -> (PassError, bool)

@@ -44,28 +44,27 @@
 //! that it has absorbed, which the contracts say by a relation: for each message for which it
 //! stood it stands, after a piece, for that message and the piece. A refused piece changes nothing.
 //! A verifier may be put aside between two pieces, as a [`SuspendedVerifier`] of numbers alone, and a
-//! pass as a [`SuspendedPass`]. No call takes memory.
+//! pass as a [`SuspendedPass`]. Its mode, or which pass it is, is among the numbers, and a call for
+//! another one is answered by `None`. No call takes memory.
 #![tactic(auto)]
 
-mod absorbing;
+mod by_key;
 pub mod callers;
 mod context;
 mod digest_signer;
 mod digests;
-mod hashing;
-mod key_parts;
 pub mod laws;
 mod pass_error;
 mod passes;
 mod suspended;
 mod suspended_pass;
-mod tail;
 mod verifier;
 
+pub use by_key::{PieceSigning, PieceVerifying};
 pub use digest_signer::{DigestSigner, Digesting};
 pub use digests::{sign_digest, sign_digest_counted, verify_digest, verify_digest_counted};
 pub use pass_error::PassError;
 pub use passes::{FirstPass, Passing, SecondPass};
-pub use suspended::SuspendedVerifier;
-pub use suspended_pass::SuspendedPass;
+pub use suspended::{SuspendedVerifier, VerifierNumbers};
+pub use suspended_pass::{PassNumbers, SuspendedPass};
 pub use verifier::{MessageVerifier, Verifying};

@@ -8,23 +8,23 @@ ghost use Rattle.slh_core.specs.Steps.{IsFresh};
 ghost use Rattle.slh_dsa.specs.Calls.{sign_input_refusal};
 ghost use Rattle.slh_dsa.specs.declared.error.Error.TheVariants.{MessageTooLong};
 ghost use Rattle.slh_stream.specs.declared.pass_error.PassError.TheVariants.{Length};
-ghost use Rattle.slh_stream.specs.Passes.{IsFirst, IsSecond, pass_refusal, randomizer_for};
-ghost use Rattle.slh_internal.specs.Checking.{signature_size};
+ghost use Rattle.slh_stream.specs.Passes.{IsFirst, IsSecond, IsSigned, pass_refusal, randomizer_for};
+ghost use Rattle.slh_trees.specs.Checking.{signature_size};
 ghost use Rattle.slh_frames.specs.Frames.{frame, frame_head};
-ghost use Rattle.slh_internal.specs.Signing.{signature_of};
-ghost use Rattle.slh_trees.specs.Refusals.{RefusedExactly, message_refusal};
+ghost use Rattle.slh_trees.specs.Signing.{signature_of};
+ghost use Rattle.slh_core.specs.Refusals.{RefusedExactly, message_refusal};
 
-use crate::absorbing::{begin_front, head};
 use crate::context::Context;
-use crate::key_parts::secret_parts;
 use crate::pass_error::PassError;
+use hybrid_array::ArraySize;
 use slh_core::nbytes::NBytes;
 use slh_core::params::{MAX_DIGEST_LEN, forest_sizes};
 use slh_core::pieces::MessageSuite;
 use slh_core::steps::Steps;
-use slh_dsa::{Error, Mode, ParameterSet, SigningKey};
-use slh_frames::MAX_MESSAGE;
-use slh_internal::sign::sign_digest;
+use slh_dsa::{Error, Mode, SetSizes, SigningKey, check_opt_rand};
+use slh_frames::pieces::begin_front;
+use slh_frames::{MAX_CONTEXT, MAX_MESSAGE, check_context, head_of};
+use slh_trees::sign::sign_digest;
 use std::marker::Brand;
 use std::sync::ledger::{Blank, Ledger};
 
@@ -34,20 +34,20 @@ pub(crate) fn begin_made<P: MessageSuite>(
     opt_rand: &NBytes<P::N>,
     ctx: &[u8],
 ) -> P::Mac
-    requires { length ctx.now ≤ 255 }
+    requires { length ctx.now ≤ MAX_CONTEXT }
     ensures begun { P.authenticates result sk_prf.now opt_rand.now
         (frame_head ctx.now ++ ctx.now ++ []) }
     ensures counts { P.mac_count result ≤ 257 }
 {
     let mut mac = P::begin_mac(sk_prf, opt_rand);
-    P::update_mac(&mut mac, &head(Mode::Pure, ctx));
+    P::update_mac(&mut mac, &head_of(Mode::Pure, ctx));
     P::update_mac(&mut mac, ctx);
     mac
 }
 
 /// The first pass over a message that is signed as it is: it makes R.
 #[derive(Drop)]
-pub struct FirstPass<'a, P: ParameterSet + MessageSuite> {
+pub struct FirstPass<'a, P: SetSizes + MessageSuite> {
     pub(crate) key: &'a SigningKey<P>,
     ctx: Context,
     pub(crate) opt_rand: NBytes<P::N>,
@@ -64,12 +64,12 @@ pub trait Passing {
     ghost passes: { Self → List ℕ → Option (List ℕ) → List ℕ → List ℕ → Type 0 };
 }
 
-impl<'a, P: ParameterSet + MessageSuite> Passing for FirstPass<'a, P> {
+impl<'a, P: SetSizes + MessageSuite> Passing for FirstPass<'a, P> {
     ghost passes = { λ f key opt_rand context m. IsFirst P.N.USIZE (P.authenticates f.mac)
         f.key.now f.ctx f.opt_rand f.taken key opt_rand context m };
 }
 
-impl<'a, P: ParameterSet + MessageSuite> FirstPass<'a, P> {
+impl<'a, P: SetSizes + MessageSuite> FirstPass<'a, P> {
     /// The first pass over the empty message, to go on from. `ContextTooLong`, `RandomizerLength`.
     pub fn new(key: &'a SigningKey<P>, ctx: &[u8], opt_rand: Option<&[u8]>) -> Result<Self, Error>
         ensures refusal { let opt_rand = option_copied opt_rand.entry in
@@ -78,10 +78,10 @@ impl<'a, P: ParameterSet + MessageSuite> FirstPass<'a, P> {
             IfOk result (λ f. ⟦<FirstPass<'a, P> as Passing>⟧.passes f key.now opt_rand
             ctx.now []) }
     {
-        SigningKey::<P>::check_sign(&[], ctx, opt_rand)?;
-        let parts = secret_parts(key);
+        check_context(ctx, Error::ContextTooLong)?;
+        check_opt_rand::<P, Error>(opt_rand, Error::RandomizerLength)?;
         let opt_rand = key.opt_rand_or_seed(opt_rand);
-        let mac = begin_made::<P>(&parts.sk_prf, &opt_rand, ctx);
+        let mac = begin_made::<P>(key.sk_prf(), &opt_rand, ctx);
         Ok(FirstPass {
             key,
             ctx: Context::new(ctx),
@@ -129,10 +129,9 @@ impl<'a, P: ParameterSet + MessageSuite> FirstPass<'a, P> {
             ..
         } = self;
         let rand = P::end_mac(mac);
-        let parts = secret_parts(key);
         let ctx = ctx.as_slice();
-        let mac = begin_made::<P>(&parts.sk_prf, &opt_rand, ctx);
-        let digest = begin_front::<P>(&rand, &parts.pk_seed, &parts.pk_root, Mode::Pure, ctx);
+        let mac = begin_made::<P>(key.sk_prf(), &opt_rand, ctx);
+        let digest = begin_front::<P>(&rand, key.pk_seed(), key.pk_root(), Mode::Pure, ctx);
         SecondPass {
             key,
             opt_rand,
@@ -145,7 +144,7 @@ impl<'a, P: ParameterSet + MessageSuite> FirstPass<'a, P> {
 }
 
 // Writes the signature with R of what H_msg has absorbed.
-fn sign_absorbed<P: ParameterSet + MessageSuite, L: Ledger>(
+fn sign_absorbed<P: SetSizes + MessageSuite, L: Ledger>(
     key: &SigningKey<P>,
     rand: &NBytes<P::N>,
     digest: P::Digest,
@@ -159,19 +158,19 @@ fn sign_absorbed<P: ParameterSet + MessageSuite, L: Ledger>(
         → rand.now ≡ P.suite.prf_msg (part P.N.USIZE bytes 1)
         (unwrap_or opt_rand (part P.N.USIZE bytes 2)) m
         → out.new ≡ signature_of P.scheme bytes opt_rand m }
+    ensures signed { IsSigned P.scheme P.N.USIZE (P.digests digest) key.now rand.now out.new }
     ensures cost { steps.new ≡ steps.old + slh_sign_cost P.scheme }
 {
     forest_sizes::<P>();
-    let parts = secret_parts(key);
     let mut store = [0u8; MAX_DIGEST_LEN];
-    let hashed = &mut store[..P::DIGEST_LEN];
+    let hashed = &mut store[..P::M::USIZE];
     P::end_digest(digest, hashed);
-    sign_digest::<P, L>(&parts.sk_seed, &parts.pk_seed, rand, hashed, out, steps);
+    sign_digest::<P, L>(key.sk_seed(), key.pk_seed(), rand, hashed, out, steps);
 }
 
 /// The second pass over a message: it makes the MAC again, and the digest that is signed.
 #[derive(Drop)]
-pub struct SecondPass<'a, P: ParameterSet + MessageSuite> {
+pub struct SecondPass<'a, P: SetSizes + MessageSuite> {
     pub(crate) key: &'a SigningKey<P>,
     pub(crate) opt_rand: NBytes<P::N>,
     pub(crate) rand: NBytes<P::N>,
@@ -183,12 +182,12 @@ pub struct SecondPass<'a, P: ParameterSet + MessageSuite> {
     ghost space: { P.digest_count digest ≤ taken + 257 },
 }
 
-impl<'a, P: ParameterSet + MessageSuite> Passing for SecondPass<'a, P> {
+impl<'a, P: SetSizes + MessageSuite> Passing for SecondPass<'a, P> {
     ghost passes = { λ p key opt_rand context m. IsSecond P.N.USIZE (P.authenticates p.mac)
         (P.digests p.digest) p.key.now p.opt_rand p.rand p.taken key opt_rand context m };
 }
 
-impl<'a, P: ParameterSet + MessageSuite> SecondPass<'a, P> {
+impl<'a, P: SetSizes + MessageSuite> SecondPass<'a, P> {
     /// Absorbs a piece of the message, after those before. `MessageTooLong`: more than 2^60 bytes
     /// would have come.
     pub fn update(&mut self, piece: &[u8]) -> Result<(), Error>
@@ -231,6 +230,11 @@ impl<'a, P: ParameterSet + MessageSuite> SecondPass<'a, P> {
             ((key : List ℕ) (opt_rand : Option (List ℕ)) (context m : List ℕ)
             → ⟦<SecondPass<'a, P> as Passing>⟧.passes self.entry key opt_rand context m
             → out.new ≡ signature_of P.scheme key opt_rand (frame context m)) }
+        ensures made { OnOk result ((key opt_rand m : List ℕ)
+            → P.authenticates self.entry.mac key opt_rand m
+            → P.suite.prf_msg key opt_rand m ≡ self.entry.rand) }
+        ensures signed { OnOk result (IsSigned P.scheme P.N.USIZE (P.digests self.entry.digest)
+            self.entry.key.now self.entry.rand out.new) }
         ensures same { OnErr result (out.new ≡ out.old) }
         ensures cost { OnOk result (steps.new ≡ steps.old + slh_sign_cost P.scheme) }
         ensures free { OnErr result (steps.new ≡ steps.old) }
@@ -265,6 +269,11 @@ impl<'a, P: ParameterSet + MessageSuite> SecondPass<'a, P> {
             ((key : List ℕ) (opt_rand : Option (List ℕ)) (context m : List ℕ)
             → ⟦<SecondPass<'a, P> as Passing>⟧.passes self.entry key opt_rand context m
             → out.new ≡ signature_of P.scheme key opt_rand (frame context m)) }
+        ensures made { OnOk result ((key opt_rand m : List ℕ)
+            → P.authenticates self.entry.mac key opt_rand m
+            → P.suite.prf_msg key opt_rand m ≡ self.entry.rand) }
+        ensures signed { OnOk result (IsSigned P.scheme P.N.USIZE (P.digests self.entry.digest)
+            self.entry.key.now self.entry.rand out.new) }
         ensures same { OnErr result (out.new ≡ out.old) }
     {
         self.finish_into_on::<Brand>(out, Blank::new(1))
@@ -284,6 +293,11 @@ impl<'a, P: ParameterSet + MessageSuite> SecondPass<'a, P> {
             ((key : List ℕ) (opt_rand : Option (List ℕ)) (context m : List ℕ)
             → ⟦<SecondPass<'a, P> as Passing>⟧.passes self.entry key opt_rand context m
             → out.new ≡ signature_of P.scheme key opt_rand (frame context m)) }
+        ensures made { OnOk result ((key opt_rand m : List ℕ)
+            → P.authenticates self.entry.mac key opt_rand m
+            → P.suite.prf_msg key opt_rand m ≡ self.entry.rand) }
+        ensures signed { OnOk result (IsSigned P.scheme P.N.USIZE (P.digests self.entry.digest)
+            self.entry.key.now self.entry.rand out.new) }
         ensures same { OnErr result (out.new ≡ out.old) }
     {
         self.finish_into_counted::<L>(out, &mut Steps::new(blank))

@@ -6,28 +6,27 @@ ghost use Rattle.slh_core.specs.Steps.{IsFresh};
 ghost use Rattle.slh_dsa.specs.Calls.{hash_verify_error, verify_refusal};
 ghost use Rattle.slh_dsa.specs.declared.error.Error.TheVariants.{MessageTooLong, Invalid};
 ghost use Rattle.slh_frames.specs.declared.frame.Mode.{Mode as SigningMode};
-ghost use Rattle.slh_stream.specs.Tails.{hashed_count};
-ghost use Rattle.slh_stream.specs.Verifying.{IsVerifying, message_digest};
-ghost use Rattle.slh_internal.specs.Checking.{digest_root};
-ghost use Rattle.slh_trees.specs.Refusals.{RefusedExactly, message_refusal};
+ghost use Rattle.slh_frames.specs.Tails.{hashed_count};
+ghost use Rattle.slh_stream.specs.Verifying.{EndsIn, IsVerifying, message_digest};
+ghost use Rattle.slh_trees.specs.Checking.{digest_root};
+ghost use Rattle.slh_core.specs.Refusals.{RefusedExactly, message_refusal};
 
-use crate::absorbing::{absorb, begin_front, begin_tail, end_tail};
-use crate::key_parts::public_parts;
-use crate::tail::Tail;
+use hybrid_array::ArraySize;
 use slh_core::nbytes::NBytes;
 use slh_core::params::{MAX_DIGEST_LEN, forest_sizes};
 use slh_core::pieces::MessageSuite;
 use slh_core::steps::Steps;
-use slh_dsa::{Error, Mode, ParameterSet, VerifyingKey};
-use slh_frames::MAX_MESSAGE;
-use slh_internal::SigView;
-use slh_internal::check::root_for_digest;
+use slh_dsa::{Error, Mode, SetSizes, VerifyingKey};
+use slh_frames::pieces::begin_front;
+use slh_frames::{MAX_MESSAGE, Tail, check_context};
+use slh_trees::SigView;
+use slh_trees::check::root_for_digest;
 use std::marker::Brand;
 use std::sync::ledger::{Blank, Ledger};
 
 /// A signature and H_msg of a message, as the message comes.
 #[derive(Drop)]
-pub struct MessageVerifier<'a, P: ParameterSet + MessageSuite> {
+pub struct MessageVerifier<'a, P: SetSizes + MessageSuite> {
     pub(crate) pk_seed: NBytes<P::N>,
     pub(crate) pk_root: NBytes<P::N>,
     pub(crate) sig: SigView<'a, P>,
@@ -46,20 +45,23 @@ pub trait Verifying {
     ghost verifies: { Self → SigningMode → List ℕ → List ℕ → List ℕ → List ℕ → Type 0 };
 }
 
-impl<'a, P: ParameterSet + MessageSuite> Verifying for MessageVerifier<'a, P> {
+impl<'a, P: SetSizes + MessageSuite> Verifying for MessageVerifier<'a, P> {
     ghost verifies = { λ v mode key context sig m. IsVerifying P.N.USIZE (P.digests v.digest)
         v.tail v.taken v.pk_seed v.pk_root v.sig mode key context sig m };
 }
 
-impl<'a, P: ParameterSet + MessageSuite> MessageVerifier<'a, P> {
+impl<'a, P: SetSizes + MessageSuite> MessageVerifier<'a, P> {
     /// A verifier of the empty message, to go on from. `Length`, `ContextTooLong`.
     pub fn new(key: &VerifyingKey<P>, mode: Mode, ctx: &[u8], sig: &'a [u8]) -> Result<Self, Error>
         ensures refusal { RefusedExactly result (verify_refusal P.scheme ctx.now [] sig.now) }
         ensures empty { IfOk result (λ v. ⟦<MessageVerifier<'a, P> as Verifying>⟧.verifies v mode
             key.now ctx.now sig.now []) }
     {
-        VerifyingKey::<P>::check_verify(&[], ctx, sig)?;
-        let (pk_seed, pk_root) = public_parts(key);
+        if sig.len() != P::SIG_LEN {
+            return Err(Error::Length);
+        }
+        check_context(ctx, Error::ContextTooLong)?;
+        let (pk_seed, pk_root) = (key.pk_seed().copy(), key.pk_root().copy());
         let sig = SigView::exact(sig);
         let rand = NBytes::<P::N>::from_view(sig.randomizer());
         let digest = begin_front::<P>(&rand, &pk_seed, &pk_root, mode, ctx);
@@ -68,7 +70,7 @@ impl<'a, P: ParameterSet + MessageSuite> MessageVerifier<'a, P> {
             pk_root,
             sig,
             digest,
-            tail: begin_tail(mode),
+            tail: Tail::new(mode),
             taken: 0,
         })
     }
@@ -88,7 +90,7 @@ impl<'a, P: ParameterSet + MessageSuite> MessageVerifier<'a, P> {
         if piece.len() > MAX_MESSAGE - self.taken as usize {
             return Err(Error::MessageTooLong);
         }
-        absorb::<P>(&mut self.digest, &mut self.tail, piece);
+        self.tail.absorb::<P>(&mut self.digest, piece);
         self.taken += piece.len() as u64;
         Ok(())
     }
@@ -100,6 +102,8 @@ impl<'a, P: ParameterSet + MessageSuite> MessageVerifier<'a, P> {
             → ⟦<MessageVerifier<'a, P> as Verifying>⟧.verifies self.entry mode key context sig m
             → RefusedExactly result (hash_verify_error P.scheme mode key context m sig) }
         ensures only { IfErr result (λ e. e ≡ Invalid) }
+        ensures ends { OnOk result
+            (EndsIn P.scheme self.entry.pk_seed self.entry.pk_root self.entry.sig) }
         ensures bound { steps.new ≤ steps.old + slh_verify_bound P.scheme }
         ensures rises { steps.old ≤ steps.new }
     {
@@ -113,8 +117,8 @@ impl<'a, P: ParameterSet + MessageSuite> MessageVerifier<'a, P> {
         } = self;
         forest_sizes::<P>();
         let mut store = [0u8; MAX_DIGEST_LEN];
-        let hashed = &mut store[..P::DIGEST_LEN];
-        P::end_digest(end_tail::<P>(digest, tail), hashed);
+        let hashed = &mut store[..P::M::USIZE];
+        P::end_digest(tail.end::<P>(digest), hashed);
         let root = root_for_digest::<P, L>(&pk_seed, hashed, &sig, steps);
         if root.as_slice() != pk_root.as_slice() {
             return Err(Error::Invalid);
@@ -125,14 +129,14 @@ impl<'a, P: ParameterSet + MessageSuite> MessageVerifier<'a, P> {
     /// Writes the digest of what was absorbed, of m bytes: H_msg with the signature's randomizer under
     /// the key, of which an audit goes on.
     pub fn finish_digest(self, out: &mut [u8])
-        requires { length out.old ≡ P.DIGEST_LEN }
+        requires { length out.old ≡ P.M.USIZE }
         ensures { (mode : SigningMode) (key context sig m : List ℕ)
             → ⟦<MessageVerifier<'a, P> as Verifying>⟧.verifies self.entry mode key context sig m
             → out.new ≡ message_digest P.scheme mode key context m sig }
     {
         let MessageVerifier { digest, tail, .. } = self;
         forest_sizes::<P>();
-        P::end_digest(end_tail::<P>(digest, tail), out);
+        P::end_digest(tail.end::<P>(digest), out);
     }
 
     /// As `finish_counted`, with no counter.
@@ -141,6 +145,8 @@ impl<'a, P: ParameterSet + MessageSuite> MessageVerifier<'a, P> {
             → ⟦<MessageVerifier<'a, P> as Verifying>⟧.verifies self.entry mode key context sig m
             → RefusedExactly result (hash_verify_error P.scheme mode key context m sig) }
         ensures only { IfErr result (λ e. e ≡ Invalid) }
+        ensures ends { OnOk result
+            (EndsIn P.scheme self.entry.pk_seed self.entry.pk_root self.entry.sig) }
     {
         self.finish_on::<Brand>(Blank::new(1))
     }
@@ -152,6 +158,8 @@ impl<'a, P: ParameterSet + MessageSuite> MessageVerifier<'a, P> {
             → ⟦<MessageVerifier<'a, P> as Verifying>⟧.verifies self.entry mode key context sig m
             → RefusedExactly result (hash_verify_error P.scheme mode key context m sig) }
         ensures only { IfErr result (λ e. e ≡ Invalid) }
+        ensures ends { OnOk result
+            (EndsIn P.scheme self.entry.pk_seed self.entry.pk_root self.entry.sig) }
     {
         self.finish_counted::<L>(&mut Steps::new(blank))
     }

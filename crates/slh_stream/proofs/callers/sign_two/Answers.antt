@@ -4,7 +4,7 @@ use Rattle.slh_dsa.specs.Calls.{opt_rand_refusal}
 use Rattle.slh_dsa.specs.declared.error.Error.TheVariants.{ContextTooLong, MessageTooLong}
 use Rattle.slh_stream.proofs.Refused.{begun_refused, handed_on, later_refused, longer, never_none, none_refused, second_refused}
 use Rattle.slh_stream.proofs.callers.sign_two.Goals as goal
-use Rattle.slh_trees.specs.Refusals.{context_refusal, message_refusal}
+use Rattle.slh_core.specs.Refusals.{context_refusal, message_refusal}
 
 pub returns-in-Ok-clause-value : goal.returns-in-Ok-clause-value
 returns-in-Ok-clause-value g c same =
@@ -30,7 +30,7 @@ returns-in-Err-clause-signed g c =
 
 pub returns-in_err-pass-clause-refusal : goal.returns-in_err-pass-clause-refusal
 returns-in_err-pass-clause-refusal g c =
-    let Z = g.P.ForsParams.scheme in
+    let Z = g.P.ForsSizes.scheme in
     let opt_rand = option_copied c.args.opt_rand in
     let cause = c.in_err-pass.field-0.0 in
     handed_on c.from_residual.result _ cause
@@ -41,7 +41,7 @@ returns-in_err-pass-clause-refusal g c =
 
 pub returns-in_err-update-clause-refusal : goal.returns-in_err-update-clause-refusal
 returns-in_err-update-clause-refusal g c =
-    let Z = g.P.ForsParams.scheme in
+    let Z = g.P.ForsSizes.scheme in
     let opt_rand = option_copied c.args.opt_rand in
     let cause = c.in_err-update.field-0.0 in
     handed_on c.from_residual-in_err-update.result _ cause
@@ -53,7 +53,7 @@ returns-in_err-update-clause-refusal g c =
 
 pub returns-in_err-update-2-clause-refusal : goal.returns-in_err-update-2-clause-refusal
 returns-in_err-update-2-clause-refusal g c =
-    let Z = g.P.ForsParams.scheme in
+    let Z = g.P.ForsSizes.scheme in
     let opt_rand = option_copied c.args.opt_rand in
     let message = c.args.first.now ++ c.args.second.now in
     let cause = c.in_err-update-2.field-0.0 in
@@ -68,7 +68,7 @@ returns-in_err-update-2-clause-refusal g c =
 
 pub returns-in_err-update-3-clause-refusal : goal.returns-in_err-update-3-clause-refusal
 returns-in_err-update-3-clause-refusal g c =
-    let Z = g.P.ForsParams.scheme in
+    let Z = g.P.ForsSizes.scheme in
     let opt_rand = option_copied c.args.opt_rand in
     let message = c.args.first.now ++ c.args.second.now in
     let cause = c.in_err-update-3.field-0.0 in
@@ -83,7 +83,7 @@ returns-in_err-update-3-clause-refusal g c =
 
 pub returns-in-Ok-clause-refusal : goal.returns-in-Ok-clause-refusal
 returns-in-Ok-clause-refusal g c =
-    let Z = g.P.ForsParams.scheme in
+    let Z = g.P.ForsSizes.scheme in
     let opt_rand = option_copied c.args.opt_rand in
     let message = c.args.first.now ++ c.args.second.now in
     let first = c.in_ok-update.ensures.joins _ _ _ _ c.in_ok-pass.ensures.empty in
@@ -95,7 +95,7 @@ returns-in-Ok-clause-refusal g c =
 
 pub returns-in-Err-clause-refusal : goal.returns-in-Err-clause-refusal
 returns-in-Err-clause-refusal g c =
-    let Z = g.P.ForsParams.scheme in
+    let Z = g.P.ForsSizes.scheme in
     let opt_rand = option_copied c.args.opt_rand in
     let message = c.args.first.now ++ c.args.second.now in
     let first = c.in_ok-update.ensures.joins _ _ _ _ c.in_ok-pass.ensures.empty in

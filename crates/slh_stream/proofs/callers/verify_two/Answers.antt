@@ -4,7 +4,7 @@ use Rattle.slh_frames.specs.Frames.{mode_frame}
 use Rattle.slh_dsa.specs.declared.error.Error.TheVariants.{ContextTooLong, MessageTooLong}
 use Rattle.slh_stream.proofs.Refused.{handed_on, later_refused, longer}
 use Rattle.slh_stream.proofs.callers.verify_two.Goals as goal
-use Rattle.slh_trees.specs.Refusals.{context_refusal, message_refusal}
+use Rattle.slh_core.specs.Refusals.{context_refusal, message_refusal}
 
 pub returns : goal.returns
 returns g c =
@@ -13,7 +13,7 @@ returns g c =
 
 pub returns-in_err-update : goal.returns-in_err-update
 returns-in_err-update g c =
-    let Z = g.P.ForsParams.scheme in
+    let Z = g.P.ForsSizes.scheme in
     let message = c.args.first.now ++ c.args.second.now in
     let cause = c.in_err-update.field-0.0 in
     let is_cause : message_refusal MessageTooLong message ≡ Some cause =
@@ -26,7 +26,7 @@ returns-in_err-update g c =
 
 pub returns-in_err-update-2 : goal.returns-in_err-update-2
 returns-in_err-update-2 g c =
-    let Z = g.P.ForsParams.scheme in
+    let Z = g.P.ForsSizes.scheme in
     let message = c.args.first.now ++ c.args.second.now in
     let cause = c.in_err-update-2.field-0.0 in
     let is_cause : message_refusal MessageTooLong message ≡ Some cause =

@@ -3,10 +3,10 @@ use Rattle.std.proofs.lemmas.Bool.Decides.{Decides-eqb}
 use Rattle.slh_stream.proofs.Agreeing.{same_bytes}
 use Rattle.slh_stream.specs.Passes.{randomizer_for}
 use Rattle.slh_stream.proofs.laws.same_is_unchanged.Goals as goal
-use Rattle.slh_internal.specs.Checking.{signature_size}
+use Rattle.slh_trees.specs.Checking.{signature_size}
 
 pub returns : goal.returns
 returns g c key message opt_rand =
-    let Z = g.P.ForsParams.scheme in
+    let Z = g.P.ForsSizes.scheme in
     let size : (signature_size Z == signature_size Z) ≡ true = (Decides-eqb (signature_size Z) (signature_size Z)).1 refl in
     rw (size, same_bytes (randomizer_for Z key opt_rand message)) refl
