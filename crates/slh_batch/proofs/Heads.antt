@@ -20,9 +20,9 @@ use Rattle.sha256_lanes.specs.Sha256.{sha256}
 use Rattle.slh_core.specs.Parameters.{Scheme}
 use Rattle.slh_dsa.specs.Calls.{hash_verify_error, is_valid}
 use Rattle.slh_frames.specs.declared.frame.Mode.TheVariants.{Pure}
-use Rattle.slh_internal.specs.Checking.{signature_size}
-use Rattle.slh_trees.specs.Refusals.{first_refusal, message_refusal}
-use Rattle.slh_trees.proofs.Refusals.{first_none, no_cause, passed}
+use Rattle.slh_trees.specs.Checking.{signature_size}
+use Rattle.slh_core.specs.Refusals.{first_refusal, message_refusal}
+use Rattle.slh_core.proofs.Refusals.{first_none, no_cause, passed}
 use Rattle.slh_batch.proofs.Accepted.{number_again, verified}
 use Rattle.slh_batch.proofs.Cuts.{digests-concat, length-concat}
 use Rattle.slh_batch.proofs.Forms.{Decides-leb, RightForm, has_form, no_form}

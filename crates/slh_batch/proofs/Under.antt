@@ -9,8 +9,8 @@ use Rattle.sha256_lanes.specs.Sha256.{sha256}
 use Rattle.slh_core.specs.Parameters.{Scheme}
 use Rattle.slh_dsa.specs.Calls.{hash_verify_error}
 use Rattle.slh_frames.specs.declared.frame.Mode.TheVariants.{Pure}
-use Rattle.slh_trees.specs.Refusals.{first_refusal, message_refusal}
-use Rattle.slh_trees.proofs.Refusals.{first_none, passed}
+use Rattle.slh_core.specs.Refusals.{first_refusal, message_refusal}
+use Rattle.slh_core.proofs.Refusals.{first_none, passed}
 use Rattle.std.specs.Prelude.{nat_lt}
 use Rattle.slh_batch.proofs.Accepted.{says, verified, whole}
 use Rattle.slh_batch.proofs.Bound.{wide_path}

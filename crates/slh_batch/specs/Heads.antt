@@ -5,7 +5,7 @@ use Rattle.std.specs.Prelude.{Bool, true, nat_le}
 use Rattle.std.specs.List.{concat}
 use Rattle.slh_core.specs.Bytes.{big_endian, number_of, part}
 use Rattle.slh_core.specs.Parameters.{Scheme}
-use Rattle.slh_internal.specs.Checking.{signature_size}
+use Rattle.slh_trees.specs.Checking.{signature_size}
 use Rattle.slh_dsa.specs.Calls.{is_valid}
 use Rattle.slh_frames.specs.declared.frame.Mode.TheVariants.{Pure}
 use Rattle.slh_batch.specs.Receipts.{batch_context, batch_message, root_message}

@@ -1,7 +1,7 @@
 -- What a receipt of right form is cut into.
 use Rattle.std.specs.Prelude.{◌≡◌, ℕ, ◌<◌, List, length}
 use Rattle.slh_core.specs.Parameters.{Scheme}
-use Rattle.slh_internal.specs.Checking.{signature_size}
+use Rattle.slh_trees.specs.Checking.{signature_size}
 use Rattle.slh_batch.specs.Receipts.{receipt_count, receipt_index, receipt_path, receipt_sig}
 use Rattle.slh_batch.specs.Tree.{batch_sides}
 use Rattle.slh_batch.specs.declared.checking.Place.{Place}

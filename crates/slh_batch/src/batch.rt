@@ -3,9 +3,9 @@ ghost use Rattle.std.specs.Prelude.{◌≡◌, ◌≤◌, ◌↔◌, ◌^◌, �
 ghost use Rattle.std.specs.Prelude.{IfOk, IsTrue, OnErr, OnOk};
 ghost use Rattle.std.specs.Option.{option_copied, ForSome};
 ghost use Rattle.slh_frames.specs.Frames.{frame};
-ghost use Rattle.slh_internal.specs.Checking.{signature_size};
-ghost use Rattle.slh_internal.specs.Signing.{signature_of};
-ghost use Rattle.slh_trees.specs.Refusals.{RefusedExactly, RefusedOrNoMemory};
+ghost use Rattle.slh_trees.specs.Checking.{signature_size};
+ghost use Rattle.slh_trees.specs.Signing.{signature_of};
+ghost use Rattle.slh_core.specs.Refusals.{RefusedExactly, RefusedOrNoMemory};
 ghost use Rattle.slh_batch.specs.Calls.{empty_refusal, full_refusal, push_refusal, seal_refusal};
 ghost use Rattle.slh_batch.specs.Receipts.{batch_context, batch_message};
 ghost use Rattle.slh_batch.specs.Tree.{batch_leaf};
@@ -15,7 +15,7 @@ use crate::checking::{CONTEXT, ROOT_MESSAGE_LEN, root_message};
 use crate::error::BatchError;
 use crate::sealed::Sealed;
 use merkle_tree::{DIGEST_LEN, Levels, Sha256, TreeHash};
-use slh_dsa::{ArrayLengths, Mode, ParameterSet, Signature, SigningKey, check_opt_rand};
+use slh_dsa::{Message, Mode, ParameterSet, SetSizes, Signature, SigningKey, check_opt_rand};
 use slh_frames::MAX_MESSAGE;
 use std::alloc::{AllocError, Global};
 use std::marker::{Model, PhantomData};
@@ -115,7 +115,7 @@ impl Batch {
 
     /// Signs the number and the root of the messages. Each node is hashed once. Where no `opt_rand`
     /// is given the public seed stands for it. `Empty`; `Randomizer`; `Memory`.
-    pub fn seal<P: ParameterSet>(
+    pub fn seal<P: SetSizes>(
         self,
         alloc: Global,
         key: &SigningKey<P>,
@@ -144,7 +144,7 @@ impl Batch {
     /// Seals the batch again by the signature of an earlier seal of the same digests, without a
     /// key. Each node is hashed once. Whether the signature is one of these digests isn't checked:
     /// who opens [`Sealed::head`] checks it. `Empty`; `Memory`.
-    pub fn with_signature<P: ArrayLengths>(
+    pub fn with_signature<P: ParameterSet>(
         self,
         signature: Signature<P>,
     ) -> Result<Sealed<P>, BatchError>
@@ -175,7 +175,7 @@ impl Batch {
 }
 
 // The signature of a batch's root.
-fn sign_root<P: ParameterSet>(
+fn sign_root<P: SetSizes>(
     alloc: Global,
     key: &SigningKey<P>,
     message: &[u8; ROOT_MESSAGE_LEN],
@@ -189,6 +189,7 @@ fn sign_root<P: ParameterSet>(
         length signature.items ≡ signature_size P.scheme) }
 {
     let mut signature = vec![in alloc; 0u8; P::SIG_LEN]?;
-    key.sign_checked_into(Mode::Pure, CONTEXT, message, opt_rand, &mut signature);
+    let message = Message::fitting(Mode::Pure, message, CONTEXT);
+    key.sign_checked(&message, opt_rand, &mut signature);
     Ok(signature)
 }

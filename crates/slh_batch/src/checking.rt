@@ -2,8 +2,8 @@
 ghost use Rattle.std.specs.Prelude.{◌≡◌, length, if◌then◌else◌, None, Some, IfOk};
 ghost use Rattle.slh_dsa.specs.Calls.{is_valid};
 ghost use Rattle.slh_frames.specs.declared.frame.Mode.TheVariants.{Pure};
-ghost use Rattle.slh_internal.specs.Checking.{signature_size};
-ghost use Rattle.slh_trees.specs.Refusals.{RefusedExactly};
+ghost use Rattle.slh_trees.specs.Checking.{signature_size};
+ghost use Rattle.slh_core.specs.Refusals.{RefusedExactly};
 ghost use Rattle.slh_batch.specs.Calls.{accept_digest_error, accept_error};
 ghost use Rattle.slh_batch.specs.Parts.{FitsItsPlace, place_of};
 ghost use Rattle.slh_batch.specs.Receipts.{batch_context, receipt_count, receipt_index};
@@ -14,11 +14,11 @@ ghost use Rattle.slh_batch.specs.declared.error.ReceiptError.TheVariants.{Invali
 use crate::error::ReceiptError;
 use crate::parts::{Parts, parts_of};
 use merkle_tree::{DIGEST_LEN, Sha256, TreeHash, path_root};
-use slh_dsa::{Mode, ParameterSet, VerifyingKey};
+use slh_dsa::{Message, Mode, SetSizes, VerifyingKey};
 use slh_frames::MAX_MESSAGE;
 
 /// The context under which the root of a batch is signed.
-pub(crate) const CONTEXT: &[u8] = b"slh-batch";
+pub const CONTEXT: &[u8] = b"slh-batch";
 
 /// How many bytes are signed for a batch.
 pub(crate) const ROOT_MESSAGE_LEN: usize = 4 + DIGEST_LEN;
@@ -43,7 +43,7 @@ pub(crate) fn root_message(count: u32, root: &[u8; DIGEST_LEN]) -> [u8; ROOT_MES
 }
 
 // Whether a signature of a batch's root is the key's. `Invalid`.
-fn verify_root<P: ParameterSet>(
+fn verify_root<P: SetSizes>(
     vk: &VerifyingKey<P>,
     message: &[u8; ROOT_MESSAGE_LEN],
     sig: &[u8],
@@ -53,14 +53,14 @@ fn verify_root<P: ParameterSet>(
         (if is_valid P.scheme Pure vk.now batch_context message.now sig.now then None
         else Some Invalid) }
 {
-    if !vk.is_valid(Mode::Pure, CONTEXT, message, sig) {
+    if !vk.is_valid(&Message::fitting(Mode::Pure, message, CONTEXT), sig) {
         return Err(ReceiptError::Invalid);
     }
     Ok(())
 }
 
 // Checks the parts of a receipt for the digest of a message. `Invalid`.
-fn check_parts<P: ParameterSet>(
+fn check_parts<P: SetSizes>(
     vk: &VerifyingKey<P>,
     leaf: &[u8; DIGEST_LEN],
     parts: &Parts<'_>,
@@ -87,7 +87,7 @@ fn check_parts<P: ParameterSet>(
 /// Checks the receipt of a message under the key of its batch, and answers which message of how
 /// many it is. `Form`; `Message`; `Invalid`: the signature isn't one of the number and the root that
 /// the receipt leads to. Takes no memory.
-pub fn accepted_place<P: ParameterSet>(
+pub fn accepted_place<P: SetSizes>(
     vk: &VerifyingKey<P>,
     msg: &[u8],
     receipt: &[u8],
@@ -109,7 +109,7 @@ pub fn accepted_place<P: ParameterSet>(
 /// [`MessageHasher`] gives it. `Form`; `Invalid`.
 ///
 /// [`MessageHasher`]: crate::MessageHasher
-pub fn accept_digest<P: ParameterSet>(
+pub fn accept_digest<P: SetSizes>(
     vk: &VerifyingKey<P>,
     digest: &[u8; DIGEST_LEN],
     receipt: &[u8],
@@ -127,7 +127,7 @@ pub fn accept_digest<P: ParameterSet>(
 
 /// Checks the receipt of a message under the key of its batch. `Form`; `Message`; `Invalid`: the
 /// signature isn't one of the number and the root that the receipt leads to. Takes no memory.
-pub fn accept<P: ParameterSet>(
+pub fn accept<P: SetSizes>(
     vk: &VerifyingKey<P>,
     msg: &[u8],
     receipt: &[u8],

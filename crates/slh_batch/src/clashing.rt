@@ -5,7 +5,7 @@ ghost use Rattle.slh_batch.specs.Calls.{clash_height};
 
 use crate::parts::parts_of;
 use merkle_tree::{DIGEST_LEN, Sha256, TreeHash, paths_clash};
-use slh_dsa::ParameterSet;
+use slh_dsa::SetSizes;
 use slh_frames::MAX_MESSAGE;
 
 // Whether messages that differ or not have these digests in a clash.
@@ -18,7 +18,7 @@ fn is_clash(differ: bool, a: &[u8; DIGEST_LEN], b: &[u8; DIGEST_LEN]) -> bool
 /// The least height at which the ways of two receipts hash different inputs to one digest: 0 for
 /// the leaf, and one more for each digest of the path. `None` where there is none, a form isn't
 /// right, the receipts are for different numbers, or a message has more than 2^60 bytes.
-pub fn clash<P: ParameterSet>(msg_a: &[u8], a: &[u8], msg_b: &[u8], b: &[u8]) -> Option<u32>
+pub fn clash<P: SetSizes>(msg_a: &[u8], a: &[u8], msg_b: &[u8], b: &[u8]) -> Option<u32>
     ensures { result ≡ clash_height P.scheme msg_a.now a.now msg_b.now b.now }
 {
     let parts_a = parts_of::<P>(a)?;

@@ -1,8 +1,8 @@
 //! Heads of batches, which are verified once, and messages that are checked under them.
 ghost use Rattle.std.specs.Prelude.{◌≡◌, ◌≤◌, ◌&&◌, ◌==◌, ◌^◌, length, nat_le, nat_lt, true};
 ghost use Rattle.std.specs.Prelude.{IfOk, IfSome, is_some};
-ghost use Rattle.slh_internal.specs.Checking.{signature_size};
-ghost use Rattle.slh_trees.specs.Refusals.{RefusedExactly};
+ghost use Rattle.slh_trees.specs.Checking.{signature_size};
+ghost use Rattle.slh_core.specs.Refusals.{RefusedExactly};
 ghost use Rattle.slh_batch.specs.Calls.{digest_under_error, led_refusal, open_error};
 ghost use Rattle.slh_batch.specs.Calls.{receipt_under_error, under_error};
 ghost use Rattle.slh_batch.specs.Heads.{has_head_form, head_in, unsigned_head};
@@ -13,7 +13,7 @@ use crate::checking::{CONTEXT, Place, ROOT_MESSAGE_LEN, root_message};
 use crate::error::{HeadError, ReceiptError};
 use crate::parts::{number_at, parts_of};
 use merkle_tree::{DIGEST_LEN, Sha256, TreeHash, path_len, path_root};
-use slh_dsa::{Mode, ParameterSet, VerifyingKey};
+use slh_dsa::{Message, Mode, SetSizes, VerifyingKey};
 use slh_frames::MAX_MESSAGE;
 use std::marker::Model;
 
@@ -38,7 +38,7 @@ impl<'a> Model for Head<'a> {
 }
 
 // What a head says, before its signature is verified. `None`: the form isn't right.
-fn read_head<P: ParameterSet>(bytes: &[u8]) -> Option<Head<'_>>
+fn read_head<P: SetSizes>(bytes: &[u8]) -> Option<Head<'_>>
     ensures form { is_some result ≡ has_head_form P.scheme bytes.now }
     ensures head { IfSome result (λ head. head ≡ head_in bytes.now) }
     ensures sig_len { IfSome result (λ head. length head.signature ≡ signature_size P.scheme) }
@@ -62,7 +62,7 @@ fn read_head<P: ParameterSet>(bytes: &[u8]) -> Option<Head<'_>>
 
 impl<'a> Head<'a> {
     /// Reads a batch's head and verifies its signature, once. `Form`; `Invalid`. Takes no memory.
-    pub fn open<P: ParameterSet>(vk: &VerifyingKey<P>, bytes: &'a [u8]) -> Result<Self, HeadError>
+    pub fn open<P: SetSizes>(vk: &VerifyingKey<P>, bytes: &'a [u8]) -> Result<Self, HeadError>
         ensures refusal { RefusedExactly result (open_error P.scheme vk.now bytes.now) }
         ensures head { IfOk result (λ head. head ≡ head_in bytes.now) }
     {
@@ -70,7 +70,8 @@ impl<'a> Head<'a> {
             return Err(HeadError::Form);
         };
         let message = root_message(head.count, &head.root);
-        if !vk.is_valid(Mode::Pure, CONTEXT, &message, head.signature) {
+        let message = Message::fitting(Mode::Pure, &message, CONTEXT);
+        if !vk.is_valid(&message, head.signature) {
             return Err(HeadError::Invalid);
         }
         Ok(head)
@@ -190,7 +191,7 @@ pub fn accept_digest_under(
 /// the head's, or leads to another root. Takes no memory.
 ///
 /// [`receipts_stand_for_paths`]: crate::laws::receipts_stand_for_paths
-pub fn accept_receipt_under<P: ParameterSet>(
+pub fn accept_receipt_under<P: SetSizes>(
     head: &Head<'_>,
     msg: &[u8],
     receipt: &[u8],

@@ -8,8 +8,8 @@ ghost use Rattle.merkle_tree.specs.Climb.{node_input};
 ghost use Rattle.sha256_lanes.specs.Sha256.{sha256};
 ghost use Rattle.slh_core.specs.Parameters.{Scheme};
 ghost use Rattle.slh_frames.specs.Frames.{frame};
-ghost use Rattle.slh_internal.specs.Keys.{IsTrueKey};
-ghost use Rattle.slh_internal.specs.Signing.{signature_of};
+ghost use Rattle.slh_trees.specs.Keys.{IsTrueKey};
+ghost use Rattle.slh_trees.specs.Signing.{signature_of};
 ghost use Rattle.slh_batch.specs.Calls.{accept_error, are_comparable, clash_height, open_error};
 ghost use Rattle.slh_batch.specs.Calls.{receipt_under_error, under_error};
 ghost use Rattle.slh_batch.specs.Climbs.{ClashesAt, IsFirstClash, input_at, is_left_at, sibling_at};
@@ -22,12 +22,12 @@ ghost use Rattle.slh_batch.specs.Receipts.{receipt_path_len};
 ghost use Rattle.slh_batch.specs.Tree.{batch_inputs, batch_leaf, batch_path, batch_tree};
 ghost use Rattle.slh_batch.specs.declared.error.ReceiptError.{ReceiptError};
 
-use slh_dsa::ParameterSet;
+use slh_dsa::SetSizes;
 use slh_dsa::laws::signed_is_accepted;
 
 /// Each receipt of a batch that is signed by a key with the root of its own seeds, with any
 /// `opt_rand` or none, is accepted for its message under the verifying key.
-pub fn sealed_is_accepted<P: ParameterSet>()
+pub fn sealed_is_accepted<P: SetSizes>()
     ensures { (key : List ℕ) (messages : List (List ℕ)) (opt_rand : Option (List ℕ)) (i : ℕ)
         → IsTrueKey P.scheme key
         → length key ≡ 4 * P.N.USIZE
@@ -60,7 +60,7 @@ pub fn receipts_bind()
 /// The head of a batch that is signed by a key with the root of its own seeds, with any `opt_rand`
 /// or none, opens under the verifying key to the number and root of the messages and the signature,
 /// and under it each message is accepted by its path, and by its receipt.
-pub fn sealed_head_is_opened<P: ParameterSet>()
+pub fn sealed_head_is_opened<P: SetSizes>()
     ensures opens { (key : List ℕ) (messages : List (List ℕ)) (opt_rand : Option (List ℕ))
         → IsTrueKey P.scheme key
         → length key ≡ 4 * P.N.USIZE
@@ -100,7 +100,7 @@ pub fn sealed_head_is_opened<P: ParameterSet>()
 /// head's signature. What is accepted under the head has a receipt that is accepted, and a receipt
 /// that is refused is refused under the head for the same cause. Both answers are the same, or the
 /// head's signature is one of another root, too: the one that the path leads to.
-pub fn heads_stand_for_receipts<P: ParameterSet>()
+pub fn heads_stand_for_receipts<P: SetSizes>()
     ensures accepted { (key bytes m : List ℕ) (i : ℕ) (path : List (List ℕ))
         → open_error P.scheme key bytes ≡ None
         → i < 2 ^ 32

@@ -90,7 +90,7 @@ mod parts;
 mod sealed;
 
 pub use batch::{Batch, MAX_MESSAGES};
-pub use checking::{Place, accept, accept_digest, accepted_place};
+pub use checking::{CONTEXT, Place, accept, accept_digest, accepted_place};
 pub use clashing::clash;
 pub use error::{BatchError, HeadError, ReceiptError};
 pub use hashing::MessageHasher;

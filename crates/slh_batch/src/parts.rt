@@ -7,7 +7,7 @@ ghost use Rattle.slh_batch.specs.Receipts.{has_right_form};
 
 use crate::batch::MAX_MESSAGES;
 use merkle_tree::{DIGEST_LEN, path_len};
-use slh_dsa::ParameterSet;
+use slh_dsa::SetSizes;
 
 /// How many bytes stand before the path.
 pub(crate) const NUMBERS_LEN: usize = 8;
@@ -30,7 +30,7 @@ pub(crate) fn number_at(bytes: &[u8], at: usize) -> u32
 }
 
 /// The parts of a receipt, `None` where its form isn't right.
-pub(crate) fn parts_of<P: ParameterSet>(receipt: &[u8]) -> Option<Parts<'_>>
+pub(crate) fn parts_of<P: SetSizes>(receipt: &[u8]) -> Option<Parts<'_>>
     ensures form { is_some result ≡ has_right_form P.scheme receipt.now }
     ensures parts { IfSome result (λ parts. ArePartsOf P.scheme receipt.now parts) }
 {

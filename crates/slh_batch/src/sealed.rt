@@ -2,12 +2,12 @@
 ghost use Rattle.std.specs.Prelude.{◌≡◌, ◌≤◌, ◌++◌, length, IfOk};
 ghost use Rattle.std.specs.List.{concat};
 ghost use Rattle.slh_core.specs.Bytes.{big_endian};
-ghost use Rattle.slh_internal.specs.Checking.{signature_size};
+ghost use Rattle.slh_trees.specs.Checking.{signature_size};
 ghost use Rattle.slh_batch.specs.Calls.{index_refusal};
 ghost use Rattle.slh_batch.specs.Heads.{head_of};
 ghost use Rattle.slh_batch.specs.Receipts.{receipt_of};
 ghost use Rattle.slh_batch.specs.Tree.{batch_path, batch_tree};
-ghost use Rattle.slh_trees.specs.Refusals.{RefusedOrNoMemory};
+ghost use Rattle.slh_core.specs.Refusals.{RefusedOrNoMemory};
 ghost use Rattle.slh_batch.specs.declared.error.BatchError.TheVariants.{Memory};
 
 use crate::batch::MAX_MESSAGES;
@@ -15,22 +15,22 @@ use crate::checking::{ROOT_MESSAGE_LEN, root_message};
 use crate::error::BatchError;
 use crate::parts::NUMBERS_LEN;
 use merkle_tree::{DIGEST_LEN, Levels, Sha256, path_len};
-use slh_dsa::ParameterSet;
+use slh_dsa::SetSizes;
 use std::alloc::{AllocError, Global};
 use std::marker::{Model, PhantomData};
 
 /// A signed batch. Clauses see it as the list of its messages' digests and the signature.
 #[derive(Drop)]
-pub struct Sealed<P: ParameterSet> {
+pub struct Sealed<P: SetSizes> {
     pub(crate) levels: Levels<Sha256>,
     pub(crate) signature: Vec<u8>,
     pub(crate) set: PhantomData<P>,
 }
 
-impl<P: ParameterSet> Model for Sealed<P> {
+impl<P: SetSizes> Model for Sealed<P> {
     ghost use Rattle.std.specs.Prelude.{◌≡◌, ◌≤◌, ◌^◌, length};
     ghost use Rattle.slh_batch.specs.Sealing.{SealedBatch};
-    ghost use Rattle.slh_internal.specs.Checking.{signature_size};
+    ghost use Rattle.slh_trees.specs.Checking.{signature_size};
 
     ghost Value = { SealedBatch };
 
@@ -61,7 +61,7 @@ fn write_receipt(
     Ok(out)
 }
 
-impl<P: ParameterSet> Sealed<P> {
+impl<P: SetSizes> Sealed<P> {
     /// How many messages it has.
     pub fn len(&self) -> usize
         ensures value { result ≡ length self.now.leaves }

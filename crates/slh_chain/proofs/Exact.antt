@@ -2,7 +2,7 @@
 use Rattle.std.proofs.Common.{◌≡◌, ℕ, zero, suc, ◌+◌, ◌<◌, ◌≤◌, inl, inr, List, [], ◌∷◌, Bool, true, false, Option, None, Some, Result, Ok, Err, if◌then◌else◌, refl, sym, ◌∙◌, ap, subst, arith}
 use Rattle.std.proofs.lemmas.Bool.{cases_lt, ltb-true}
 use Rattle.slh_core.specs.Parameters.{Scheme}
-use Rattle.slh_trees.specs.Refusals.{first_refusal}
+use Rattle.slh_core.specs.Refusals.{first_refusal}
 use Rattle.slh_chain.specs.Walks.{Ended, IsFaulty, IsGood, answer_from, end_or, ended_at, fault_at, link_fault, place, walk_answer}
 use Rattle.slh_chain.specs.declared.error.ChainError.{ChainError}
 

@@ -4,7 +4,7 @@ use Rattle.std.proofs.lemmas.Bool.{and_parts, leb-true, ltb-true}
 use Rattle.slh_core.specs.Parameters.{Scheme}
 use Rattle.slh_frames.specs.declared.frame.Mode.TheVariants.{Pure}
 use Rattle.slh_dsa.specs.Calls.{is_valid}
-use Rattle.slh_trees.proofs.Refusals.{first_none, passed}
+use Rattle.slh_core.proofs.Refusals.{first_none, passed}
 use Rattle.slh_chain.proofs.Cuts.{link_read, link_written}
 use Rattle.slh_chain.proofs.Delegated.{Accepts, no_fault, walked}
 use Rattle.slh_chain.proofs.Exact.{good}

@@ -3,8 +3,8 @@ use Rattle.std.proofs.Common.{◌≡◌, ℕ, zero, suc, ◌+◌, ◌-◌, ◌<�
 use Rattle.std.proofs.lemmas.Bool.{and_parts, le-leb}
 use Rattle.std.specs.Cmp.Derive.{both_true}
 use Rattle.slh_core.specs.Parameters.{Scheme}
-use Rattle.slh_trees.proofs.Refusals.{first_none, passed}
-use Rattle.slh_trees.specs.Refusals.{first_refusal, randomizer_refusal}
+use Rattle.slh_core.proofs.Refusals.{first_none, passed}
+use Rattle.slh_core.specs.Refusals.{first_refusal, randomizer_refusal}
 use Rattle.slh_chain.specs.Links.{after_link, delegate_refusal, has_form, is_name_size, link_depth, link_name, link_subject}
 use Rattle.slh_chain.specs.Parts.{IsWalked, have_form, link_parts, links_in}
 use Rattle.slh_chain.specs.Walks.{Ended, fault_at, place, walk_answer}

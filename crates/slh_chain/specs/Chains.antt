@@ -8,7 +8,7 @@ use Rattle.slh_core.specs.Parameters.{Scheme}
 use Rattle.slh_dsa.specs.Calls.{hash_verify_error}
 use Rattle.slh_dsa.specs.declared.error.Error.{Error}
 use Rattle.slh_frames.specs.declared.frame.Mode.{Mode}
-use Rattle.slh_trees.specs.Refusals.{first_refusal, randomizer_refusal, unless_refused}
+use Rattle.slh_core.specs.Refusals.{first_refusal, randomizer_refusal, unless_refused}
 use Rattle.slh_chain.specs.Links.{is_name_size}
 use Rattle.slh_chain.specs.Walks.{Ended, walk_answer}
 use Rattle.slh_chain.specs.declared.error.ChainError.{ChainError}

@@ -5,10 +5,10 @@ use Rattle.std.specs.Prelude.{length, take, drop}
 use Rattle.std.specs.Prelude.{Bool, true, ◌&&◌, nat_le, Option, None, Some}
 use Rattle.std.specs.Prelude.{if◌then◌else◌, codes, slice_index, slice_range}
 use Rattle.slh_core.specs.Parameters.{Scheme}
-use Rattle.slh_internal.specs.Checking.{signature_size}
+use Rattle.slh_trees.specs.Checking.{signature_size}
 use Rattle.slh_frames.specs.Frames.{frame}
-use Rattle.slh_internal.specs.Signing.{signature_of}
-use Rattle.slh_trees.specs.Refusals.{first_refusal, randomizer_refusal}
+use Rattle.slh_trees.specs.Signing.{signature_of}
+use Rattle.slh_core.specs.Refusals.{first_refusal, randomizer_refusal}
 use Rattle.slh_chain.specs.declared.error.LinkError.{LinkError}
 use Rattle.slh_chain.specs.declared.error.LinkError.TheVariants.{Name, Depth, Randomizer}
 

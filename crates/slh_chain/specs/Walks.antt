@@ -5,7 +5,7 @@ use Rattle.std.specs.Prelude.{◌≡◌, ◌<◌, ◌≢◌, ℕ, zero, suc, Lis
 use Rattle.std.specs.Prelude.{nat_lt, Option, None, Some, Result, Ok, Err}
 use Rattle.std.specs.Prelude.{if◌then◌else◌}
 use Rattle.slh_core.specs.Parameters.{Scheme}
-use Rattle.slh_trees.specs.Refusals.{first_refusal}
+use Rattle.slh_core.specs.Refusals.{first_refusal}
 use Rattle.slh_dsa.specs.Calls.{is_valid}
 use Rattle.slh_frames.specs.declared.frame.Mode.TheVariants.{Pure}
 use Rattle.slh_chain.specs.Links.{after_link, body_of, chain_context, has_form}

@@ -1,7 +1,7 @@
 //! Chains that were walked, and what is done with one.
 ghost use Rattle.std.specs.Prelude.{◌≡◌, ◌++◌, IfOk, IfErr, Ok, Err};
 ghost use Rattle.std.specs.Option.{option_copied};
-ghost use Rattle.slh_trees.specs.Refusals.{RefusedOrNoMemory};
+ghost use Rattle.slh_core.specs.Refusals.{RefusedOrNoMemory};
 ghost use Rattle.slh_chain.specs.Chains.{extend_refusal, under_answer};
 ghost use Rattle.slh_chain.specs.Links.{link_body, signed_link};
 ghost use Rattle.slh_chain.specs.Parts.{links_in};
@@ -13,18 +13,18 @@ use crate::link::delegate;
 use crate::links::Links;
 use crate::walking::{End, walk};
 use slh_core::params::chain_sizes;
-use slh_dsa::{Mode, ParameterSet, SigningKey, VerifyingKey};
+use slh_dsa::{Mode, SetSizes, SigningKey, VerifyingKey};
 use std::alloc::Global;
 use std::marker::Model;
 
 /// A chain that was walked to its end. Clauses see its bytes and its end.
 #[derive(Drop)]
-pub struct Chain<'a, P: ParameterSet> {
+pub struct Chain<'a, P: SetSizes> {
     bytes: &'a [u8],
     end: End<P>,
 }
 
-impl<'a, P: ParameterSet> Model for Chain<'a, P> {
+impl<'a, P: SetSizes> Model for Chain<'a, P> {
     ghost use Rattle.slh_chain.specs.Parts.{IsWalked, Walked};
 
     ghost Value = { Walked };
@@ -37,7 +37,7 @@ impl<'a, P: ParameterSet> Model for Chain<'a, P> {
     ghost invariant = { λ c. IsWalked P.scheme c.end.links c.end.budget c.bytes.now };
 }
 
-impl<'a, P: ParameterSet> Chain<'a, P> {
+impl<'a, P: SetSizes> Chain<'a, P> {
     /// Walks a chain from a root key, as [`walk`] does, whose errors these are. Takes no memory.
     pub fn open(root: &VerifyingKey<P>, bytes: &'a [u8]) -> Result<Self, ChainError>
         ensures end { IfOk result
@@ -109,13 +109,13 @@ impl<'a, P: ParameterSet> Chain<'a, P> {
 
 /// Verifies a message that the key at the end of a chain signed, with a context, as the mode says,
 /// and answers that end. `Chain`: the chain leads nowhere; `Signature`: as
-/// [`VerifyingKey::verify_bytes`] refuses it. Takes no memory.
-pub fn verify_under<P: ParameterSet>(
+/// [`VerifyingKey::hash_verify`] refuses it. Takes no memory.
+pub fn verify_under<P: SetSizes>(
     root: &VerifyingKey<P>,
     chain: &[u8],
     mode: Mode,
-    ctx: &[u8],
     msg: &[u8],
+    ctx: &[u8],
     sig: &[u8],
 ) -> Result<End<P>, UnderError>
     ensures end { IfOk result
@@ -128,7 +128,7 @@ pub fn verify_under<P: ParameterSet>(
         Ok(end) => end,
         Err(error) => return Err(UnderError::Chain(error)),
     };
-    match end.key.verify_bytes(mode, ctx, msg, sig) {
+    match end.key.hash_verify(mode, msg, ctx, sig) {
         Ok(()) => Ok(end),
         Err(error) => Err(UnderError::Signature(error)),
     }

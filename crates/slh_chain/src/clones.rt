@@ -5,7 +5,7 @@ ghost use Rattle.slh_chain.specs.declared.error.UnderError.{UnderError};
 
 use crate::error::{ChainError, ExtendError, LinkError, UnderError};
 use crate::walking::End;
-use slh_dsa::ParameterSet;
+use slh_dsa::SetSizes;
 
 /// A clone of why no link was made is the same, and `==` holds exactly where both are the same.
 pub fn clone_and_equality_of_link_errors(a: &LinkError, b: &LinkError) -> (LinkError, bool)
@@ -24,7 +24,7 @@ pub fn clone_and_equality_of_chain_errors(a: &ChainError, b: &ChainError) -> (Ch
 }
 
 /// Likewise for where a chain ends.
-pub fn clone_and_equality_of_ends<P: ParameterSet>(a: &End<P>, b: &End<P>) -> (End<P>, bool)
+pub fn clone_and_equality_of_ends<P: SetSizes>(a: &End<P>, b: &End<P>) -> (End<P>, bool)
     ensures clone { result.0 ≡ a.now }
     ensures equal { IsTrue result.1 ↔ (a.now ≡ b.now) }
 {

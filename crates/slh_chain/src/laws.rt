@@ -10,12 +10,12 @@ ghost use Rattle.slh_chain.specs.declared.error.ChainError.{ChainError};
 
 use crate::error::ChainError;
 use slh_core::params::chain_sizes;
-use slh_dsa::ParameterSet;
+use slh_dsa::SetSizes;
 use slh_dsa::laws::signed_is_accepted;
 
 /// A chain is cut in one way: bytes begin with the link of some parts exactly where they have the
 /// form, and the parts that are read are these.
-pub fn links_are_cut_once<P: ParameterSet>()
+pub fn links_are_cut_once<P: SetSizes>()
     ensures read { (depth : ℕ) (name subject sig rest bytes : List ℕ)
         → HasLink P.scheme depth name subject sig rest bytes
         → ReadsLink P.scheme depth name subject sig rest bytes }
@@ -27,7 +27,7 @@ pub fn links_are_cut_once<P: ParameterSet>()
 
 /// A walk comes to the end exactly where every link is good, of which there are at most 16, and it
 /// comes to a fault exactly where that is the one of the first link that isn't good.
-pub fn walks_are_exact<P: ParameterSet>()
+pub fn walks_are_exact<P: SetSizes>()
     ensures good { (root chain : List ℕ) (end : Ended) → let Z = P.scheme in
         walk_answer Z root chain ≡ Ok end
         → IsGood Z root chain end.links
@@ -48,7 +48,7 @@ pub fn walks_are_exact<P: ParameterSet>()
 
 /// Links that true keys made, the first one's verifying key the root key and each later one's the
 /// subject before it, with falling depths below 16, are walked to the last subject.
-pub fn delegated_is_walked<P: ParameterSet>()
+pub fn delegated_is_walked<P: SetSizes>()
     ensures { (root : List ℕ) (xs : List Delegation)
         → AreDelegated P.scheme root 16 xs
         → walk_answer P.scheme root (chain_of P.scheme xs) ≡ Ok (record {
@@ -67,7 +67,7 @@ pub fn delegated_is_walked<P: ParameterSet>()
 /// with a key with the root of its own seeds is walked to its subject.
 ///
 /// [`Chain::extend`]: crate::Chain::extend
-pub fn extended_is_walked<P: ParameterSet>()
+pub fn extended_is_walked<P: SetSizes>()
     ensures { (root chain : List ℕ) (end : Ended) (xs : List Delegation)
         → walk_answer P.scheme root chain ≡ Ok end
         → AreDelegated P.scheme end.key end.budget xs

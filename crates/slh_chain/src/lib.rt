@@ -48,6 +48,6 @@ mod walking;
 
 pub use chain::{Chain, verify_under};
 pub use error::{ChainError, ExtendError, LinkError, UnderError};
-pub use link::delegate;
+pub use link::{CONTEXT, delegate};
 pub use links::{LinkRef, Links};
 pub use walking::{End, walk};

@@ -2,11 +2,10 @@
 ghost use Rattle.std.specs.Prelude.{◌≡◌, ◌↔◌, ◌+◌, ◌*◌, ◌^◌, ◌≤◌, ◌++◌, length};
 ghost use Rattle.std.specs.Prelude.{IfOk, IfSome, IsSome, IsTrue};
 ghost use Rattle.std.specs.Option.{option_copied, ForSome};
-ghost use Rattle.slh_internal.specs.Checking.{signature_size};
+ghost use Rattle.slh_trees.specs.Checking.{signature_size};
 ghost use Rattle.slh_frames.specs.Frames.{frame};
-ghost use Rattle.slh_internal.specs.Signing.{signature_of};
-ghost use Rattle.slh_trees.specs.Refusals.{RefusedExactly, RefusedOrNoMemory};
-ghost use Rattle.slh_dsa.specs.Calls.{IsSignable};
+ghost use Rattle.slh_trees.specs.Signing.{signature_of};
+ghost use Rattle.slh_core.specs.Refusals.{RefusedExactly, RefusedOrNoMemory};
 ghost use Rattle.slh_chain.specs.Links.{after_link, body_of, body_size, chain_context};
 ghost use Rattle.slh_chain.specs.Links.{delegate_refusal, has_form, link_body, link_depth};
 ghost use Rattle.slh_chain.specs.Links.{link_name};
@@ -16,11 +15,12 @@ ghost use Rattle.slh_chain.specs.declared.error.LinkError.TheVariants.{Memory};
 use crate::error::LinkError;
 use hybrid_array::ArraySize;
 use slh_core::params::{chain_sizes, forest_sizes, layer_sizes};
-use slh_dsa::{Mode, ParameterSet, SigningKey, VerifyingKey, check_opt_rand};
+use slh_dsa::{Message, Mode, SetSizes, SigningKey, VerifyingKey, check_opt_rand};
+use slh_frames::MAX_MESSAGE;
 use std::alloc::Global;
 
 /// The context that bodies are signed with.
-pub(crate) const CONTEXT: &[u8] = b"slh-chain";
+pub const CONTEXT: &[u8] = b"slh-chain";
 
 /// The most bytes of a name.
 const MAX_NAME: usize = 64;
@@ -29,7 +29,7 @@ const MAX_NAME: usize = 64;
 const MAX_DEPTH: u8 = 15;
 
 // No link has more bytes.
-fn link_bound<P: ParameterSet>()
+fn link_bound<P: SetSizes>()
     ensures n { P.N.USIZE ≤ 32 }
     ensures signature { signature_size P.scheme ≤ 2 ^ 18 }
 {
@@ -39,11 +39,7 @@ fn link_bound<P: ParameterSet>()
 }
 
 // The refusals of making a link.
-fn check_link<P: ParameterSet>(
-    name: &[u8],
-    depth: u8,
-    opt_rand: Option<&[u8]>,
-) -> Result<(), LinkError>
+fn check_link<P: SetSizes>(name: &[u8], depth: u8, opt_rand: Option<&[u8]>) -> Result<(), LinkError>
     ensures refusal { let opt_rand = option_copied opt_rand.entry in
         RefusedExactly result (delegate_refusal P.scheme name.now depth opt_rand) }
 {
@@ -58,7 +54,7 @@ fn check_link<P: ParameterSet>(
 }
 
 // Writes the body of a link.
-fn write_body<P: ParameterSet>(name: &[u8], depth: u8, subject: &VerifyingKey<P>, out: &mut [u8])
+fn write_body<P: SetSizes>(name: &[u8], depth: u8, subject: &VerifyingKey<P>, out: &mut [u8])
     requires name { length name.now ≤ 64 }
     requires room { length out.old ≡ 2 + length name.now + 2 * P.N.USIZE }
     ensures { out.new ≡ link_body depth name.now subject.now }
@@ -73,22 +69,18 @@ fn write_body<P: ParameterSet>(name: &[u8], depth: u8, subject: &VerifyingKey<P>
 }
 
 // Writes a link's signature after its body.
-fn sign_body<P: ParameterSet>(
-    key: &SigningKey<P>,
-    body: &[u8],
-    opt_rand: Option<&[u8]>,
-    out: &mut [u8],
-)
-    requires fits { IsSignable P.N.USIZE chain_context (option_copied opt_rand) body.now }
+fn sign_body<P: SetSizes>(key: &SigningKey<P>, body: &[u8], opt_rand: Option<&[u8]>, out: &mut [u8])
+    requires body { length body.now ≤ MAX_MESSAGE }
+    requires opt_rand { ForSome (option_copied opt_rand) (λ bytes. length bytes ≡ P.N.USIZE) }
     requires room { length out.old ≡ signature_size P.scheme }
     ensures { let opt_rand = option_copied opt_rand.entry in
         out.new ≡ signature_of P.scheme key.now opt_rand (frame chain_context body.now) }
 {
-    key.sign_checked_into(Mode::Pure, CONTEXT, body, opt_rand, out);
+    key.sign_checked(&Message::fitting(Mode::Pure, body, CONTEXT), opt_rand, out);
 }
 
 // Writes a whole link.
-fn write_link<P: ParameterSet>(
+fn write_link<P: SetSizes>(
     key: &SigningKey<P>,
     name: &[u8],
     depth: u8,
@@ -115,7 +107,7 @@ fn write_link<P: ParameterSet>(
 /// those of a signature, which is made in mode `Pure` (FIPS 205, algorithm 22) with the context
 /// `slh-chain`. Where no `opt_rand` is given the key's public seed stands for it. `Name`; `Depth`;
 /// `Randomizer`; `Memory`.
-pub fn delegate<P: ParameterSet>(
+pub fn delegate<P: SetSizes>(
     alloc: Global,
     key: &SigningKey<P>,
     name: &[u8],
@@ -149,7 +141,7 @@ pub(crate) struct Link<'a> {
 }
 
 // How many bytes the body of the link has that the bytes begin with. `None`: they begin with none.
-fn body_len<P: ParameterSet>(bytes: &[u8]) -> Option<usize>
+fn body_len<P: SetSizes>(bytes: &[u8]) -> Option<usize>
     ensures form { IsSome result ↔ IsTrue (has_form P.scheme bytes.now) }
     ensures len { IfSome result (λ len. len ≡ body_size P.scheme bytes.now) }
 {
@@ -169,7 +161,7 @@ fn body_len<P: ParameterSet>(bytes: &[u8]) -> Option<usize>
 }
 
 /// The link that the bytes begin with. `None`: they begin with none.
-pub(crate) fn read_link<P: ParameterSet>(bytes: &[u8]) -> Option<Link<'_>>
+pub(crate) fn read_link<P: SetSizes>(bytes: &[u8]) -> Option<Link<'_>>
     ensures form { IsSome result ↔ IsTrue (has_form P.scheme bytes.now) }
     ensures depth { IfSome result (λ link. link.depth ≡ link_depth bytes.now) }
     ensures name { IfSome result (λ link. link.name.now ≡ link_name bytes.now) }

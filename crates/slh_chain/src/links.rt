@@ -1,11 +1,11 @@
 //! The links of a chain that was walked.
 use crate::link::read_link;
-use slh_dsa::{ParameterSet, VerifyingKey};
+use slh_dsa::{SetSizes, VerifyingKey};
 use std::marker::{Model, PhantomData};
 
 /// A link where it stands in a chain.
 #[derive(Drop)]
-pub struct LinkRef<'a, P: ParameterSet> {
+pub struct LinkRef<'a, P: SetSizes> {
     /// How deep the subject may delegate in turn.
     pub depth: u8,
     pub name: &'a [u8],
@@ -15,13 +15,13 @@ pub struct LinkRef<'a, P: ParameterSet> {
 /// The links of a chain that was walked, the root key's first. Clauses see it as the list of those
 /// that are left.
 #[derive(Drop)]
-pub struct Links<'a, P: ParameterSet> {
+pub struct Links<'a, P: SetSizes> {
     left: u32,
     rest: &'a [u8],
     set: PhantomData<P>,
 }
 
-impl<'a, P: ParameterSet> Model for Links<'a, P> {
+impl<'a, P: SetSizes> Model for Links<'a, P> {
     ghost use Rattle.std.specs.Prelude.{◌≡◌, List, true};
     ghost use Rattle.slh_chain.specs.Parts.{LinkParts, have_form, links_in};
 
@@ -32,7 +32,7 @@ impl<'a, P: ParameterSet> Model for Links<'a, P> {
     ghost invariant = { λ links. have_form P.scheme links.left links.rest.now ≡ true };
 }
 
-impl<'a, P: ParameterSet> Links<'a, P> {
+impl<'a, P: SetSizes> Links<'a, P> {
     ghost use Rattle.std.specs.Prelude.{◌≡◌, true};
     ghost use Rattle.slh_chain.specs.Parts.{have_form, links_in};
 
@@ -49,7 +49,7 @@ impl<'a, P: ParameterSet> Links<'a, P> {
     }
 }
 
-impl<'a, P: ParameterSet> Iterator for Links<'a, P> {
+impl<'a, P: SetSizes> Iterator for Links<'a, P> {
     ghost use Rattle.std.specs.Iterator.{YieldsFirstBy, item_count};
     ghost use Rattle.slh_chain.specs.Parts.{LinkParts};
 

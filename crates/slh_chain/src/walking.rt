@@ -1,8 +1,8 @@
 //! Walking a chain from its root key to its end.
 ghost use Rattle.std.specs.Prelude.{◌≡◌, ◌+◌, ◌^◌, ◌≤◌, ◌<◌, length};
 ghost use Rattle.std.specs.Prelude.{IfOk, IfErr, OnOk, Ok, Err};
-ghost use Rattle.slh_internal.specs.Checking.{signature_size};
-ghost use Rattle.slh_trees.specs.Refusals.{RefusedExactly};
+ghost use Rattle.slh_trees.specs.Checking.{signature_size};
+ghost use Rattle.slh_core.specs.Refusals.{RefusedExactly};
 ghost use Rattle.slh_dsa.specs.Calls.{is_valid};
 ghost use Rattle.slh_frames.specs.declared.frame.Mode.TheVariants.{Pure};
 ghost use Rattle.slh_chain.specs.Links.{after_link, chain_context, link_depth, link_subject};
@@ -10,7 +10,8 @@ ghost use Rattle.slh_chain.specs.Walks.{Place, link_fault, walk_answer};
 
 use crate::error::ChainError;
 use crate::link::{CONTEXT, Link, read_link};
-use slh_dsa::{Mode, ParameterSet, VerifyingKey};
+use slh_dsa::{Message, Mode, SetSizes, VerifyingKey};
+use slh_frames::MAX_MESSAGE;
 
 /// The budget of the first link.
 const FIRST_BUDGET: u8 = 16;
@@ -18,7 +19,7 @@ const FIRST_BUDGET: u8 = 16;
 /// Where a chain ends.
 #[derive(Drop)]
 #[derive_where(Clone, PartialEq, Eq)]
-pub struct End<P: ParameterSet> {
+pub struct End<P: SetSizes> {
     /// The last link's subject, or the root key where there is no link.
     pub key: VerifyingKey<P>,
     /// The last link's depth, or 16. The key may delegate further with depths below it.
@@ -28,16 +29,17 @@ pub struct End<P: ParameterSet> {
 }
 
 // Whether a link's signature is one of its body under a key.
-fn is_signed<P: ParameterSet>(key: &VerifyingKey<P>, link: &Link<'_>) -> bool
-    requires body { length link.now.body.now ≤ 2 ^ 60 }
+fn is_signed<P: SetSizes>(key: &VerifyingKey<P>, link: &Link<'_>) -> bool
+    requires body { length link.now.body.now ≤ MAX_MESSAGE }
     requires signature { length link.now.signature.now ≡ signature_size P.scheme }
     ensures { result ≡ is_valid P.scheme Pure key.now chain_context
         link.now.body.now link.now.signature.now }
 {
-    key.is_valid(Mode::Pure, CONTEXT, link.body, link.signature)
+    let body = Message::fitting(Mode::Pure, link.body, CONTEXT);
+    key.is_valid(&body, link.signature)
 }
 
-impl<P: ParameterSet> End<P> {
+impl<P: SetSizes> End<P> {
     // The end of a chain of no links.
     fn start(root: &VerifyingKey<P>) -> Self
         ensures key { result.key ≡ root.now }
@@ -86,7 +88,7 @@ impl<P: ParameterSet> End<P> {
 /// The end of a chain whose first link is signed by a root key; the empty chain ends with that
 /// key. `Form`, `Budget`, `Invalid`: the first link that isn't good, and the first of its
 /// conditions that fails. Verifies each link at most once, where it stands, and takes no memory.
-pub fn walk<P: ParameterSet>(root: &VerifyingKey<P>, chain: &[u8]) -> Result<End<P>, ChainError>
+pub fn walk<P: SetSizes>(root: &VerifyingKey<P>, chain: &[u8]) -> Result<End<P>, ChainError>
     ensures end { IfOk result (λ end. walk_answer P.scheme root.now chain.now
         ≡ Ok (record { key = end.key; budget = end.budget; links = end.links })) }
     ensures fault { IfErr result (λ e. walk_answer P.scheme root.now chain.now ≡ Err e) }

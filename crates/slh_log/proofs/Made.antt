@@ -11,11 +11,11 @@ use Rattle.line_serve.specs.Lines.{parts}
 use Rattle.sha256_lanes.proofs.Digest.{length-sha256}
 use Rattle.sha256_lanes.specs.Sha256.{sha256}
 use Rattle.slh_core.specs.Parameters.{Scheme}
-use Rattle.slh_internal.specs.Checking.{signature_size}
+use Rattle.slh_trees.specs.Checking.{signature_size}
 use Rattle.slh_frames.specs.Frames.{mode_frame}
 use Rattle.slh_frames.specs.declared.frame.Mode.TheVariants.{Pure}
-use Rattle.slh_trees.specs.Refusals.{first_refusal}
-use Rattle.slh_trees.proofs.Refusals.{first_none, no_cause, none_first, passed}
+use Rattle.slh_core.specs.Refusals.{first_refusal}
+use Rattle.slh_core.proofs.Refusals.{first_none, no_cause, none_first, passed}
 use Rattle.slh_dsa.specs.Calls.{hash_verify_error, is_valid, root_refusal, verify_refusal}
 use Rattle.slh_log.proofs.MadeNote.{Reads, made_reads}
 use Rattle.slh_log.specs.Calls.{open_refusal, read_signature, signature_refusal}

@@ -5,7 +5,7 @@ use Rattle.std.proofs.lemmas.Bool.{ne_eqb}
 use Rattle.base64.specs.GeneralPurpose.{IsBytes}
 use Rattle.slh_core.specs.Parameters.{Scheme}
 use Rattle.slh_frames.specs.declared.frame.Mode.TheVariants.{Pure}
-use Rattle.slh_trees.proofs.Refusals.{passed}
+use Rattle.slh_core.proofs.Refusals.{passed}
 use Rattle.slh_dsa.specs.Calls.{is_valid}
 use Rattle.slh_log.proofs.Made.{opened_parts}
 use Rattle.slh_log.proofs.Opened.{Extends, text_extends}

@@ -2,8 +2,8 @@
 use Rattle.std.proofs.Common.{ℕ, ◌+◌, ◌*◌, ◌^◌, ◌≤◌, arith}
 use Rattle.std.proofs.lemmas.Nat.{mul-le}
 use Rattle.slh_core.specs.Parameters.{chain_count}
-use Rattle.slh_trees.specs.Checking.{forest_size}
-use Rattle.slh_trees.specs.Hypertree.{layer_size}
+use Rattle.slh_merkle.specs.Checking.{forest_size}
+use Rattle.slh_merkle.specs.Hypertree.{layer_size}
 
 -- no signature, with an id before it, has more bytes
 pub signature_small : (n hp d a k : ℕ) → n ≤ 32 → hp ≤ 31 → d ≤ 65 → a ≤ 16 → k ≤ 64 → n + forest_size n k a + d * layer_size n hp + 4 ≤ 2 ^ 18

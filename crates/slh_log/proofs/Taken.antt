@@ -14,7 +14,7 @@ use Rattle.merkle_tree.specs.Clashes.{Inputs, first_clash}
 use Rattle.merkle_tree.specs.Climb.{is_included, path_sides}
 use Rattle.merkle_tree.specs.Consistency.{is_consistent, proof_len}
 use Rattle.merkle_tree.specs.Tree.{entries_root, leaf_hash}
-use Rattle.slh_trees.specs.Refusals.{first_refusal, length_refusal, message_refusal}
+use Rattle.slh_core.specs.Refusals.{first_refusal, length_refusal, message_refusal}
 use Rattle.slh_log.specs.Calls.{empty_refusal, growth_refusal, index_refusal, leaf_refusal, presence_refusal, smaller_refusal}
 use Rattle.slh_log.specs.declared.error.PresenceError.TheVariants.{Entry, Invalid, Length}
 use Rattle.slh_log.specs.declared.error.GrowthError.TheVariants.{Length as ProofLength, Invalid as InvalidProof}

@@ -9,9 +9,9 @@ use Rattle.sha256_lanes.specs.Sha256.{sha256}
 use Rattle.slh_core.specs.Parameters.{Scheme}
 use Rattle.slh_dsa.specs.Calls.{is_valid}
 use Rattle.slh_frames.specs.declared.frame.Mode.TheVariants.{Pure}
-use Rattle.slh_internal.specs.Checking.{signature_size}
-use Rattle.slh_trees.specs.Refusals.{first_refusal, length_refusal, message_refusal}
-use Rattle.slh_trees.specs.Refusals.{randomizer_refusal}
+use Rattle.slh_trees.specs.Checking.{signature_size}
+use Rattle.slh_core.specs.Refusals.{first_refusal, length_refusal, message_refusal}
+use Rattle.slh_core.specs.Refusals.{randomizer_refusal}
 use Rattle.line_serve.specs.Lines.{parts}
 use Rattle.slh_log.specs.Reading.{after_text, has_form, is_origin, line_at, own_signature}
 use Rattle.slh_log.specs.Reading.{read_text}

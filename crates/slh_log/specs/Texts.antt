@@ -6,7 +6,7 @@ use Rattle.base64.specs.GeneralPurpose.{encode_of}
 use Rattle.sha256_lanes.specs.Sha256.{sha256}
 use Rattle.slh_core.specs.Parameters.{Scheme}
 use Rattle.slh_frames.specs.Frames.{frame}
-use Rattle.slh_internal.specs.Signing.{signature_of}
+use Rattle.slh_trees.specs.Signing.{signature_of}
 
 -- the context that texts are signed with
 abbrev pub log_context : List ℕ

@@ -3,7 +3,7 @@ ghost use Rattle.std.specs.Prelude.{◌≡◌, ◌↔◌, IsTrue, IsOk};
 ghost use Rattle.merkle_tree.specs.Climb.{is_included};
 ghost use Rattle.merkle_tree.specs.Consistency.{is_consistent};
 ghost use Rattle.sha256_lanes.specs.Sha256.{sha256};
-ghost use Rattle.slh_trees.specs.Refusals.{RefusedExactly};
+ghost use Rattle.slh_core.specs.Refusals.{RefusedExactly};
 ghost use Rattle.slh_log.specs.Calls.{growth_refusal, leaf_refusal, presence_refusal};
 
 use crate::error::{GrowthError, PresenceError};

@@ -5,7 +5,7 @@ ghost use Rattle.std.specs.Prelude.{slice_index_or, All, Option, None, Some, tru
 ghost use Rattle.base64.specs.GeneralPurpose.{IsBytes};
 ghost use Rattle.merkle_tree.specs.Binding.{entry_clash};
 ghost use Rattle.sha256_lanes.specs.Sha256.{sha256};
-ghost use Rattle.slh_internal.specs.Keys.{IsTrueKey};
+ghost use Rattle.slh_trees.specs.Keys.{IsTrueKey};
 ghost use Rattle.slh_log.specs.Calls.{presence_refusal};
 ghost use Rattle.slh_log.specs.Heads.{AreTaken, IsFound, IsHead, IsOpened, IsSigned, Step};
 ghost use Rattle.slh_log.specs.Heads.{last_entries, steps_clash};
@@ -14,12 +14,12 @@ ghost use Rattle.slh_log.specs.Texts.{checkpoint_text, key_id, signed_checkpoint
 
 use crate::opening::signature_bound;
 use slh_core::params::chain_sizes;
-use slh_dsa::ParameterSet;
+use slh_dsa::SetSizes;
 use slh_dsa::laws::signed_is_accepted;
 
 /// What a true key makes, with any `opt_rand` or none, opens under its verifying key and its
 /// origin, to the size and the root that it was made of.
-pub fn made_is_opened<P: ParameterSet>()
+pub fn made_is_opened<P: SetSizes>()
     ensures { (key origin root : List ℕ) (opt_rand : Option (List ℕ)) (size : ℕ)
         → IsTrueKey P.scheme key
         → length key ≡ 4 * P.N.USIZE
@@ -41,7 +41,7 @@ pub fn made_is_opened<P: ParameterSet>()
 /// What opens to a size and a root was signed: there is a signature of the key, of a text that
 /// begins with that of this size and this root under this origin. And such a text begins with no
 /// other.
-pub fn opened_is_signed<P: ParameterSet>()
+pub fn opened_is_signed<P: SetSizes>()
     ensures signed { (key origin bytes root : List ℕ) (size : ℕ)
         → IsBytes bytes
         → IsOpened P.scheme P.set_name key origin bytes size root
@@ -63,7 +63,7 @@ pub fn opened_is_signed<P: ParameterSet>()
 /// each step, the entries of the first are the front of those of the last, or two different inputs
 /// with one SHA-256 digest are found. And an entry whose path is checked against a head is the one
 /// at that place of its list, or such inputs are found.
-pub fn heads_bind<P: ParameterSet>()
+pub fn heads_bind<P: SetSizes>()
     ensures grown { (key origin bytes : List ℕ) (entries : List (List ℕ)) (steps : List Step)
         → IsHead P.scheme P.set_name key origin bytes entries
         → AreTaken P.scheme P.set_name key origin entries steps

@@ -57,7 +57,7 @@ mod signed;
 pub use checking::{check_growth, check_leaf, check_presence};
 pub use decoding::decimal_size;
 pub use error::{CheckpointError, GrowthError, OpenError, PresenceError};
-pub use making::checkpoint;
+pub use making::{CONTEXT, checkpoint};
 pub use note::{Checkpoint, read_unverified};
 pub use opening::{open, open_in};
 pub use origin::text_of;

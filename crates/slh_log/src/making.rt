@@ -1,8 +1,7 @@
 //! Making checkpoints.
 ghost use Rattle.std.specs.Prelude.{◌≡◌, ◌≤◌, ◌++◌, ◌∷◌, [], length, IfOk, OnOk};
 ghost use Rattle.std.specs.Option.{option_copied, ForSome};
-ghost use Rattle.slh_trees.specs.Refusals.{RefusedExactly, RefusedOrNoMemory};
-ghost use Rattle.slh_dsa.specs.Calls.{IsSignable};
+ghost use Rattle.slh_core.specs.Refusals.{RefusedExactly, RefusedOrNoMemory};
 ghost use Rattle.slh_log.specs.Calls.{checkpoint_refusal};
 ghost use Rattle.slh_log.specs.Texts.{base64_of, checkpoint_text, dash};
 ghost use Rattle.slh_log.specs.Texts.{log_context, signed_checkpoint, text_signature};
@@ -15,14 +14,15 @@ use crate::origin::{ID_LEN, is_origin, key_id};
 use base64::engine::general_purpose::STANDARD;
 use itoa::Buffer;
 use merkle_tree::DIGEST_LEN;
-use slh_dsa::{Mode, ParameterSet, SigningKey, check_opt_rand};
+use slh_dsa::{Message, Mode, SetSizes, SigningKey, check_opt_rand};
+use slh_frames::MAX_MESSAGE;
 use std::alloc::{AllocError, Global};
 
 /// The context that texts are signed with.
-pub(crate) const CONTEXT: &[u8] = b"slh-log";
+pub const CONTEXT: &[u8] = b"slh-log";
 
 // The refusals of making a checkpoint.
-fn check_checkpoint<P: ParameterSet>(
+fn check_checkpoint<P: SetSizes>(
     origin: &str,
     opt_rand: Option<&[u8]>,
 ) -> Result<(), CheckpointError>
@@ -59,14 +59,15 @@ fn text_of(
 }
 
 // The id of a key, and its signature of a text.
-fn signed_text<P: ParameterSet>(
+fn signed_text<P: SetSizes>(
     alloc: Global,
     key: &SigningKey<P>,
     id: &[u8; ID_LEN],
     text: &[u8],
     opt_rand: Option<&[u8]>,
 ) -> Result<Vec<u8>, AllocError>
-    requires fits { IsSignable P.N.USIZE log_context (option_copied opt_rand) text.now }
+    requires text { length text.now ≤ MAX_MESSAGE }
+    requires opt_rand { ForSome (option_copied opt_rand) (λ bytes. length bytes ≡ P.N.USIZE) }
     ensures { let opt_rand = option_copied opt_rand.entry in
         IfOk result (λ signed. signed.items
         ≡ id.now ++ text_signature P.scheme key.now opt_rand text.now) }
@@ -75,7 +76,7 @@ fn signed_text<P: ParameterSet>(
     let mut signed = vec![in alloc; 0u8; ID_LEN + P::SIG_LEN]?;
     let (front, sig) = signed.as_mut_slice().split_at_mut(ID_LEN);
     front.copy_from_slice(id);
-    key.sign_checked_into(Mode::Pure, CONTEXT, text, opt_rand, sig);
+    key.sign_checked(&Message::fitting(Mode::Pure, text, CONTEXT), opt_rand, sig);
     Ok(signed)
 }
 
@@ -101,7 +102,7 @@ fn push_line(
 /// The checkpoint of a log's size and root under an origin, signed in mode `Pure` (FIPS 205,
 /// algorithm 22) with the context `slh-log`. Where no `opt_rand` is given the key's public seed
 /// stands for it. `Origin`; `Randomizer`; `Memory`.
-pub fn checkpoint<P: ParameterSet>(
+pub fn checkpoint<P: SetSizes>(
     alloc: Global,
     key: &SigningKey<P>,
     origin: &str,

@@ -2,8 +2,8 @@
 ghost use Rattle.std.specs.Prelude.{◌≡◌, ◌+◌, ◌≤◌, ◌^◌, ◌&&◌, length, true, IfOk, Some};
 ghost use Rattle.std.specs.Str.{bytes_eq};
 ghost use Rattle.line_serve.specs.Lines.{parts};
-ghost use Rattle.slh_internal.specs.Checking.{signature_size};
-ghost use Rattle.slh_trees.specs.Refusals.{RefusedExactly};
+ghost use Rattle.slh_trees.specs.Checking.{signature_size};
+ghost use Rattle.slh_core.specs.Refusals.{RefusedExactly};
 ghost use Rattle.slh_log.specs.Calls.{open_refusal, signature_refusal};
 ghost use Rattle.slh_log.specs.Reading.{is_origin as spec_is_origin, own_signature, read_root};
 ghost use Rattle.slh_log.specs.Reading.{read_size};
@@ -15,7 +15,7 @@ use crate::note::{Checkpoint, read_note};
 use crate::origin::{ID_LEN, is_origin, key_id};
 use crate::signed::find_signature;
 use slh_core::params::{chain_sizes, forest_sizes, layer_sizes};
-use slh_dsa::{Mode, ParameterSet, VerifyingKey};
+use slh_dsa::{Message, Mode, SetSizes, VerifyingKey};
 
 /// No id and signature have more bytes.
 const MAX_SIGNED: usize = 1 << 18;
@@ -28,7 +28,7 @@ fn blank() -> [u8; MAX_SIGNED]
 }
 
 /// No signature has more than 2^18 bytes, with an id before it.
-pub(crate) fn signature_bound<P: ParameterSet>()
+pub(crate) fn signature_bound<P: SetSizes>()
     ensures { signature_size P.scheme + 4 ≤ 2 ^ 18 }
 {
     chain_sizes::<P>();
@@ -45,7 +45,7 @@ fn is_of(first: &[u8], origin: &str) -> bool
 }
 
 // Checks the first signature of a text by the key of an origin, in a buffer.
-fn check_signature<P: ParameterSet>(
+fn check_signature<P: SetSizes>(
     vk: &VerifyingKey<P>,
     origin: &str,
     text: &[u8],
@@ -63,7 +63,8 @@ fn check_signature<P: ParameterSet>(
     if !find_signature(signatures, origin.as_bytes(), &id, buffer) {
         return Err(OpenError::Unsigned);
     }
-    if !vk.is_valid(Mode::Pure, CONTEXT, text, &buffer[ID_LEN..]) {
+    let message = Message::fitting(Mode::Pure, text, CONTEXT);
+    if !vk.is_valid(&message, &buffer[ID_LEN..]) {
         return Err(OpenError::Invalid);
     }
     Ok(())
@@ -72,7 +73,7 @@ fn check_signature<P: ParameterSet>(
 /// What a checkpoint says that is signed by a key under an origin: [`open`] in a buffer of the
 /// caller's, of 4 bytes more than a signature of the set has. What the buffer holds afterwards
 /// isn't said.
-pub fn open_in<P: ParameterSet>(
+pub fn open_in<P: SetSizes>(
     vk: &VerifyingKey<P>,
     origin: &str,
     bytes: &[u8],
@@ -100,7 +101,7 @@ pub fn open_in<P: ParameterSet>(
 /// `Origin`; `Unsigned`; `Invalid`. Signatures by others, and lines of the text after the third,
 /// are skipped. Verifies one signature at most, takes no memory, and keeps 256 KiB on the stack;
 /// [`open_in`] takes a buffer of the caller's instead.
-pub fn open<P: ParameterSet>(
+pub fn open<P: SetSizes>(
     vk: &VerifyingKey<P>,
     origin: &str,
     bytes: &[u8],

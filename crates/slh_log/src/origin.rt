@@ -6,7 +6,7 @@ ghost use Rattle.slh_log.specs.Texts.{key_id as spec_key_id};
 use hmac_sha256::Hash;
 use hybrid_array::ArraySize;
 use slh_core::params::chain_sizes;
-use slh_dsa::{ParameterSet, VerifyingKey};
+use slh_dsa::{SetSizes, VerifyingKey};
 
 /// The most bytes of an origin.
 const MAX_ORIGIN: usize = 255;
@@ -43,7 +43,7 @@ pub fn text_of(bytes: &[u8]) -> &str
 }
 
 /// The id of a key of a log with an origin: the first 4 bytes of a digest (C2SP, signed-note).
-pub(crate) fn key_id<P: ParameterSet>(origin: &str, vk: &VerifyingKey<P>) -> [u8; ID_LEN]
+pub(crate) fn key_id<P: SetSizes>(origin: &str, vk: &VerifyingKey<P>) -> [u8; ID_LEN]
     requires { length origin.now ≤ 255 }
     ensures { result ≡ spec_key_id origin.now P.set_name vk.now }
 {

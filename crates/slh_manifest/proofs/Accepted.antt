@@ -12,11 +12,11 @@ use Rattle.slh_core.specs.Suite.{HasLength}
 use Rattle.slh_dsa.specs.Calls.{is_valid, root_refusal, verify_error, verify_refusal}
 use Rattle.slh_frames.specs.Frames.{frame, mode_frame}
 use Rattle.slh_frames.specs.declared.frame.Mode.TheVariants.{Pure}
-use Rattle.slh_internal.proofs.Signatures.{length-digest_signature}
-use Rattle.slh_internal.specs.Checking.{signature_size}
-use Rattle.slh_internal.specs.Keys.{IsTrueKey}
-use Rattle.slh_internal.specs.Signing.{signature_of}
-use Rattle.slh_trees.specs.Refusals.{first_refusal}
+use Rattle.slh_trees.proofs.Signatures.{length-digest_signature}
+use Rattle.slh_trees.specs.Checking.{signature_size}
+use Rattle.slh_trees.specs.Keys.{IsTrueKey}
+use Rattle.slh_trees.specs.Signing.{signature_of}
+use Rattle.slh_core.specs.Refusals.{first_refusal}
 use Rattle.slh_manifest.specs.Building.{entry_of, manifest_of}
 use Rattle.slh_manifest.specs.Checking.{HasEntry, bytes_error, check_error, entries_error, manifest_refusal}
 use Rattle.slh_manifest.specs.Files.{Files, bytes_of}

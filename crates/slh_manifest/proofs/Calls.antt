@@ -2,7 +2,7 @@
 use Rattle.std.proofs.Common.{◌≡◌, ℕ, List, [], ◌∷◌, ◌++◌, map, Option, None, Some, Result, Ok, Err, OnOk, OnErr, IfSome, IsSomeAnd, refl, sym, ◌∙◌, ap, subst, append_assoc, append-nil}
 use Rattle.std.proofs.lemmas.List.{map-append}
 use Rattle.std.specs.List.{AllByRecursion}
-use Rattle.slh_trees.specs.Refusals.{first_refusal}
+use Rattle.slh_core.specs.Refusals.{first_refusal}
 use Rattle.slh_manifest.specs.Building.{AreCalls, Call, RefusedOrFault, add_refusal, bytes_refusal, entry_of, if_ok, name_refusal, ok_names}
 use Rattle.slh_manifest.specs.Checking.{HasEntry}
 use Rattle.slh_manifest.specs.Files.{Files, bytes_of}

@@ -1,7 +1,7 @@
 -- What the entries of a manifest are answered, one after another.
 use Rattle.std.proofs.Common.{◌≡◌, ℕ, ◌+◌, List, [], ◌∷◌, refl, ◌∙◌, ap, Option, None, Some, ◌⊎◌, inl, inr, true, false, if◌then◌else◌}
 use Rattle.std.specs.Option.{option_map}
-use Rattle.slh_trees.specs.Refusals.{first_refusal}
+use Rattle.slh_core.specs.Refusals.{first_refusal}
 use Rattle.slh_manifest.specs.Checking.{bytes_error, entries_error}
 use Rattle.slh_manifest.specs.Entries.{entry_refusal, is_of, numbered}
 use Rattle.slh_manifest.specs.Files.{Files, bytes_of}

@@ -5,7 +5,7 @@ use Rattle.std.proofs.lemmas.Slice.Eq.{bytes_eq-Decides}
 use Rattle.std.specs.List.{AllByRecursion}
 use Rattle.std.specs.Str.{bytes_eq}
 use Rattle.sha256_lanes.specs.Sha256.{sha256}
-use Rattle.slh_trees.specs.Refusals.{first_refusal}
+use Rattle.slh_core.specs.Refusals.{first_refusal}
 use Rattle.slh_manifest.specs.Building.{entry_of}
 use Rattle.slh_manifest.specs.Checking.{HasEntry, HasOther, IsFirst, LacksEntry, bytes_error, entries_error}
 use Rattle.slh_manifest.specs.Entries.{is_of}

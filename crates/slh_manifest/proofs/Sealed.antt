@@ -2,7 +2,7 @@
 use Rattle.std.proofs.Common.{◌≡◌, ℕ, List, ◌++◌, ◌∙◌, ap, Option}
 use Rattle.slh_core.specs.Parameters.{Scheme}
 use Rattle.slh_frames.specs.Frames.{frame}
-use Rattle.slh_internal.specs.Signing.{signature_of}
+use Rattle.slh_trees.specs.Signing.{signature_of}
 use Rattle.slh_manifest.specs.Building.{manifest_of}
 use Rattle.slh_manifest.specs.Manifest.{body_bytes, manifest_context}
 use Rattle.slh_manifest.specs.declared.entry.Entry.{Entry}

@@ -1,7 +1,7 @@
 -- What the error of a check says of an entry.
 use Rattle.std.proofs.Common.{◌≡◌, ◌≢◌, ℕ, ◌<◌, List, [], ◌∷◌, ◌++◌, length, refl, sym, ◌∙◌, ap, subst, inl, inr, Option, Some, Result, Ok, Err, IsErrOf, IfErr, IsSomeAnd}
 use Rattle.std.specs.Prelude.{slice_get}
-use Rattle.slh_trees.specs.Refusals.{RefusedExactly}
+use Rattle.slh_core.specs.Refusals.{RefusedExactly}
 use Rattle.slh_manifest.specs.Checking.{HasOther, IsFirst, LacksEntry, NamesEntry, RefusedOrFault, SpeaksOf, entries_error}
 use Rattle.slh_manifest.specs.Entries.{numbered}
 use Rattle.slh_manifest.specs.Files.{Files}

@@ -1,8 +1,8 @@
 -- What a manifest as a whole is answered.
 use Rattle.std.proofs.Common.{◌≡◌, ◌↔◌, ℕ, Bool, true, false, List, [], ◌∷◌, length, drop, ◌==◌, refl, sym, ◌∙◌, ap, subst, Option, None, Some, Result, Ok, Err, if◌then◌else◌, IsErrOf, is_some, ◌⊎◌, inl, inr, IfSome, ◌≤◌, nat_le}
 use Rattle.slh_core.specs.Parameters.{Scheme}
-use Rattle.slh_internal.specs.Checking.{signature_size}
-use Rattle.slh_trees.specs.Refusals.{RefusedExactly, first_refusal}
+use Rattle.slh_trees.specs.Checking.{signature_size}
+use Rattle.slh_core.specs.Refusals.{RefusedExactly, first_refusal}
 use Rattle.slh_dsa.specs.Calls.{is_valid}
 use Rattle.slh_frames.specs.declared.frame.Mode.TheVariants.{Pure}
 use Rattle.slh_manifest.specs.Checking.{NamesEntry, RefusedOrFault, SpeaksOf, SpeaksOfEntries, body_part, check_error, count_of, entries_error, entries_of, has_count, is_manifest, manifest_refusal, signature_part, signature_refusal}

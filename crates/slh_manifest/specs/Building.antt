@@ -5,15 +5,14 @@ use Rattle.std.specs.Prelude.{◌⊎◌, ◌==◌, IfSome, OnOk, OnErr, unwrap_o
 use Rattle.sha256_lanes.specs.Sha256.{sha256}
 use Rattle.slh_core.specs.Parameters.{Scheme}
 use Rattle.slh_frames.specs.Frames.{frame}
-use Rattle.slh_internal.specs.Checking.{signature_size}
-use Rattle.slh_internal.specs.Signing.{signature_of}
-use Rattle.slh_trees.specs.Refusals.{first_refusal, length_refusal, randomizer_refusal}
+use Rattle.slh_trees.specs.Signing.{signature_of}
+use Rattle.slh_core.specs.Refusals.{first_refusal, randomizer_refusal}
 use Rattle.slh_manifest.specs.Files.{Files, bytes_of}
 use Rattle.slh_manifest.specs.Manifest.{Rise, body_bytes, manifest_context, may_follow}
 use Rattle.slh_manifest.specs.declared.entry.Entry.{Entry}
 use Rattle.slh_manifest.specs.declared.error.BuildError.{BuildError}
 use Rattle.slh_manifest.specs.declared.error.BuildError.TheVariants.{Name, Full, Fault, Missing}
-use Rattle.slh_manifest.specs.declared.error.BuildError.TheVariants.{TooLarge, Empty, Signature, Randomizer}
+use Rattle.slh_manifest.specs.declared.error.BuildError.TheVariants.{TooLarge, Empty, Randomizer}
 use Rattle.slh_manifest.specs.declared.error.BuildError.TheVariants.{Memory}
 
 -- what a builder keeps: entries of a manifest, or none yet
@@ -77,11 +76,6 @@ abbrev pub manifest_of : Scheme → List ℕ → Option (List ℕ) → List Entr
 manifest_of Z key opt_rand entries =
     let body = body_bytes entries in
     body ++ signature_of Z key opt_rand (frame manifest_context body)
-
--- why no manifest is made of these entries and this signature
-abbrev pub with_signature_refusal : Scheme → List Entry → List ℕ → Option BuildError
-with_signature_refusal Z entries signature = first_refusal
-    (empty_refusal entries ∷ length_refusal Signature (signature_size Z) (length signature) ∷ [])
 
 -- what is signed of these entries, in mode `Pure`
 abbrev pub signed_message : List Entry → List ℕ

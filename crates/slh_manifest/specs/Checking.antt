@@ -8,8 +8,8 @@ use Rattle.std.specs.List.{AllByRecursion}
 use Rattle.std.specs.Str.{bytes_eq}
 use Rattle.sha256_lanes.specs.Sha256.{sha256}
 use Rattle.slh_core.specs.Parameters.{Scheme}
-use Rattle.slh_internal.specs.Checking.{signature_size}
-use Rattle.slh_trees.specs.Refusals.{first_refusal}
+use Rattle.slh_trees.specs.Checking.{signature_size}
+use Rattle.slh_core.specs.Refusals.{first_refusal}
 use Rattle.slh_dsa.specs.Calls.{is_valid}
 use Rattle.slh_frames.specs.declared.frame.Mode.TheVariants.{Pure}
 use Rattle.slh_manifest.specs.Building.{entry_of}

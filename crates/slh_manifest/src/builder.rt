@@ -5,18 +5,18 @@ ghost use Rattle.std.specs.Prelude.{IsErrOf, OnOk, OnErr, IfOk, IfErr, IfSome, I
 ghost use Rattle.std.specs.Option.{option_copied, ForSome};
 ghost use Rattle.line_serve.specs.Causes.{Rose};
 ghost use Rattle.slh_frames.specs.Frames.{frame};
-ghost use Rattle.slh_internal.specs.Signing.{signature_of};
-ghost use Rattle.slh_trees.specs.Refusals.{RefusedExactly, RefusedOrNoMemory};
+ghost use Rattle.slh_trees.specs.Signing.{signature_of};
+ghost use Rattle.slh_core.specs.Refusals.{RefusedExactly, RefusedOrNoMemory};
 ghost use Rattle.slh_manifest.specs.Building.{IsAdded, IsBuilt, RefusedOrFault};
 ghost use Rattle.slh_manifest.specs.Building.{add_refusal, digest_refusal, empty_refusal, entry_of};
 ghost use Rattle.slh_manifest.specs.Building.{manifest_of, name_refusal};
 ghost use Rattle.slh_manifest.specs.Building.{last_name as spec_last_name};
-ghost use Rattle.slh_manifest.specs.Building.{seal_refusal, with_signature_refusal};
+ghost use Rattle.slh_manifest.specs.Building.{seal_refusal};
 ghost use Rattle.slh_manifest.specs.Files.{bytes_of};
 ghost use Rattle.slh_manifest.specs.Manifest.{HasForm, body_bytes, entry_bytes, manifest_context};
 ghost use Rattle.slh_manifest.specs.Manifest.{may_follow as spec_may_follow};
 ghost use Rattle.slh_manifest.specs.declared.error.BuildError.TheVariants.{Name, Full, Fault};
-ghost use Rattle.slh_manifest.specs.declared.error.BuildError.TheVariants.{Empty, Signature as NoSignature, Randomizer};
+ghost use Rattle.slh_manifest.specs.declared.error.BuildError.TheVariants.{Empty, Randomizer};
 ghost use Rattle.slh_manifest.specs.declared.error.BuildError.TheVariants.{Memory};
 
 use crate::entry::{Entry, MAX_ENTRIES, MAX_LEN, may_follow};
@@ -24,7 +24,7 @@ use crate::error::BuildError;
 use crate::measure::{Found, measure};
 use crate::store::Store;
 use line_serve::ByteString;
-use slh_dsa::{Mode, ParameterSet, SigningKey, check_opt_rand};
+use slh_dsa::{Message, Mode, ParameterSet, SetSizes, Signature, SigningKey, check_opt_rand};
 use std::alloc::{AllocError, Global};
 use std::marker::Model;
 
@@ -65,7 +65,7 @@ impl Builder {
     pub fn add<T: Store>(&mut self, name: &[u8], store: &mut T) -> Result<(), BuildError>
         ensures name { IsErrOf result Name ↔ (name_refusal self.old name.now ≡ Some Name) }
         ensures full { IsErrOf result Full ↔ (name_refusal self.old name.now ≡ Some Full) }
-        ensures only { IfErr result (λ e. (e ≢ Empty) × (e ≢ Randomizer) × (e ≢ NoSignature)) }
+        ensures only { IfErr result (λ e. (e ≢ Empty) × (e ≢ Randomizer)) }
         ensures fault { IsErrOf result Fault → Rose (T.faults store.old) (T.faults store.new) }
         ensures told { IfSome (T.files store.old)
             (λ files. RefusedOrFault result (add_refusal self.old name.now files)) }
@@ -135,31 +135,27 @@ impl Builder {
 
     /// The manifest of the entries and a signature of their body that was made elsewhere, as
     /// [`Builder::body`] says. Whether it is one isn't checked: who opens the manifest checks it.
-    /// `Empty`; `Signature`; `Memory`.
+    /// `Empty`; `Memory`.
     pub fn with_signature<P: ParameterSet>(
         &self,
         alloc: Global,
-        signature: &[u8],
+        signature: &Signature<P>,
     ) -> Result<Vec<u8>, BuildError>
-        ensures refusal { RefusedOrNoMemory Memory result
-            (with_signature_refusal P.scheme self.now signature.now) }
+        ensures refusal { RefusedOrNoMemory Memory result (empty_refusal self.now) }
         ensures value { IfOk result
             (λ manifest. manifest.items ≡ body_bytes self.now ++ signature.now) }
         ensures form { OnOk result (HasForm self.now) }
     {
         self.check_some()?;
-        if signature.len() != P::SIG_LEN {
-            return Err(BuildError::Signature);
-        }
         let mut manifest = body(alloc, &self.entries)?;
-        manifest.extend_from_slice(signature)?;
+        manifest.extend_from_slice(signature.as_slice())?;
         Ok(manifest)
     }
 
     /// The manifest of the entries: their body, signed in mode `Pure` (FIPS 205, algorithm 22)
     /// under the context `slh-manifest`. Where no `opt_rand` is given the public seed stands for
     /// it. `Empty`; `Randomizer`; `Memory`.
-    pub fn seal<P: ParameterSet>(
+    pub fn seal<P: SetSizes>(
         self,
         alloc: Global,
         key: &SigningKey<P>,
@@ -224,7 +220,7 @@ impl Builder {
 }
 
 // The signature of a body.
-fn sign_body<P: ParameterSet>(
+fn sign_body<P: SetSizes>(
     alloc: Global,
     key: &SigningKey<P>,
     body: &[u8],
@@ -237,7 +233,8 @@ fn sign_body<P: ParameterSet>(
         ≡ signature_of P.scheme key.now opt_rand (frame manifest_context body.now)) }
 {
     let mut signature = vec![in alloc; 0u8; P::SIG_LEN]?;
-    key.sign_checked_into(Mode::Pure, CONTEXT, body, opt_rand, &mut signature);
+    let message = Message::fitting(Mode::Pure, body, CONTEXT);
+    key.sign_checked(&message, opt_rand, &mut signature);
     Ok(signature)
 }
 

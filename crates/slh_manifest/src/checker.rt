@@ -37,7 +37,7 @@ impl<'a> EntryRef<'a> {
 
 impl EntryChecker<'_> {
     ghost use Rattle.std.specs.Prelude.{◌≡◌, ℕ, List, Some, ◌++◌};
-    ghost use Rattle.slh_trees.specs.Refusals.{RefusedExactly};
+    ghost use Rattle.slh_core.specs.Refusals.{RefusedExactly};
     ghost use Rattle.slh_manifest.specs.Entries.{entry_refusal};
     ghost use Rattle.slh_manifest.specs.Pieces.{HasTaken, checked_entry};
 

@@ -2,7 +2,7 @@
 ghost use Rattle.std.specs.Prelude.{◌≡◌, ◌↔◌, ◌≤◌, Some, IsErrOf, IfErr, IfSome};
 ghost use Rattle.std.specs.Prelude.{IsSome};
 ghost use Rattle.line_serve.specs.Causes.{Rose};
-ghost use Rattle.slh_trees.specs.Refusals.{RefusedExactly};
+ghost use Rattle.slh_core.specs.Refusals.{RefusedExactly};
 ghost use Rattle.slh_manifest.specs.Checking.{NamesEntry, RefusedOrFault, SpeaksOf};
 ghost use Rattle.slh_manifest.specs.Checking.{SpeaksOfEntries, check_error, entries_error};
 ghost use Rattle.slh_manifest.specs.Checking.{entries_of, manifest_refusal};
@@ -17,14 +17,14 @@ use crate::error::{CheckError, EntryError};
 use crate::manifest::Manifest;
 use crate::measure::{Found, measure};
 use crate::store::Store;
-use slh_dsa::{ParameterSet, VerifyingKey};
+use slh_dsa::{SetSizes, VerifyingKey};
 
 /// Checks a manifest, and then each of its entries in turn against what the store has. `Form`;
 /// `Invalid`; `Missing` and `Differs`: the number of the first entry that isn't right; `Fault`: a
 /// read failed, and nothing more is said of the entries. Takes no memory, and reads at most one
 /// byte more under a name than its entry says. [`EntryRef::check`] of each entry of an opened
 /// manifest tells all that aren't right.
-pub fn check<P: ParameterSet, T: Store>(
+pub fn check<P: SetSizes, T: Store>(
     vk: &VerifyingKey<P>,
     manifest: &[u8],
     store: &mut T,

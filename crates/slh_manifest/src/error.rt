@@ -18,8 +18,6 @@ pub enum BuildError {
     TooLarge,
     /// There are no entries.
     Empty,
-    /// The signature hasn't as many bytes as those of the parameter set.
-    Signature,
     /// An `opt_rand` was given that doesn't have n bytes.
     Randomizer,
     /// There was no memory.

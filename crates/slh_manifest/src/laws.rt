@@ -4,8 +4,8 @@ ghost use Rattle.std.specs.Prelude.{◌≡◌, ℕ, ◌*◌, ◌<◌, ◌++◌, 
 ghost use Rattle.std.specs.Prelude.{[], false, map, slice_index};
 ghost use Rattle.std.specs.List.{AllByRecursion};
 ghost use Rattle.slh_core.specs.Parameters.{Scheme};
-ghost use Rattle.slh_internal.specs.Checking.{signature_size};
-ghost use Rattle.slh_internal.specs.Keys.{IsTrueKey};
+ghost use Rattle.slh_trees.specs.Checking.{signature_size};
+ghost use Rattle.slh_trees.specs.Keys.{IsTrueKey};
 ghost use Rattle.slh_dsa.specs.Calls.{is_valid};
 ghost use Rattle.slh_frames.specs.declared.frame.Mode.TheVariants.{Pure};
 ghost use Rattle.slh_manifest.specs.Building.{AreCalls, Call, manifest_of, ok_names};
@@ -19,7 +19,7 @@ ghost use Rattle.slh_manifest.specs.declared.error.CheckError.{CheckError};
 ghost use Rattle.slh_manifest.specs.declared.error.CheckError.TheVariants.{Missing, Differs, Invalid};
 
 use crate::error::CheckError;
-use slh_dsa::ParameterSet;
+use slh_dsa::SetSizes;
 use slh_dsa::laws::signed_is_accepted;
 
 /// Entries of right form and a signature are read back from the manifest that they make: so a
@@ -71,7 +71,7 @@ pub fn checks_name_the_first()
 
 /// What a key with the root of its own seeds seals is accepted over every store that has each of
 /// the names with these bytes.
-pub fn sealed_is_accepted<P: ParameterSet>()
+pub fn sealed_is_accepted<P: SetSizes>()
     ensures { (key : List ℕ) (opt_rand : Option (List ℕ)) (entries : List ManifestEntry)
         (files : Files)
         → IsTrueKey P.scheme key

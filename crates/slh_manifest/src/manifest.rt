@@ -2,7 +2,7 @@
 ghost use Rattle.std.specs.Prelude.{◌≡◌, ◌≤◌, IfOk, IfSome, find, is_some, length, slice_get};
 ghost use Rattle.std.specs.Option.{option_map};
 ghost use Rattle.std.specs.Str.{bytes_eq};
-ghost use Rattle.slh_trees.specs.Refusals.{RefusedExactly};
+ghost use Rattle.slh_core.specs.Refusals.{RefusedExactly};
 ghost use Rattle.slh_manifest.specs.Checking.{entries_of, has_entries, manifest_refusal};
 ghost use Rattle.slh_manifest.specs.Entries.{entry_copied};
 
@@ -11,7 +11,7 @@ use crate::entry::front_entry;
 use crate::entry_ref::EntryRef;
 use crate::error::CheckError;
 use crate::parts::{Parts, any_parts_of, parts_of};
-use slh_dsa::{Mode, ParameterSet, VerifyingKey};
+use slh_dsa::{Message, Mode, SetSizes, VerifyingKey};
 use std::marker::Model;
 
 /// A manifest that was read: by `open`, which verifies its signature, or again by `reopen`, which
@@ -38,14 +38,15 @@ impl<'a> Model for Manifest<'a> {
 
 impl<'a> Manifest<'a> {
     /// Reads a manifest and verifies its signature, once. `Form`; `Invalid`. Takes no memory.
-    pub fn open<P: ParameterSet>(vk: &VerifyingKey<P>, bytes: &'a [u8]) -> Result<Self, CheckError>
+    pub fn open<P: SetSizes>(vk: &VerifyingKey<P>, bytes: &'a [u8]) -> Result<Self, CheckError>
         ensures refusal { RefusedExactly result (manifest_refusal P.scheme vk.now bytes.now) }
         ensures entries { IfOk result (λ manifest. manifest ≡ entries_of bytes.now) }
     {
         let Some(parts) = parts_of::<P>(bytes) else {
             return Err(CheckError::Form);
         };
-        if !vk.is_valid(Mode::Pure, CONTEXT, parts.body, parts.signature) {
+        let body = Message::fitting(Mode::Pure, parts.body, CONTEXT);
+        if !vk.is_valid(&body, parts.signature) {
             return Err(CheckError::Invalid);
         }
         Ok(Manifest {

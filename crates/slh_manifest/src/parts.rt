@@ -1,12 +1,12 @@
 //! Manifests taken apart.
 ghost use Rattle.std.specs.Prelude.{◌≡◌, ◌≤◌, ◌^◌, None, Some, IfSome, is_some};
 ghost use Rattle.std.specs.Prelude.{drop, length, if◌then◌else◌};
-ghost use Rattle.slh_internal.specs.Checking.{signature_size};
+ghost use Rattle.slh_trees.specs.Checking.{signature_size};
 ghost use Rattle.slh_manifest.specs.Checking.{body_part, count_of as spec_count_of, has_count};
 ghost use Rattle.slh_manifest.specs.Checking.{has_entries, is_manifest, signature_part};
 
 use crate::entry::{MAX_ENTRIES, skip_entries};
-use slh_dsa::ParameterSet;
+use slh_dsa::SetSizes;
 
 /// The parts of a manifest where they stand.
 #[derive(Drop)]
@@ -58,7 +58,7 @@ pub(crate) fn any_parts_of(manifest: &[u8]) -> Option<Parts<'_>>
 }
 
 /// The parts of a manifest. `None`: the bytes don't have the form of one.
-pub(crate) fn parts_of<P: ParameterSet>(manifest: &[u8]) -> Option<Parts<'_>>
+pub(crate) fn parts_of<P: SetSizes>(manifest: &[u8]) -> Option<Parts<'_>>
     ensures form { is_some result ≡ is_manifest P.scheme manifest.now }
     ensures count { IfSome result (λ parts. parts.count ≡ spec_count_of manifest.now) }
     ensures entries { IfSome result (λ parts. parts.entries.now ≡ drop 4 manifest.now) }

@@ -3,7 +3,7 @@ use Rattle.std.proofs.Common.{◌≡◌, ℕ, List, [], ◌∷◌, ◌||◌, Res
 use Rattle.std.specs.List.{All}
 use Rattle.std.proofs.lemmas.List.Elements.{All-head, All-tail}
 use Rattle.slh_ring.proofs.Adds.{empty_ring, members_with, or_front, or_none, ring_with}
-use Rattle.slh_trees.specs.Refusals.{RefusedOrNoMemory}
+use Rattle.slh_core.specs.Refusals.{RefusedOrNoMemory}
 use Rattle.slh_ring.specs.Paths.{IsPath}
 use Rattle.slh_ring.specs.Rings.{AreCalls, Call, IsRing, add_refusal, has_path, if_ok, ok_paths, same_path, with_path}
 use Rattle.slh_ring.specs.declared.error.RingError.{RingError}

@@ -5,7 +5,7 @@ use Rattle.hmac_sha256.specs.Hkdf.{hkdf_expand, hkdf_extract}
 use Rattle.sha256_lanes.specs.Sha256.{sha256}
 use Rattle.slh_core.specs.Bytes.{part}
 use Rattle.slh_core.specs.Parameters.{Scheme}
-use Rattle.slh_internal.specs.Keys.{signing_key_bytes}
+use Rattle.slh_trees.specs.Keys.{signing_key_bytes}
 use Rattle.slh_ring.specs.Records.{Entry, path_bytes, record_bytes}
 
 -- the pseudorandom key that all keys of a master are expanded from (RFC 5869, 2.2)

@@ -8,7 +8,7 @@ use Rattle.std.specs.List.{All, list_any}
 use Rattle.std.specs.List.Sorted.{IsStrictlySortedBy}
 use Rattle.std.specs.Ordering.{is_eq, nat_cmp}
 use Rattle.std.specs.declared.cmp.Ordering.{Ordering}
-use Rattle.slh_trees.specs.Refusals.{RefusedOrNoMemory, first_refusal}
+use Rattle.slh_core.specs.Refusals.{RefusedOrNoMemory, first_refusal}
 use Rattle.slh_ring.specs.Paths.{IsPath}
 use Rattle.slh_ring.specs.declared.error.RingError.{RingError}
 use Rattle.slh_ring.specs.declared.error.RingError.TheVariants.{Present, Full, Memory}

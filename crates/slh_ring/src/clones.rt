@@ -4,7 +4,7 @@ ghost use Rattle.std.specs.Prelude.{◌≡◌, ◌↔◌, IsTrue, IfOk};
 use crate::error::{RestoreError, RingError};
 use crate::path::Path;
 use crate::ring::Ring;
-use slh_dsa::ParameterSet;
+use slh_dsa::SetSizes;
 use std::alloc::AllocError;
 
 /// A clone of why a path wasn't added is the same, and `==` holds exactly where both are the same.
@@ -35,7 +35,7 @@ pub fn clone_and_equality_of_paths(a: &Path, b: &Path) -> (Path, bool)
 }
 
 /// Likewise for rings, whose clones take memory.
-pub fn clone_and_equality_of_rings<P: ParameterSet>(
+pub fn clone_and_equality_of_rings<P: SetSizes>(
     a: &Ring<P>,
     b: &Ring<P>,
 ) -> (Result<Ring<P>, AllocError>, bool)

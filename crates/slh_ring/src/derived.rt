@@ -3,7 +3,7 @@ ghost use Rattle.std.specs.Prelude.{◌≡◌, ◌+◌, ◌*◌, ◌^◌, ◌≤
 ghost use Rattle.sha256_lanes.specs.Sha256.{sha256};
 ghost use Rattle.slh_core.specs.Costs.{slh_keygen_cost};
 ghost use Rattle.slh_core.specs.Steps.{IsFresh};
-ghost use Rattle.slh_internal.specs.Keys.{IsTrueKey};
+ghost use Rattle.slh_trees.specs.Keys.{IsTrueKey};
 ghost use Rattle.slh_ring.specs.Keys.{key_info, key_tag as spec_key_tag, path_seeds, ring_key};
 ghost use Rattle.slh_ring.specs.Records.{numbers_bytes, path_bytes};
 
@@ -13,7 +13,7 @@ use hmac_sha256::{HKDF, Hash};
 use hybrid_array::ArraySize;
 use slh_core::params::{MAX_N, chain_sizes};
 use slh_core::steps::Steps;
-use slh_dsa::{ParameterSet, SigningKey};
+use slh_dsa::{SetSizes, SigningKey};
 use std::marker::{Brand, Model};
 use std::sync::ledger::{Blank, Ledger};
 
@@ -107,7 +107,7 @@ fn write_seeds(name: &[u8], master: &Master<'_>, path: &Path, n: usize, out: &mu
 
 /// The key at a path under a master secret of at most 2^60 bytes, whose root is that of its own
 /// seeds. Takes no memory.
-pub fn derive<P: ParameterSet>(master: &[u8], path: &Path) -> SigningKey<P>
+pub fn derive<P: SetSizes>(master: &[u8], path: &Path) -> SigningKey<P>
     requires { length master.now ≤ 2 ^ 60 }
     ensures key { result ≡ ring_key P.scheme P.set_name master.now path.now }
     ensures true_key { IsTrueKey P.scheme result }
@@ -116,7 +116,7 @@ pub fn derive<P: ParameterSet>(master: &[u8], path: &Path) -> SigningKey<P>
 }
 
 // The same, on a counter that is made here.
-fn derive_on<P: ParameterSet, L: Ledger>(master: &[u8], path: &Path, blank: Blank) -> SigningKey<P>
+fn derive_on<P: SetSizes, L: Ledger>(master: &[u8], path: &Path, blank: Blank) -> SigningKey<P>
     requires master { length master.now ≤ 2 ^ 60 }
     requires fresh { IsFresh blank L.name L.parts }
     ensures key { result ≡ ring_key P.scheme P.set_name master.now path.now }
@@ -127,7 +127,7 @@ fn derive_on<P: ParameterSet, L: Ledger>(master: &[u8], path: &Path, blank: Blan
 }
 
 /// As [`derive`], with its steps counted: those of one key.
-pub fn derive_counted<P: ParameterSet, L: Ledger>(
+pub fn derive_counted<P: SetSizes, L: Ledger>(
     master: &[u8],
     path: &Path,
     steps: &mut Steps<L>,
@@ -141,7 +141,7 @@ pub fn derive_counted<P: ParameterSet, L: Ledger>(
 }
 
 // The key at a path.
-fn key_at<P: ParameterSet, L: Ledger>(
+fn key_at<P: SetSizes, L: Ledger>(
     master: &Master<'_>,
     path: &Path,
     steps: &mut Steps<L>,
@@ -161,7 +161,7 @@ fn key_at<P: ParameterSet, L: Ledger>(
 }
 
 /// The 8 bytes that tell a key.
-pub(crate) fn tag_of<P: ParameterSet>(key: &SigningKey<P>) -> [u8; TAG_LEN]
+pub(crate) fn tag_of<P: SetSizes>(key: &SigningKey<P>) -> [u8; TAG_LEN]
     ensures { result ≡ take 8 (sha256 (drop (2 * P.N.USIZE) key.now)) }
 {
     chain_sizes::<P>();
@@ -176,7 +176,7 @@ pub(crate) fn tag_of<P: ParameterSet>(key: &SigningKey<P>) -> [u8; TAG_LEN]
 
 /// The 8 bytes that tell the key at a path.
 #[tactic(auto, unfolding(crate::specs::Keys::key_tag))]
-pub(crate) fn key_tag<P: ParameterSet, L: Ledger>(
+pub(crate) fn key_tag<P: SetSizes, L: Ledger>(
     master: &Master<'_>,
     path: &Path,
     steps: &mut Steps<L>,

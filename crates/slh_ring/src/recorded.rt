@@ -3,7 +3,7 @@ ghost use Rattle.std.specs.Prelude.{◌≡◌, ◌<◌, ◌≤◌, ◌^◌, ◌*
 ghost use Rattle.std.specs.Prelude.{is_some, length, slice_get};
 ghost use Rattle.std.specs.Option.{option_copied};
 ghost use Rattle.std.specs.Str.{bytes_eq};
-ghost use Rattle.slh_internal.specs.Keys.{IsTrueKey};
+ghost use Rattle.slh_trees.specs.Keys.{IsTrueKey};
 ghost use Rattle.slh_ring.specs.Keys.{key_tag, ring_key};
 ghost use Rattle.slh_ring.specs.Records.{are_entries, entries_in, entry_in, has_entry, has_form};
 ghost use Rattle.slh_ring.specs.Records.{recorded, set_in};
@@ -12,7 +12,7 @@ use crate::derived::{derive, tag_of};
 use crate::entry::entry_of;
 use crate::path::Path;
 use crate::records::{MARK, read_record};
-use slh_dsa::{ParameterSet, SigningKey};
+use slh_dsa::{SetSizes, SigningKey};
 use std::marker::{Model, PhantomData};
 
 /// The name of the parameter set that a record says it is of. `None`: the bytes don't begin as a
@@ -33,13 +33,13 @@ pub fn recorded_set(bytes: &[u8]) -> Option<&[u8]>
 /// A record of a parameter set that was read without a master: the paths and the 8 bytes that stand
 /// there, by whomever. Clauses see it as the list of its entries.
 #[derive(Drop)]
-pub struct Record<'a, P: ParameterSet> {
+pub struct Record<'a, P: SetSizes> {
     count: usize,
     entries: &'a [u8],
     set: PhantomData<P>,
 }
 
-impl<'a, P: ParameterSet> Model for Record<'a, P> {
+impl<'a, P: SetSizes> Model for Record<'a, P> {
     ghost use Rattle.std.specs.Prelude.{◌≡◌, ◌≤◌, List, None, true};
     ghost use Rattle.slh_ring.specs.Records.{Entry, are_entries, entries_in};
 
@@ -64,7 +64,7 @@ fn entries_from(count: usize, bytes: &[u8], i: usize) -> &[u8]
     rest
 }
 
-impl<'a, P: ParameterSet> Record<'a, P> {
+impl<'a, P: SetSizes> Record<'a, P> {
     /// Reads the record of paths of the set. `None`: the bytes haven't the form of one. Takes no
     /// memory and makes no key.
     pub fn read(bytes: &'a [u8]) -> Option<Self>
@@ -106,13 +106,13 @@ impl<'a, P: ParameterSet> Record<'a, P> {
 /// An entry of a record of a parameter set: a path, and the 8 bytes that stand there for its key.
 /// Clauses see it as these two.
 #[derive(Drop)]
-pub struct RecordEntry<'a, P: ParameterSet> {
+pub struct RecordEntry<'a, P: SetSizes> {
     path: Path,
     tag: &'a [u8],
     set: PhantomData<P>,
 }
 
-impl<'a, P: ParameterSet> Model for RecordEntry<'a, P> {
+impl<'a, P: SetSizes> Model for RecordEntry<'a, P> {
     ghost use Rattle.slh_ring.specs.Records.{Entry};
 
     ghost Value = { Entry };
@@ -120,7 +120,7 @@ impl<'a, P: ParameterSet> Model for RecordEntry<'a, P> {
     ghost view = { λ e. record { path = e.path; tag = e.tag.now } };
 }
 
-impl<P: ParameterSet> RecordEntry<'_, P> {
+impl<P: SetSizes> RecordEntry<'_, P> {
     /// The path.
     pub fn path(&self) -> &Path
         ensures { result.now ≡ self.now.path }

@@ -18,7 +18,7 @@ use crate::error::RestoreError;
 use crate::path::Path;
 use crate::ring::{MAX_PATHS, Ring};
 use slh_core::steps::Steps;
-use slh_dsa::ParameterSet;
+use slh_dsa::SetSizes;
 use std::alloc::{AllocError, Global};
 use std::cmp::Ordering;
 use std::marker::Brand;
@@ -65,7 +65,7 @@ fn head_bytes(alloc: Global, name: &[u8], count: u16) -> Result<Vec<u8>, AllocEr
 }
 
 // Puts the entry of a path at the end.
-fn push_entry<P: ParameterSet, L: Ledger>(
+fn push_entry<P: SetSizes, L: Ledger>(
     out: &mut Vec<u8>,
     master: &Master<'_>,
     path: &Path,
@@ -155,7 +155,7 @@ pub(crate) fn read_record<'a>(name: &[u8], bytes: &'a [u8]) -> Option<Body<'a>>
 }
 
 // Whether the 8 bytes of an entry are those of its key.
-fn is_tagged<P: ParameterSet, L: Ledger>(
+fn is_tagged<P: SetSizes, L: Ledger>(
     master: &Master<'_>,
     entry: &Entry<'_>,
     steps: &mut Steps<L>,
@@ -168,7 +168,7 @@ fn is_tagged<P: ParameterSet, L: Ledger>(
 }
 
 // The number of the first entry whose 8 bytes aren't those of its key.
-fn first_mismatch<P: ParameterSet, L: Ledger>(
+fn first_mismatch<P: SetSizes, L: Ledger>(
     master: &Master<'_>,
     count: usize,
     bytes: &[u8],
@@ -191,7 +191,7 @@ fn first_mismatch<P: ParameterSet, L: Ledger>(
     None
 }
 
-impl<P: ParameterSet> Ring<P> {
+impl<P: SetSizes> Ring<P> {
     // The ring of the paths of so many entries. Their order makes all of them new.
     fn of_entries(alloc: Global, count: usize, bytes: &[u8]) -> Result<Self, AllocError>
         requires few { count ≤ 64 }

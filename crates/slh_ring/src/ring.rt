@@ -2,12 +2,12 @@
 ghost use Rattle.std.specs.Prelude.{◌≡◌, ◌+◌, ◌<◌, ◌≤◌, [], length, slice_get, OnOk, OnErr};
 ghost use Rattle.std.specs.Option.{option_copied};
 ghost use Rattle.slh_ring.specs.Rings.{IsRing, add_refusal, has_path, with_path, without_path};
-ghost use Rattle.slh_trees.specs.Refusals.{RefusedOrNoMemory};
+ghost use Rattle.slh_core.specs.Refusals.{RefusedOrNoMemory};
 ghost use Rattle.slh_ring.specs.declared.error.RingError.TheVariants.{Memory};
 
 use crate::error::RingError;
 use crate::path::Path;
-use slh_dsa::ParameterSet;
+use slh_dsa::SetSizes;
 use std::alloc::{AllocError, Global};
 use std::collections::BTreeSet;
 use std::fmt;
@@ -18,12 +18,12 @@ pub const MAX_PATHS: usize = 64;
 
 /// The paths of up to 64 keys of one parameter set. Clauses see it as the list of them, in order.
 #[derive(Drop)]
-pub struct Ring<P: ParameterSet> {
+pub struct Ring<P: SetSizes> {
     paths: BTreeSet<Path>,
     set: PhantomData<P>,
 }
 
-impl<P: ParameterSet> Model for Ring<P> {
+impl<P: SetSizes> Model for Ring<P> {
     ghost use Rattle.std.specs.Prelude.{List, ℕ};
     ghost use Rattle.slh_ring.specs.Rings.{IsKept};
 
@@ -34,7 +34,7 @@ impl<P: ParameterSet> Model for Ring<P> {
     ghost invariant = { λ r. IsKept r.paths.keys };
 }
 
-impl<P: ParameterSet> Ring<P> {
+impl<P: SetSizes> Ring<P> {
     /// No paths. It takes no memory.
     pub fn new(alloc: Global) -> Self
         ensures { result ≡ [] }
@@ -117,7 +117,7 @@ impl<P: ParameterSet> Ring<P> {
     }
 }
 
-impl<P: ParameterSet> Clone for Ring<P> {
+impl<P: SetSizes> Clone for Ring<P> {
     ghost use Rattle.std.specs.Prelude.{◌≡◌};
 
     ghost is_clone = { λ ring copy. copy ≡ ring };
@@ -131,7 +131,7 @@ impl<P: ParameterSet> Clone for Ring<P> {
 }
 
 /// Rings are equal where they have the same paths.
-impl<P: ParameterSet> PartialEq for Ring<P> {
+impl<P: SetSizes> PartialEq for Ring<P> {
     ghost use Rattle.std.specs.Prelude.{◌==◌};
     ghost use Rattle.std.specs.Cmp.Rules.{comparing};
     ghost use Rattle.std.specs.Cmp.Lexicographic.{pointwise};
@@ -146,7 +146,7 @@ impl<P: ParameterSet> PartialEq for Ring<P> {
     }
 }
 
-impl<P: ParameterSet> Eq for Ring<P> {
+impl<P: SetSizes> Eq for Ring<P> {
     ghost use Rattle.std.specs.Cmp.Rules.{comparing};
     ghost use Rattle.std.proofs.Common.{rules};
 
@@ -154,7 +154,7 @@ impl<P: ParameterSet> Eq for Ring<P> {
 }
 
 /// The paths, as a set shows them.
-impl<P: ParameterSet> fmt::Debug for Ring<P> {
+impl<P: SetSizes> fmt::Debug for Ring<P> {
     fn fmt<W: fmt::Write>(&self, f: &mut fmt::Formatter<W>) -> fmt::Result {
         self.paths.fmt(f)
     }

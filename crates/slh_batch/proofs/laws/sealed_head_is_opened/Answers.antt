@@ -6,12 +6,12 @@ use Rattle.slh_batch.specs.Receipts.{batch_context, batch_message}
 use Rattle.slh_batch.specs.Tree.{batch_leaf}
 use Rattle.slh_frames.specs.declared.frame.Mode.TheVariants.{Pure}
 use Rattle.slh_frames.specs.Frames.{frame}
-use Rattle.slh_internal.specs.Signing.{signature_of}
+use Rattle.slh_trees.specs.Signing.{signature_of}
 use Rattle.slh_batch.proofs.laws.sealed_head_is_opened.Goals as goal
 
 pub returns-clause-opens : goal.returns-clause-opens
 returns-clause-opens g c = λ key messages opt_rand true_key size some few.
-    let Z = g.P.ForsParams.scheme in
+    let Z = g.P.ForsSizes.scheme in
     let q = map batch_leaf messages in
     let sig = signature_of Z key opt_rand (frame batch_context (batch_message q)) in
     head_opens Z (drop (2 * g.P.N.ArraySize.USIZE) key) messages sig some few
@@ -25,7 +25,7 @@ returns-clause-accepts g c = message_under
 
 pub returns-clause-takes : goal.returns-clause-takes
 returns-clause-takes g c = λ key messages opt_rand i true_key size inside few short.
-    let Z = g.P.ForsParams.scheme in
+    let Z = g.P.ForsSizes.scheme in
     let q = map batch_leaf messages in
     let sig = signature_of Z key opt_rand (frame batch_context (batch_message q)) in
     receipt_taken Z (drop (2 * g.P.N.ArraySize.USIZE) key) messages sig i inside few short

@@ -13,7 +13,7 @@ one_list a b is = cc is
 
 pub returns-clause-grown : goal.returns-clause-grown
 returns-clause-grown g c = λ key origin bytes entries steps head taken differ.
-    steps_bind g.P.ForsParams.scheme g.P.ParameterSet.set_name key origin entries steps taken differ
+    steps_bind g.P.ForsSizes.scheme g.P.SetSizes.set_name key origin entries steps taken differ
 
 pub returns-clause-present : goal.returns-clause-present
 returns-clause-present g c = λ key origin bytes root entry entries path size i head opened wide passes differ.

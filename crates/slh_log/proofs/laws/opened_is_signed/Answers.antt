@@ -7,7 +7,7 @@ use Rattle.slh_log.proofs.laws.opened_is_signed.Goals as goal
 
 pub returns-clause-signed : goal.returns-clause-signed
 returns-clause-signed g c = λ key origin bytes root size are is.
-    opened_signed g.P.ForsParams.scheme g.P.ParameterSet.set_name key origin bytes root size are is
+    opened_signed g.P.ForsSizes.scheme g.P.SetSizes.set_name key origin bytes root size are is
 
 pub returns-clause-once : goal.returns-clause-once
 returns-clause-once g c = λ a b r s x y m n is_a is_b low_m low_n bytes_r bytes_s len_r len_s same.

@@ -5,8 +5,8 @@ use Rattle.slh_log.proofs.making.signed_text.Goals as goal
 pub returns-in_err-signed : goal.returns-in_err-signed
 returns-in_err-signed g c = grind (arith, common_steps)
 
-pub sign_checked_into-requires : goal.sign_checked_into-requires
-sign_checked_into-requires g c = grind (arith, common_steps)
+pub sign_checked-requires : goal.sign_checked-requires
+sign_checked-requires g c = grind (arith, common_steps)
 
 pub returns : goal.returns
 returns g c = grind (arith, common_steps)

@@ -3,7 +3,7 @@ use Rattle.std.proofs.Common.{◌≡◌, ◌+◌, List, length, drop, true, fals
 use Rattle.std.specs.Prelude.{if◌then◌else◌}
 use Rattle.line_serve.specs.Lines.{parts}
 use Rattle.line_serve.proofs.Fronts.{to_end}
-use Rattle.slh_internal.specs.Checking.{signature_size}
+use Rattle.slh_trees.specs.Checking.{signature_size}
 use Rattle.slh_dsa.specs.Calls.{is_valid}
 use Rattle.slh_frames.specs.declared.frame.Mode.TheVariants.{Pure}
 use Rattle.slh_log.proofs.Signatures.{Fills, is_filled, not_filled}
@@ -15,7 +15,7 @@ use Rattle.slh_log.proofs.opening.check_signature.Goals as goal
 
 pub returns-then-not-find_signature : goal.returns-then-not-find_signature
 returns-then-not-find_signature g c =
-    let Z = g.P.ForsParams.scheme in
+    let Z = g.P.ForsSizes.scheme in
     let key = c.args.vk.now in
     let text = c.args.text.now in
     let sigs = parts c.args.signatures.now in
@@ -30,7 +30,7 @@ returns-then-not-find_signature g c =
 
 pub returns-then-not-is_valid : goal.returns-then-not-is_valid
 returns-then-not-is_valid g c =
-    let Z = g.P.ForsParams.scheme in
+    let Z = g.P.ForsSizes.scheme in
     let key = c.args.vk.now in
     let text = c.args.text.now in
     let sigs = parts c.args.signatures.now in
@@ -41,12 +41,12 @@ returns-then-not-is_valid g c =
     let is = ap (λ n. own_signature n name id sigs) c.requires.room ∙ ap (λ o. own_signature (4 + signature_size Z) o id sigs) c.as_bytes.ensures.value
     ∙ ap (λ i. own_signature (4 + signature_size Z) c.args.origin.now i sigs) c.key_id-id.ensures in
     let fills : Fills read true out = subst (λ d. Fills read d out) c.if-not-find_signature.false c.find_signature.ensures in
-    let valid : is_valid Z Pure key log_context text (drop 4 out) ≡ false = ap (is_valid Z Pure key log_context text) (sym (to_end out 4)) ∙ sym c.is_valid.ensures ∙ c.if-not-is_valid.true in
+    let valid : is_valid Z Pure key log_context text (drop 4 out) ≡ false = ap (is_valid Z Pure key log_context text) (sym (to_end out 4)) ∙ sym (rw c.fitting-message.ensures at c.is_valid.ensures) ∙ c.if-not-is_valid.true in
     ap (signature_refusal Z key text) (sym is ∙ is_filled read out fills) ∙ ap (λ b. if b then None else Some Invalid) valid
 
 pub returns : goal.returns
 returns g c =
-    let Z = g.P.ForsParams.scheme in
+    let Z = g.P.ForsSizes.scheme in
     let key = c.args.vk.now in
     let text = c.args.text.now in
     let sigs = parts c.args.signatures.now in
@@ -57,7 +57,7 @@ returns g c =
     let is = ap (λ n. own_signature n name id sigs) c.requires.room ∙ ap (λ o. own_signature (4 + signature_size Z) o id sigs) c.as_bytes.ensures.value
     ∙ ap (λ i. own_signature (4 + signature_size Z) c.args.origin.now i sigs) c.key_id-id.ensures in
     let fills : Fills read true out = subst (λ d. Fills read d out) c.if-not-find_signature.false c.find_signature.ensures in
-    let valid : is_valid Z Pure key log_context text (drop 4 out) ≡ true = ap (is_valid Z Pure key log_context text) (sym (to_end out 4)) ∙ sym c.is_valid.ensures ∙ c.if-not-is_valid.false in
+    let valid : is_valid Z Pure key log_context text (drop 4 out) ≡ true = ap (is_valid Z Pure key log_context text) (sym (to_end out 4)) ∙ sym (rw c.fitting-message.ensures at c.is_valid.ensures) ∙ c.if-not-is_valid.false in
     ap (signature_refusal Z key text) (sym is ∙ is_filled read out fills) ∙ ap (λ b. if b then None else Some Invalid) valid
 
 pub is_valid-requires : goal.is_valid-requires

@@ -13,7 +13,7 @@ returns-in-Ok-clause-refusal g c =
     let origin = c.args.origin.now in
     let same : (is_origin origin && bytes_eq (line_at c.args.bytes.now 0) origin) ≡ true =
     ap (λ o. is_origin origin && bytes_eq o origin) is.first ∙ sym c.is_of.ensures.value ∙ c.if-not-is_of.false in
-    opens_by g.P.ForsParams.scheme g.P.ParameterSet.set_name c.args.vk.now origin c.args.bytes.now note.text.now (parts note.signatures.now) is.form same is.text is.signatures
+    opens_by g.P.ForsSizes.scheme g.P.SetSizes.set_name c.args.vk.now origin c.args.bytes.now note.text.now (parts note.signatures.now) is.form same is.text is.signatures
     ∙ c.in-Ok.ensures
 
 pub returns-in-Err-clause-refusal : goal.returns-in-Err-clause-refusal
@@ -23,7 +23,7 @@ returns-in-Err-clause-refusal g c =
     let origin = c.args.origin.now in
     let same : (is_origin origin && bytes_eq (line_at c.args.bytes.now 0) origin) ≡ true =
     ap (λ o. is_origin origin && bytes_eq o origin) is.first ∙ sym c.is_of.ensures.value ∙ c.if-not-is_of.false in
-    opens_by g.P.ForsParams.scheme g.P.ParameterSet.set_name c.args.vk.now origin c.args.bytes.now note.text.now (parts note.signatures.now) is.form same is.text is.signatures
+    opens_by g.P.ForsSizes.scheme g.P.SetSizes.set_name c.args.vk.now origin c.args.bytes.now note.text.now (parts note.signatures.now) is.form same is.text is.signatures
     ∙ c.in-Err.ensures
 
 pub returns-in_default : goal.returns-in_default

@@ -15,23 +15,23 @@ returns-in-Err-clause-invalid g c = refused_as _ c.in-Err.error Invalid c.in-Err
 
 pub returns-in-Err-clause-named : goal.returns-in-Err-clause-named
 returns-in-Err-clause-named g c =
-    names_none _ c.in-Err.error (refused_by_itself g.P.ForsParams.scheme c.args.vk.now c.args.manifest.now c.in-Err.error c.in-Err.ensures.refusal)
+    names_none _ c.in-Err.error (refused_by_itself g.P.ForsSizes.scheme c.args.vk.now c.args.manifest.now c.in-Err.error c.in-Err.ensures.refusal)
 
 pub returns-in-Err-clause-fault : goal.returns-in-Err-clause-fault
 returns-in-Err-clause-fault g c =
-    no_fault c.in-Err.error (refused_by_itself g.P.ForsParams.scheme c.args.vk.now c.args.manifest.now c.in-Err.error c.in-Err.ensures.refusal)
+    no_fault c.in-Err.error (refused_by_itself g.P.ForsSizes.scheme c.args.vk.now c.args.manifest.now c.in-Err.error c.in-Err.ensures.refusal)
 
 pub returns-in-Err-clause-told : goal.returns-in-Err-clause-told
 returns-in-Err-clause-told g c =
-    told_all _ _ (λ files. inr (check_refused g.P.ForsParams.scheme c.args.vk.now c.args.manifest.now c.in-Err.error c.in-Err.ensures.refusal files))
+    told_all _ _ (λ files. inr (check_refused g.P.ForsSizes.scheme c.args.vk.now c.args.manifest.now c.in-Err.error c.in-Err.ensures.refusal files))
 
 pub returns-in-Err-clause-exact : goal.returns-in-Err-clause-exact
 returns-in-Err-clause-exact g c =
-    refused_exactly (g.T.Store.files c.args.store.now) _ g.P.ForsParams.scheme c.args.vk.now c.args.manifest.now c.in-Err.error c.in-Err.ensures.refusal
+    refused_exactly (g.T.Store.files c.args.store.now) _ g.P.ForsSizes.scheme c.args.vk.now c.args.manifest.now c.in-Err.error c.in-Err.ensures.refusal
 
 pub returns-in-Err-clause-entry : goal.returns-in-Err-clause-entry
 returns-in-Err-clause-entry g c =
-    told_all _ _ (λ files. speaks_of_none files _ c.in-Err.error (refused_by_itself g.P.ForsParams.scheme c.args.vk.now c.args.manifest.now c.in-Err.error c.in-Err.ensures.refusal))
+    told_all _ _ (λ files. speaks_of_none files _ c.in-Err.error (refused_by_itself g.P.ForsSizes.scheme c.args.vk.now c.args.manifest.now c.in-Err.error c.in-Err.ensures.refusal))
 
 pub returns-in-Ok-clause-form : goal.returns-in-Ok-clause-form
 returns-in-Ok-clause-form g c = never_form c.check.result _ c.in-Ok.ensures.refusal c.check.ensures.only
@@ -45,12 +45,12 @@ returns-in-Ok-clause-named g c =
 
 pub returns-in-Ok-clause-told : goal.returns-in-Ok-clause-told
 returns-in-Ok-clause-told g c =
-    told_then _ _ _ (λ files told. decided_by_entries g.P.ForsParams.scheme c.args.vk.now c.args.manifest.now c.check.result c.in-Ok.manifest c.in-Ok.ensures.refusal c.in-Ok.ensures.entries files told)
+    told_then _ _ _ (λ files told. decided_by_entries g.P.ForsSizes.scheme c.args.vk.now c.args.manifest.now c.check.result c.in-Ok.manifest c.in-Ok.ensures.refusal c.in-Ok.ensures.entries files told)
     c.check.ensures.told
 
 pub returns-in-Ok-clause-exact : goal.returns-in-Ok-clause-exact
 returns-in-Ok-clause-exact g c =
-    decided_exactly (g.T.Store.files c.args.store.now) g.P.ForsParams.scheme c.args.vk.now c.args.manifest.now c.check.result c.in-Ok.manifest c.in-Ok.ensures.refusal c.in-Ok.ensures.entries
+    decided_exactly (g.T.Store.files c.args.store.now) g.P.ForsSizes.scheme c.args.vk.now c.args.manifest.now c.check.result c.in-Ok.manifest c.in-Ok.ensures.refusal c.in-Ok.ensures.entries
     c.check.ensures.told c.check.ensures.fault
 
 pub returns-in-Ok-clause-entry : goal.returns-in-Ok-clause-entry

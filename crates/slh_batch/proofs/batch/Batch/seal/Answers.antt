@@ -13,6 +13,3 @@ returns-in_err-levels g c = grind (arith, common_steps)
 
 pub returns-in_err-signature : goal.returns-in_err-signature
 returns-in_err-signature g c = grind (arith, common_steps)
-
-pub returns : goal.returns
-returns g c = grind (arith, common_steps)

@@ -5,9 +5,6 @@ use Rattle.slh_manifest.proofs.builder.Builder.with_signature.Goals as goal
 pub returns-in_err-check_some : goal.returns-in_err-check_some
 returns-in_err-check_some g c = grind (arith, common_steps)
 
-pub returns-then-signature-SIG_LEN : goal.returns-then-signature-SIG_LEN
-returns-then-signature-SIG_LEN g c = grind (arith, common_steps)
-
 pub returns-in_err-manifest : goal.returns-in_err-manifest
 returns-in_err-manifest g c = grind (arith, common_steps)
 

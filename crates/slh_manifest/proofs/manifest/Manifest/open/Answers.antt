@@ -6,17 +6,17 @@ use Rattle.slh_manifest.proofs.manifest.Manifest.open.Goals as goal
 pub invariant_of-result : goal.invariant_of-result
 invariant_of-result g c =
     let found = c.in-Some.ensures in
-    are_read g.P.ForsParams.scheme c.args.bytes.now c.in-Some.parts.count c.in-Some.parts.entries.now found.form found.count found.entries
+    are_read g.P.ForsSizes.scheme c.args.bytes.now c.in-Some.parts.count c.in-Some.parts.entries.now found.form found.count found.entries
 
 pub returns-then-not-is_valid-clause-refusal : goal.returns-then-not-is_valid-clause-refusal
 returns-then-not-is_valid-clause-refusal g c =
     let found = c.in-Some.ensures in
-    refused_by_signature g.P.ForsParams.scheme c.args.vk.now c.args.bytes.now c.in-Some.parts.body.now c.in-Some.parts.signature.now found.form found.body found.signature c.is_valid.result c.is_valid.ensures c.if-not-is_valid.true
+    refused_by_signature g.P.ForsSizes.scheme c.args.vk.now c.args.bytes.now c.in-Some.parts.body.now c.in-Some.parts.signature.now found.form found.body found.signature c.is_valid.result (rw c.fitting-body.ensures at c.is_valid.ensures) c.if-not-is_valid.true
 
 pub returns-clause-refusal : goal.returns-clause-refusal
 returns-clause-refusal g c =
     let found = c.in-Some.ensures in
-    not_refused g.P.ForsParams.scheme c.args.vk.now c.args.bytes.now c.in-Some.parts.body.now c.in-Some.parts.signature.now found.form found.body found.signature c.is_valid.result c.is_valid.ensures c.if-not-is_valid.false
+    not_refused g.P.ForsSizes.scheme c.args.vk.now c.args.bytes.now c.in-Some.parts.body.now c.in-Some.parts.signature.now found.form found.body found.signature c.is_valid.result (rw c.fitting-body.ensures at c.is_valid.ensures) c.if-not-is_valid.false
 
 pub returns-clause-entries : goal.returns-clause-entries
 returns-clause-entries g c =
