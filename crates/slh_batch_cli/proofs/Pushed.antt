@@ -6,7 +6,7 @@ use Rattle.std.specs.Prelude.{Bool, None, Some, unwrap_or, if◌then◌else◌}
 use Rattle.std.proofs.lemmas.Bool.{lt-ltb}
 use Rattle.std.proofs.lemmas.List.{map-append, take_more}
 use Rattle.std.proofs.lemmas.List.Folds.{list_any_more}
-use Rattle.slh_trees.specs.Refusals.{first_refusal}
+use Rattle.slh_core.specs.Refusals.{first_refusal}
 use Rattle.slh_batch.specs.Calls.{push_refusal}
 use Rattle.slh_batch.specs.Tree.{batch_leaf}
 use Rattle.slh_batch.specs.declared.error.BatchError.{BatchError}

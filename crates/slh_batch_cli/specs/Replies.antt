@@ -8,7 +8,7 @@ use Rattle.line_serve.specs.Fields.{field_at}
 use Rattle.line_serve.specs.Texts.{hex_line}
 use Rattle.slh_core.specs.Parameters.{Scheme}
 use Rattle.slh_frames.specs.Frames.{frame}
-use Rattle.slh_internal.specs.Signing.{signature_of}
+use Rattle.slh_trees.specs.Signing.{signature_of}
 use Rattle.slh_batch.specs.Calls.{accept_error}
 use Rattle.slh_batch.specs.Receipts.{batch_context, batch_message, receipt_of}
 use Rattle.slh_batch.specs.Tree.{batch_leaf}

@@ -9,16 +9,12 @@ ghost use Rattle.slh_line.specs.declared.line_error.LineError.TheVariants.{Memor
 
 use line_serve::ByteString;
 use slh_batch::{ReceiptError, accept};
-use slh_dsa::{ParameterSet, VerifyingKey};
+use slh_dsa::{SetSizes, VerifyingKey};
 use slh_line::{LineError, bytes_at, verifying_key};
 use std::alloc::Global;
 
 // The text of what checking a receipt answers.
-fn accept_text<P: ParameterSet>(
-    key: &VerifyingKey<P>,
-    message: &[u8],
-    receipt: &[u8],
-) -> &'static [u8]
+fn accept_text<P: SetSizes>(key: &VerifyingKey<P>, message: &[u8], receipt: &[u8]) -> &'static [u8]
     ensures { result.now
         ≡ spec_accept_text (accept_error P.scheme key.now message.now receipt.now) }
 {
@@ -31,7 +27,7 @@ fn accept_text<P: ParameterSet>(
 }
 
 // The reply to a verifying key, a message and a receipt.
-fn accept_request<P: ParameterSet>(
+fn accept_request<P: SetSizes>(
     alloc: Global,
     key: &[u8],
     message: &[u8],
@@ -46,7 +42,7 @@ fn accept_request<P: ParameterSet>(
 }
 
 /// The reply to an `accept` line.
-pub(crate) fn accept_line<P: ParameterSet>(
+pub(crate) fn accept_line<P: SetSizes>(
     alloc: Global,
     fields: &[&[u8]],
 ) -> Result<ByteString, LineError>

@@ -14,7 +14,7 @@ ghost use Rattle.slh_line.specs.declared.line_error.LineError.TheVariants.{Memor
 
 use line_serve::{ByteString, Words, push_hex_line};
 use slh_batch::{Batch, BatchError, Sealed};
-use slh_dsa::{ParameterSet, SigningKey};
+use slh_dsa::{SetSizes, SigningKey};
 use slh_line::{
     LineError, all_bytes_at, as_bytes, bytes_at, checked_randomizer, randomizer_at, signing_key,
 };
@@ -52,7 +52,7 @@ fn batch_of(alloc: Global, messages: &Words) -> Result<Batch, BatchError>
 }
 
 // A line for each of the first receipts, so many, of which there are enough.
-fn lines_of<P: ParameterSet>(
+fn lines_of<P: SetSizes>(
     alloc: Global,
     sealed: &Sealed<P>,
     count: u32,
@@ -73,7 +73,7 @@ fn lines_of<P: ParameterSet>(
 }
 
 // The lines for a batch of these messages, of which there are some, and few enough.
-fn seal_text<P: ParameterSet>(
+fn seal_text<P: SetSizes>(
     alloc: Global,
     key: &SigningKey<P>,
     opt_rand: Option<&[u8]>,
@@ -102,7 +102,7 @@ fn seal_text<P: ParameterSet>(
 }
 
 // The reply to a key, a randomizer and messages.
-fn seal_request<P: ParameterSet>(
+fn seal_request<P: SetSizes>(
     alloc: Global,
     key: &[u8],
     opt_rand: Option<ByteString>,
@@ -119,7 +119,7 @@ fn seal_request<P: ParameterSet>(
 }
 
 /// The reply to a `seal` line.
-pub(crate) fn seal_line<P: ParameterSet>(
+pub(crate) fn seal_line<P: SetSizes>(
     alloc: Global,
     fields: &[&[u8]],
 ) -> Result<ByteString, LineError>

@@ -8,7 +8,7 @@ use crate::accepting::accept_line;
 use crate::sealing::seal_line;
 use line_serve::{ByteString, Sink, Source, Words, field_at, serve_words};
 use line_stdio::Program;
-use slh_dsa::ParameterSet;
+use slh_dsa::SetSizes;
 use slh_line::{Commands, LineError, Lines};
 use std::alloc::Global;
 
@@ -19,7 +19,7 @@ struct Batches;
 impl Commands for Batches {
     ghost answers = { batch_answers };
 
-    fn answer<P: ParameterSet>(
+    fn answer<P: SetSizes>(
         &self,
         alloc: Global,
         fields: &[&[u8]],

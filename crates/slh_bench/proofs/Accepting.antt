@@ -10,12 +10,12 @@ use Rattle.slh_core.specs.Bytes.{big_endian, part}
 use Rattle.slh_core.specs.Parameters.{Scheme}
 use Rattle.slh_core.specs.Suite.{HasLength, seeded}
 use Rattle.slh_core.specs.Wots.{wots_pk}
-use Rattle.slh_trees.proofs.Climbs.{length-merkle}
+use Rattle.slh_merkle.proofs.Climbs.{length-merkle}
 use Rattle.slh_frames.specs.Frames.{frame}
-use Rattle.slh_internal.specs.Keys.{IsTrueKey, signing_key_bytes, top_root}
-use Rattle.slh_internal.specs.Signing.{signature_of}
-use Rattle.slh_trees.specs.Refusals.{first_refusal}
-use Rattle.slh_trees.specs.Xmss.{tree_place}
+use Rattle.slh_trees.specs.Keys.{IsTrueKey, signing_key_bytes, top_root}
+use Rattle.slh_trees.specs.Signing.{signature_of}
+use Rattle.slh_core.specs.Refusals.{first_refusal}
+use Rattle.slh_merkle.specs.Xmss.{tree_place}
 use Rattle.slh_dsa.specs.Calls.{verify_error}
 use Rattle.slh_dsa.specs.declared.error.Error.{Error}
 use Rattle.slh_dsa.specs.declared.error.Error.TheVariants.{Invalid}

@@ -6,8 +6,8 @@ use Rattle.hmac_sha256.specs.declared.hashing.Hash.{Hash}
 use Rattle.slh_core.proofs.Joins.{joined_more}
 use Rattle.slh_core.specs.Bytes.{joined}
 use Rattle.slh_core.specs.Parameters.{Scheme, chain_count}
-use Rattle.slh_trees.specs.Checking.{forest_size}
-use Rattle.slh_trees.specs.Hypertree.{layer_size}
+use Rattle.slh_merkle.specs.Checking.{forest_size}
+use Rattle.slh_merkle.specs.Hypertree.{layer_size}
 use Rattle.slh_bench.specs.Bench.{accepted_count, bench_accepts, bench_signature, bench_signatures}
 
 -- no signature has more bytes

@@ -13,8 +13,8 @@ use Rattle.line_serve.specs.Fields.{field_at, for_some}
 use Rattle.slh_core.specs.Bytes.{big_endian, joined, part}
 use Rattle.slh_core.specs.Parameters.{Scheme}
 use Rattle.slh_frames.specs.Frames.{frame}
-use Rattle.slh_internal.specs.Keys.{signing_key_bytes}
-use Rattle.slh_internal.specs.Signing.{signature_of}
+use Rattle.slh_trees.specs.Keys.{signing_key_bytes}
+use Rattle.slh_trees.specs.Signing.{signature_of}
 use Rattle.slh_dsa.specs.Calls.{is_valid}
 use Rattle.slh_frames.specs.declared.frame.Mode.TheVariants.{Pure}
 use Rattle.slh_sets.specs.Sets.{name_of, scheme_for, set_named}

@@ -12,7 +12,7 @@ ghost use Rattle.slh_bench.specs.Bench.{bench_signatures, counts_line, digest_li
 ghost use Rattle.slh_bench.specs.Bench.{bench_report, message_size, outcome_lines};
 ghost use Rattle.slh_sets.specs.Sets.{scheme_for};
 ghost use Rattle.slh_bench.specs.declared.bench.Stop.TheVariants.{NoMemory, SinkFault};
-ghost use Rattle.slh_internal.specs.Checking.{signature_size};
+ghost use Rattle.slh_trees.specs.Checking.{signature_size};
 
 use hmac_sha256::{HKDF, Hash};
 use hybrid_array::ArraySize;
@@ -21,7 +21,7 @@ use line_serve::{
     write_all,
 };
 use slh_core::params::{chain_sizes, forest_sizes, layer_sizes};
-use slh_dsa::{Mode, ParameterSet, SigningKey};
+use slh_dsa::{Message, Mode, SetSizes, SigningKey};
 use slh_sets::{OnSet, Set, SetSuite};
 use std::alloc::{AllocError, Global};
 
@@ -108,7 +108,7 @@ fn bench_prk(number: u64) -> [u8; 32]
     HKDF::extract(b"slh-bench", &number.to_be_bytes())
 }
 
-fn bench_key<P: ParameterSet>(prk: &[u8; 32]) -> SigningKey<P>
+fn bench_key<P: SetSizes>(prk: &[u8; 32]) -> SigningKey<P>
     ensures { result ≡ spec_bench_key P.scheme prk.now }
 {
     chain_sizes::<P>();
@@ -132,28 +132,23 @@ fn write_message(prk: &[u8; 32], i: u32, msg: &mut [u8])
 }
 
 // Writes the signature of message i, and says whether it is accepted.
-fn sign_one<P: ParameterSet>(
-    key: &SigningKey<P>,
-    prk: &[u8; 32],
-    i: u32,
-    signature: &mut [u8],
-) -> bool
+fn sign_one<P: SetSizes>(key: &SigningKey<P>, prk: &[u8; 32], i: u32, signature: &mut [u8]) -> bool
     requires few { i < 64 }
     requires key { key.now ≡ spec_bench_key P.scheme prk.now }
     requires room { length signature.old ≡ signature_size P.scheme }
     ensures signature { signature.new ≡ bench_signature P.scheme prk.now i }
     ensures accepted { result ≡ bench_accepts P.scheme prk.now i }
 {
+    let len = 32 + 61 * i as usize % 97;
     let mut store = [0u8; MAX_MESSAGE];
-    let msg = &mut store[..32 + 61 * i as usize % 97];
-    write_message(prk, i, msg);
-    key.sign_checked_into(Mode::Pure, b"", msg, None, signature);
-    let public = key.verifying_key();
-    public.is_valid(Mode::Pure, b"", msg, signature)
+    write_message(prk, i, &mut store[..len]);
+    let message = Message::fitting(Mode::Pure, &store[..len], b"");
+    key.sign_checked(&message, None, signature);
+    key.verifying_key().is_valid(&message, signature)
 }
 
 // No signature has more bytes.
-fn signature_bound<P: ParameterSet>()
+fn signature_bound<P: SetSizes>()
     ensures { signature_size P.scheme ≤ 2 ^ 18 }
 {
     layer_sizes::<P>();
@@ -168,7 +163,7 @@ struct Outcome {
 }
 
 // Signs and verifies the messages, one after the other. The bytes of one signature are kept.
-fn sign_all<P: ParameterSet>(prk: &[u8; 32], count: u32, signature: &mut [u8]) -> Outcome
+fn sign_all<P: SetSizes>(prk: &[u8; 32], count: u32, signature: &mut [u8]) -> Outcome
     requires few { count ≤ 64 }
     requires room { length signature.old ≡ signature_size P.scheme }
     ensures digest { result.digest ≡ sha256 (bench_signatures P.scheme prk.now count) }
@@ -231,7 +226,7 @@ fn outcome_text(alloc: Global, count: u32, outcome: &Outcome) -> Result<ByteStri
 
 // Signs and verifies, and puts together the lines after the first.
 #[tactic(auto, unfolding(crate::specs::Bench::outcome_lines))]
-fn outcome_in<P: ParameterSet>(alloc: Global, bench: Bench) -> Result<ByteString, AllocError>
+fn outcome_in<P: SetSizes>(alloc: Global, bench: Bench) -> Result<ByteString, AllocError>
     requires few { bench.count ≤ 64 }
     ensures { IfOk result (λ text. text
         ≡ outcome_lines P.scheme (spec_bench_prk bench.number) bench.count) }

@@ -3,11 +3,11 @@ ghost use Rattle.std.specs.Prelude.{◌≡◌, ℕ, List};
 ghost use Rattle.slh_bench.specs.Bench.{accepted_count};
 ghost use Rattle.slh_sets.specs.Sets.{scheme_for};
 
-use slh_dsa::ParameterSet;
+use slh_dsa::SetSizes;
 use slh_dsa::laws::signed_is_accepted;
 use slh_sets::{OnSet, Set, SetSuite};
 
-fn accepts_all_in<P: ParameterSet>()
+fn accepts_all_in<P: SetSizes>()
     ensures { (prk : List ℕ) (count : ℕ) → accepted_count P.scheme prk count ≡ count }
 {
     signed_is_accepted::<P>();

@@ -4,7 +4,7 @@ use Rattle.std.specs.Prelude.{◌==◌, Bool, Option, None, Some, codes, length,
 use Rattle.std.specs.Prelude.{if◌then◌else◌}
 use Rattle.line_serve.specs.Texts.{hex_line}
 use Rattle.slh_core.specs.Parameters.{Scheme}
-use Rattle.slh_trees.specs.Refusals.{first_refusal}
+use Rattle.slh_core.specs.Refusals.{first_refusal}
 use Rattle.slh_chain.specs.Links.{delegate_refusal, is_name_size, link_body, signed_link}
 use Rattle.slh_chain.specs.declared.error.LinkError.{LinkError}
 use Rattle.slh_chain.specs.declared.error.LinkError.TheVariants.{Name, Depth, Randomizer, Memory}

@@ -9,7 +9,7 @@ ghost use Rattle.slh_line.specs.declared.line_error.LineError.TheVariants.{Memor
 
 use line_serve::{ByteString, decimal_value, field_at, push_hex_line};
 use slh_chain::{LinkError, delegate};
-use slh_dsa::{ParameterSet, SigningKey, VerifyingKey};
+use slh_dsa::{SetSizes, SigningKey, VerifyingKey};
 use slh_line::{
     LineError, as_bytes, bytes_at, checked_randomizer, randomizer_at, signing_key, verifying_key,
 };
@@ -28,7 +28,7 @@ fn depth_at(fields: &[&[u8]], i: usize) -> Result<u8, LineError>
 
 // The text for the link of these parts, or for a name that no link has.
 #[tactic(auto, using(crate::proofs::Told::told_link, crate::proofs::Told::told_name))]
-fn delegate_text<P: ParameterSet>(
+fn delegate_text<P: SetSizes>(
     alloc: Global,
     key: &SigningKey<P>,
     name: &[u8],
@@ -55,7 +55,7 @@ fn delegate_text<P: ParameterSet>(
 }
 
 // The reply to the bytes of a line, and its depth.
-fn delegate_request<P: ParameterSet>(
+fn delegate_request<P: SetSizes>(
     alloc: Global,
     key: &[u8],
     name: &[u8],
@@ -74,7 +74,7 @@ fn delegate_request<P: ParameterSet>(
 }
 
 /// The reply to a `delegate` line.
-pub(crate) fn delegate_line<P: ParameterSet>(
+pub(crate) fn delegate_line<P: SetSizes>(
     alloc: Global,
     fields: &[&[u8]],
 ) -> Result<ByteString, LineError>

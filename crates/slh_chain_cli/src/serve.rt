@@ -8,7 +8,7 @@ use crate::delegating::delegate_line;
 use crate::walking::walk_line;
 use line_serve::{ByteString, Sink, Source, Words, field_at, serve_words};
 use line_stdio::Program;
-use slh_dsa::ParameterSet;
+use slh_dsa::SetSizes;
 use slh_line::{Commands, LineError, Lines};
 use std::alloc::Global;
 
@@ -19,7 +19,7 @@ struct Chains;
 impl Commands for Chains {
     ghost answers = { chain_answers };
 
-    fn answer<P: ParameterSet>(
+    fn answer<P: SetSizes>(
         &self,
         alloc: Global,
         fields: &[&[u8]],

@@ -10,12 +10,12 @@ ghost use Rattle.slh_line.specs.declared.line_error.LineError.TheVariants.{Memor
 
 use line_serve::{ByteString, push_hex, push_number, push_number_line};
 use slh_chain::{ChainError, End, walk};
-use slh_dsa::{ParameterSet, VerifyingKey};
+use slh_dsa::{SetSizes, VerifyingKey};
 use slh_line::{LineError, bytes_at, verifying_key};
 use std::alloc::Global;
 
 // The text for the end of a chain.
-fn end_text<P: ParameterSet>(alloc: Global, end: &End<P>) -> Result<ByteString, LineError>
+fn end_text<P: SetSizes>(alloc: Global, end: &End<P>) -> Result<ByteString, LineError>
     ensures { (result ≡ Ok (spec_end_text (record {
       key = end.now.key;
       budget = end.now.budget;
@@ -53,7 +53,7 @@ fn fault_text(alloc: Global, fault: ChainError) -> Result<ByteString, LineError>
 }
 
 // The text for what walking a chain answers.
-fn walk_text<P: ParameterSet>(
+fn walk_text<P: SetSizes>(
     alloc: Global,
     root: &VerifyingKey<P>,
     chain: &[u8],
@@ -68,7 +68,7 @@ fn walk_text<P: ParameterSet>(
 }
 
 // The reply to a root key and a chain.
-fn walk_request<P: ParameterSet>(
+fn walk_request<P: SetSizes>(
     alloc: Global,
     root: &[u8],
     chain: &[u8],
@@ -80,7 +80,7 @@ fn walk_request<P: ParameterSet>(
 }
 
 /// The reply to a `walk` line.
-pub(crate) fn walk_line<P: ParameterSet>(
+pub(crate) fn walk_line<P: SetSizes>(
     alloc: Global,
     fields: &[&[u8]],
 ) -> Result<ByteString, LineError>

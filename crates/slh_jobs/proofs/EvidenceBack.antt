@@ -11,8 +11,8 @@ use Rattle.line_serve.proofs.NumbersBack.{AreDigits, decimal_digits, number_back
 use Rattle.line_serve.specs.Fields.{fields, space}
 use Rattle.slh_jobs.specs.EvidenceNumbers.{HasNumbers}
 use Rattle.slh_jobs.specs.EvidenceWords.{evidence_in, evidence_text, spaced}
-use Rattle.slh_evidence.specs.declared.evidence.Evidence.{Evidence}
-use Rattle.slh_evidence.specs.declared.evidence.Evidence.TheVariants.{ForsNode, ForsRoots, ChainStep, Leaf, TreeNode, Early}
+use Rattle.slh_audit.specs.declared.evidence.Evidence.{Evidence}
+use Rattle.slh_audit.specs.declared.evidence.Evidence.TheVariants.{ForsNode, ForsRoots, ChainStep, Leaf, TreeNode, Early}
 
 -- words: bytes that are no blanks, the least of which is the dash
 abbrev all_visible : List ℕ → Bool

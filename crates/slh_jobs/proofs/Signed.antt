@@ -8,7 +8,7 @@ use Rattle.slh_frames.specs.declared.frame.Mode.{Mode}
 use Rattle.slh_jobs.specs.Judgement.{IsJudged}
 use Rattle.slh_jobs.specs.declared.job.Answer.TheVariants.{Signature}
 use Rattle.slh_jobs.specs.declared.job.Job.TheVariants.{Sign}
-use Rattle.slh_internal.specs.Signing.{signature_of}
+use Rattle.slh_trees.specs.Signing.{signature_of}
 
 -- bytes that are written over whole are those that were written
 pub written : (new old : List ℕ) → length new ≡ length old → take (length old) (new ++ drop (length new) old) ≡ new

@@ -1,8 +1,8 @@
 -- Evidence whose numbers are those of the code.
 use Rattle.std.specs.Prelude.{◌<◌, ◌^◌, ⊤}
-use Rattle.slh_evidence.specs.declared.evidence.Evidence.{Evidence}
-use Rattle.slh_evidence.specs.declared.evidence.Evidence.TheVariants.{ForsNode, ForsRoots}
-use Rattle.slh_evidence.specs.declared.evidence.Evidence.TheVariants.{ChainStep, Leaf, TreeNode, Early}
+use Rattle.slh_audit.specs.declared.evidence.Evidence.{Evidence}
+use Rattle.slh_audit.specs.declared.evidence.Evidence.TheVariants.{ForsNode, ForsRoots}
+use Rattle.slh_audit.specs.declared.evidence.Evidence.TheVariants.{ChainStep, Leaf, TreeNode, Early}
 
 -- each is below 2^32
 abbrev pub HasNumbers : Evidence → Type 0

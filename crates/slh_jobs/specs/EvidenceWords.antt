@@ -4,9 +4,9 @@ use Rattle.std.specs.Prelude.{codes, decimal, if◌then◌else◌}
 use Rattle.std.specs.Str.{bytes_eq}
 use Rattle.line_serve.specs.Decimals.{number_value}
 use Rattle.line_serve.specs.Fields.{field_at, for_some}
-use Rattle.slh_evidence.specs.declared.evidence.Evidence.{Evidence}
-use Rattle.slh_evidence.specs.declared.evidence.Evidence.TheVariants.{ForsNode, ForsRoots}
-use Rattle.slh_evidence.specs.declared.evidence.Evidence.TheVariants.{ChainStep, Leaf, TreeNode, Early}
+use Rattle.slh_audit.specs.declared.evidence.Evidence.{Evidence}
+use Rattle.slh_audit.specs.declared.evidence.Evidence.TheVariants.{ForsNode, ForsRoots}
+use Rattle.slh_audit.specs.declared.evidence.Evidence.TheVariants.{ChainStep, Leaf, TreeNode, Early}
 
 -- the numbers stand behind the kind, as many as it has
 abbrev pub one_number : List (List ℕ) → (ℕ → Evidence) → Option Evidence

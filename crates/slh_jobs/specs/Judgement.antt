@@ -2,13 +2,13 @@
 use Rattle.std.specs.Prelude.{◌≡◌, ◌⊎◌, ℕ, List, [], ◌∷◌, Option, None, Some, Result, Ok, Err, ⊤}
 use Rattle.std.specs.Prelude.{if◌then◌else◌}
 use Rattle.slh_core.specs.Parameters.{Scheme}
-use Rattle.slh_internal.specs.Keys.{signing_key_bytes}
-use Rattle.slh_internal.specs.Signing.{signature_of}
-use Rattle.slh_trees.specs.Refusals.{first_refusal}
+use Rattle.slh_trees.specs.Keys.{signing_key_bytes}
+use Rattle.slh_trees.specs.Signing.{signature_of}
+use Rattle.slh_core.specs.Refusals.{first_refusal}
 use Rattle.slh_frames.specs.Frames.{mode_frame}
 use Rattle.slh_dsa.specs.Calls.{is_valid, keygen_refusal, sign_input_refusal}
 use Rattle.slh_dsa.specs.Calls.{signing_key_refusal, verify_refusal, verifying_key_refusal}
-use Rattle.slh_evidence.specs.Evidence.{dispute_of, shows}
+use Rattle.slh_audit.specs.Evidence.{dispute_of, shows}
 use Rattle.slh_audit.specs.Verdicts.{message_audit}
 use Rattle.slh_audit.specs.declared.evidence.AuditError.{AuditError}
 use Rattle.slh_audit.specs.declared.evidence.Verdict.{Verdict}

@@ -1,8 +1,8 @@
 //! How evidence stands on a line.
 ghost use Rattle.std.specs.Prelude.{◌≡◌, ◌++◌, length, OnOk};
 ghost use Rattle.line_serve.specs.Fields.{contents};
-ghost use Rattle.slh_evidence.specs.declared.evidence.Evidence.TheVariants.{ForsNode, ChainStep};
-ghost use Rattle.slh_evidence.specs.declared.evidence.Evidence.TheVariants.{Leaf, TreeNode, Early};
+ghost use Rattle.slh_audit.specs.declared.evidence.Evidence.TheVariants.{ForsNode, ChainStep};
+ghost use Rattle.slh_audit.specs.declared.evidence.Evidence.TheVariants.{Leaf, TreeNode, Early};
 ghost use Rattle.slh_jobs.specs.EvidenceWords.{evidence_in, evidence_text, spaced};
 ghost use Rattle.slh_jobs.specs.EvidenceWords.{one_number, two_numbers, three_numbers};
 

@@ -10,7 +10,7 @@ use hybrid_array::ArraySize;
 use line_serve::ByteString;
 use slh_audit::{AuditError, Evidence, hash_audit, hash_check_evidence};
 use slh_core::params::chain_sizes;
-use slh_dsa::{Mode, ParameterSet, SigningKey, VerifyingKey};
+use slh_dsa::{Mode, SetSizes, SigningKey, VerifyingKey};
 use slh_sets::{OnSet, Set, SetSuite};
 use std::alloc::{AllocError, Global};
 
@@ -54,7 +54,7 @@ impl From<AllocError> for Error {
 }
 
 // A key of three seeds. Its bytes are taken once it is made, and nothing after that can fail.
-fn keygen<P: ParameterSet>(
+fn keygen<P: SetSizes>(
     alloc: Global,
     sk_seed: &ByteString,
     sk_prf: &ByteString,
@@ -71,7 +71,7 @@ fn keygen<P: ParameterSet>(
 }
 
 // A signature. Its bytes are taken after all checks, and nothing after that can fail.
-fn sign<P: ParameterSet>(
+fn sign<P: SetSizes>(
     alloc: Global,
     mode: Mode,
     key: &ByteString,
@@ -84,14 +84,14 @@ fn sign<P: ParameterSet>(
     let (msg, ctx) = (message.as_slice(), context.as_slice());
     let opt_rand = randomizer.as_ref().map(|bytes| bytes.as_slice());
     let key = SigningKey::<P>::try_from(key.as_slice())?;
-    SigningKey::<P>::check_sign(msg, ctx, opt_rand)?;
+    let message = SigningKey::<P>::message(mode, msg, ctx, opt_rand)?;
     let mut bytes = ByteString::zeroed(alloc, P::SIG_LEN)?;
-    key.sign_checked_into(mode, ctx, msg, opt_rand, bytes.as_mut_slice());
+    key.sign_checked(&message, opt_rand, bytes.as_mut_slice());
     Ok(Answer::Signature(bytes))
 }
 
 // Whether a signature is accepted.
-fn verify<P: ParameterSet>(
+fn verify<P: SetSizes>(
     mode: Mode,
     key: &ByteString,
     context: &ByteString,
@@ -103,12 +103,12 @@ fn verify<P: ParameterSet>(
 {
     let (msg, ctx, sig) = (message.as_slice(), context.as_slice(), signature.as_slice());
     let key = VerifyingKey::<P>::try_from(key.as_slice())?;
-    key.verify_bytes(mode, ctx, msg, sig)?;
+    key.hash_verify(mode, msg, ctx, sig)?;
     Ok(Answer::Accepted)
 }
 
 // Whether a key made a signature.
-fn audit<P: ParameterSet>(
+fn audit<P: SetSizes>(
     mode: Mode,
     key: &ByteString,
     context: &ByteString,
@@ -120,12 +120,12 @@ fn audit<P: ParameterSet>(
 {
     let (key, sig) = (key.as_slice(), signature.as_slice());
     let (msg, ctx) = (message.as_slice(), context.as_slice());
-    let verdict = hash_audit::<P>(mode, key, ctx, msg, sig)?;
+    let verdict = hash_audit::<P>(mode, key, msg, ctx, sig)?;
     Ok(Answer::Verdict(verdict))
 }
 
 // Whether evidence shows.
-fn check<P: ParameterSet>(
+fn check<P: SetSizes>(
     mode: Mode,
     key: &ByteString,
     context: &ByteString,
@@ -138,12 +138,12 @@ fn check<P: ParameterSet>(
 {
     let (key, sig) = (key.as_slice(), signature.as_slice());
     let (msg, ctx) = (message.as_slice(), context.as_slice());
-    let shown = hash_check_evidence::<P>(mode, key, ctx, msg, sig, evidence)?;
+    let shown = hash_check_evidence::<P>(mode, key, msg, ctx, sig, evidence)?;
     Ok(Answer::Shown(shown))
 }
 
 // Answers a job whose answer needs no memory.
-fn judge<P: ParameterSet>(job: &Job) -> Result<Answer, Error>
+fn judge<P: SetSizes>(job: &Job) -> Result<Answer, Error>
     requires { NeedsMemory job.now → ⊥ }
     ensures { result ≡ judgement P.scheme job.now }
 {
@@ -175,7 +175,7 @@ fn judge<P: ParameterSet>(job: &Job) -> Result<Answer, Error>
 }
 
 /// Answers a job in a parameter set: what [`run`] answers in that which it is given.
-pub fn run_set<P: ParameterSet>(alloc: Global, job: &Job) -> Result<Answer, Error>
+pub fn run_set<P: SetSizes>(alloc: Global, job: &Job) -> Result<Answer, Error>
     ensures { IsJudged P.scheme job.now result }
 {
     match job {

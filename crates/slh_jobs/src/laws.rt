@@ -1,7 +1,7 @@
 //! How evidence is read back, as a contract.
 ghost use Rattle.std.specs.Prelude.{◌≡◌, Some};
 ghost use Rattle.line_serve.specs.Fields.{fields};
-ghost use Rattle.slh_evidence.specs.declared.evidence.Evidence.{Evidence};
+ghost use Rattle.slh_audit.specs.declared.evidence.Evidence.{Evidence};
 ghost use Rattle.slh_jobs.specs.EvidenceNumbers.{HasNumbers};
 ghost use Rattle.slh_jobs.specs.EvidenceWords.{evidence_in, evidence_text};
 

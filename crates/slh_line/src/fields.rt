@@ -11,7 +11,7 @@ use crate::line_error::LineError;
 use hybrid_array::ArraySize;
 use line_serve::{ByteString, Words, field_at, hex_field};
 use slh_core::params::chain_sizes;
-use slh_dsa::{ParameterSet, SigningKey, VerifyingKey};
+use slh_dsa::{SetSizes, SigningKey, VerifyingKey};
 use std::alloc::Global;
 
 /// The bytes that a field stands for, which is `-` or hexadecimal.
@@ -71,7 +71,7 @@ pub fn randomizer_at(
 }
 
 /// The signing key of these bytes. `Length`: they aren't 4n.
-pub fn signing_key<P: ParameterSet>(bytes: &[u8]) -> Result<SigningKey<P>, LineError>
+pub fn signing_key<P: SetSizes>(bytes: &[u8]) -> Result<SigningKey<P>, LineError>
     ensures { result ≡ signing_key P.scheme bytes.now }
 {
     match SigningKey::try_from(bytes) {
@@ -81,7 +81,7 @@ pub fn signing_key<P: ParameterSet>(bytes: &[u8]) -> Result<SigningKey<P>, LineE
 }
 
 /// The verifying key of these bytes. `Length`: they aren't 2n.
-pub fn verifying_key<P: ParameterSet>(bytes: &[u8]) -> Result<VerifyingKey<P>, LineError>
+pub fn verifying_key<P: SetSizes>(bytes: &[u8]) -> Result<VerifyingKey<P>, LineError>
     ensures { result ≡ verifying_key P.scheme bytes.now }
 {
     match VerifyingKey::try_from(bytes) {
@@ -91,7 +91,7 @@ pub fn verifying_key<P: ParameterSet>(bytes: &[u8]) -> Result<VerifyingKey<P>, L
 }
 
 /// The randomizer, if there is one. `Randomizer`: it hasn't n bytes.
-pub fn checked_randomizer<P: ParameterSet>(
+pub fn checked_randomizer<P: SetSizes>(
     randomizer: Option<ByteString>,
 ) -> Result<Option<ByteString>, LineError>
     ensures { result ≡ checked_randomizer P.scheme randomizer }

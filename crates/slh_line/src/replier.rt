@@ -7,7 +7,7 @@ ghost use Rattle.slh_line.specs.declared.line_error.LineError.TheVariants.{Memor
 
 use crate::line_error::LineError;
 use line_serve::{ByteString, Replier, all_fields};
-use slh_dsa::ParameterSet;
+use slh_dsa::SetSizes;
 use slh_sets::{OnSet, Set, SetSuite};
 use std::alloc::{AllocError, Global};
 
@@ -17,11 +17,7 @@ pub trait Commands {
     ghost answers: { Answers };
 
     /// The reply to the fields of a line whose first field names this set.
-    fn answer<P: ParameterSet>(
-        &self,
-        alloc: Global,
-        fields: &[&[u8]],
-    ) -> Result<ByteString, LineError>
+    fn answer<P: SetSizes>(&self, alloc: Global, fields: &[&[u8]]) -> Result<ByteString, LineError>
         ensures { (result ≡ answers P.scheme P.set_name (contents fields.now))
             ⊎ (result ≡ Err Memory) };
 }

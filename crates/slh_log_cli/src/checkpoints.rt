@@ -10,7 +10,7 @@ ghost use Rattle.slh_log_cli.specs.Replies.{checkpoint_text as spec_checkpoint_t
 
 use crate::digests::{digest_of, size_at};
 use line_serve::{ByteString, push_hex_line};
-use slh_dsa::{ParameterSet, SigningKey};
+use slh_dsa::{SetSizes, SigningKey};
 use slh_line::{LineError, as_bytes, bytes_at, checked_randomizer, randomizer_at, signing_key};
 use slh_log::{CheckpointError, checkpoint, text_of};
 use std::alloc::Global;
@@ -24,7 +24,7 @@ struct Head<'a> {
 }
 
 // The text for the checkpoint of these, or for an origin that no log has.
-fn checkpoint_text<P: ParameterSet>(
+fn checkpoint_text<P: SetSizes>(
     alloc: Global,
     key: &SigningKey<P>,
     head: Head<'_>,
@@ -49,7 +49,7 @@ fn checkpoint_text<P: ParameterSet>(
 }
 
 // The reply to the bytes of a line, and its size.
-fn checkpoint_request<P: ParameterSet>(
+fn checkpoint_request<P: SetSizes>(
     alloc: Global,
     key: &[u8],
     origin: &[u8],
@@ -72,7 +72,7 @@ fn checkpoint_request<P: ParameterSet>(
 }
 
 /// The reply to a `checkpoint` line.
-pub(crate) fn checkpoint_line<P: ParameterSet>(
+pub(crate) fn checkpoint_line<P: SetSizes>(
     alloc: Global,
     fields: &[&[u8]],
 ) -> Result<ByteString, LineError>

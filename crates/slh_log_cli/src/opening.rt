@@ -9,7 +9,7 @@ ghost use Rattle.slh_log_cli.specs.Replies.{open_request as spec_open_request};
 ghost use Rattle.slh_log_cli.specs.Replies.{open_text as spec_open_text};
 
 use line_serve::{ByteString, push_hex_line, push_number};
-use slh_dsa::{ParameterSet, VerifyingKey};
+use slh_dsa::{SetSizes, VerifyingKey};
 use slh_line::{LineError, bytes_at, verifying_key};
 use slh_log::{Checkpoint, OpenError, open, text_of};
 use std::alloc::Global;
@@ -25,7 +25,7 @@ fn head_text(alloc: Global, head: &Checkpoint) -> Result<ByteString, LineError>
 }
 
 // The text for what opening a checkpoint answers.
-fn open_text<P: ParameterSet>(
+fn open_text<P: SetSizes>(
     alloc: Global,
     key: &VerifyingKey<P>,
     origin: &[u8],
@@ -45,7 +45,7 @@ fn open_text<P: ParameterSet>(
 }
 
 // The reply to the bytes of a line.
-fn open_request<P: ParameterSet>(
+fn open_request<P: SetSizes>(
     alloc: Global,
     key: &[u8],
     origin: &[u8],
@@ -59,7 +59,7 @@ fn open_request<P: ParameterSet>(
 }
 
 /// The reply to an `open` line.
-pub(crate) fn open_line<P: ParameterSet>(
+pub(crate) fn open_line<P: SetSizes>(
     alloc: Global,
     fields: &[&[u8]],
 ) -> Result<ByteString, LineError>

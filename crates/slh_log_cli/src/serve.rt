@@ -11,7 +11,7 @@ use crate::opening::open_line;
 use crate::presence::presence_line;
 use line_serve::{ByteString, Replier, Sink, Source, Words, all_fields, field_at, serve_words};
 use line_stdio::Program;
-use slh_dsa::ParameterSet;
+use slh_dsa::SetSizes;
 use slh_line::{Commands, LineError, Lines};
 use std::alloc::{AllocError, Global};
 
@@ -22,7 +22,7 @@ struct Heads;
 impl Commands for Heads {
     ghost answers = { head_answers };
 
-    fn answer<P: ParameterSet>(
+    fn answer<P: SetSizes>(
         &self,
         alloc: Global,
         fields: &[&[u8]],

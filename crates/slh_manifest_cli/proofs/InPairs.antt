@@ -5,7 +5,7 @@ use Rattle.std.proofs.lemmas.Cmp.{nat_list_cmp_total, eq_by_cmp_equiv}
 use Rattle.std.proofs.lemmas.List.{drop_more}
 use Rattle.std.specs.FinMap.{get, insert, get-insert}
 use Rattle.line_serve.specs.Causes.{Rose}
-use Rattle.slh_trees.specs.Refusals.{RefusedOrNoMemory, first_refusal, unless_refused}
+use Rattle.slh_core.specs.Refusals.{RefusedOrNoMemory, first_refusal, unless_refused}
 use Rattle.slh_manifest.specs.Building.{add_refusal, bytes_refusal, entry_of, name_refusal}
 use Rattle.slh_manifest.specs.Files.{Files, bytes_of}
 use Rattle.slh_manifest.specs.declared.entry.Entry.{Entry}

@@ -6,7 +6,7 @@ use Rattle.std.specs.Str.{bytes_eq}
 use Rattle.std.proofs.lemmas.Bool.{and_parts, leb-true}
 use Rattle.line_serve.specs.Fields.{field_at}
 use Rattle.slh_core.specs.Parameters.{Scheme}
-use Rattle.slh_trees.specs.Refusals.{first_refusal}
+use Rattle.slh_core.specs.Refusals.{first_refusal}
 use Rattle.slh_line.specs.Readings.{all_bytes, all_bytes_at, and_then, bytes_at, bytes_of, checked_randomizer, randomizer_at, signing_key, verifying_key}
 use Rattle.slh_line.specs.declared.line_error.LineError.{LineError}
 use Rattle.slh_line.specs.declared.line_error.LineError.TheVariants.{Command, Fields}

@@ -6,7 +6,7 @@ use Rattle.std.specs.Str.{bytes_eq}
 use Rattle.line_serve.specs.Fields.{field_at}
 use Rattle.line_serve.specs.Texts.{hex_line, number_line}
 use Rattle.slh_core.specs.Parameters.{Scheme}
-use Rattle.slh_trees.specs.Refusals.{first_refusal, unless_refused}
+use Rattle.slh_core.specs.Refusals.{first_refusal, unless_refused}
 use Rattle.slh_manifest.specs.Building.{bytes_refusal, entry_of, manifest_of, name_refusal}
 use Rattle.slh_manifest.specs.Checking.{check_error}
 use Rattle.slh_manifest.specs.Files.{Files}

@@ -11,7 +11,7 @@ ghost use Rattle.slh_line.specs.declared.line_error.LineError.TheVariants.{Memor
 
 use crate::pairs::{FIRST_NAME, has_pairs, store_of};
 use line_serve::{ByteString, Words, push_number_line};
-use slh_dsa::{ParameterSet, VerifyingKey};
+use slh_dsa::{SetSizes, VerifyingKey};
 use slh_line::{LineError, all_bytes_at, bytes_at, verifying_key};
 use slh_manifest::{CheckError, check};
 use std::alloc::Global;
@@ -26,7 +26,7 @@ fn entry_line(alloc: Global, word: &[u8], entry: u32) -> Result<ByteString, Line
 }
 
 // The text of what checking a manifest over the pairs answers.
-fn check_text<P: ParameterSet>(
+fn check_text<P: SetSizes>(
     alloc: Global,
     key: &VerifyingKey<P>,
     manifest: &[u8],
@@ -48,7 +48,7 @@ fn check_text<P: ParameterSet>(
 }
 
 // The reply to a verifying key, a manifest and pairs.
-fn check_request<P: ParameterSet>(
+fn check_request<P: SetSizes>(
     alloc: Global,
     key: &[u8],
     manifest: &[u8],
@@ -62,7 +62,7 @@ fn check_request<P: ParameterSet>(
 }
 
 /// The reply to a `check` line.
-pub(crate) fn check_line<P: ParameterSet>(
+pub(crate) fn check_line<P: SetSizes>(
     alloc: Global,
     fields: &[&[u8]],
 ) -> Result<ByteString, LineError>

@@ -13,7 +13,7 @@ ghost use Rattle.slh_line.specs.declared.line_error.LineError.TheVariants.{Memor
 
 use crate::pairs::{FIRST_NAME, PairStore, has_pairs, word_at};
 use line_serve::{ByteString, Words, push_hex_line};
-use slh_dsa::{ParameterSet, SigningKey};
+use slh_dsa::{SetSizes, SigningKey};
 use slh_line::{
     LineError, all_bytes_at, as_bytes, bytes_at, checked_randomizer, randomizer_at, signing_key,
 };
@@ -59,7 +59,7 @@ fn entries_of(alloc: Global, pairs: &Words) -> Result<Builder, BuildError>
 }
 
 // The text for the manifest of the entries, of which there are some.
-fn manifest_text<P: ParameterSet>(
+fn manifest_text<P: SetSizes>(
     alloc: Global,
     key: &SigningKey<P>,
     opt_rand: Option<&[u8]>,
@@ -83,7 +83,7 @@ fn manifest_text<P: ParameterSet>(
 }
 
 // The text for the manifest of the pairs, or for one that isn't added.
-fn seal_text<P: ParameterSet>(
+fn seal_text<P: SetSizes>(
     alloc: Global,
     key: &SigningKey<P>,
     opt_rand: Option<&[u8]>,
@@ -106,7 +106,7 @@ fn seal_text<P: ParameterSet>(
 }
 
 // The reply to a key, a randomizer and pairs.
-fn seal_request<P: ParameterSet>(
+fn seal_request<P: SetSizes>(
     alloc: Global,
     key: &[u8],
     opt_rand: Option<ByteString>,
@@ -123,7 +123,7 @@ fn seal_request<P: ParameterSet>(
 }
 
 /// The reply to a `seal` line.
-pub(crate) fn seal_line<P: ParameterSet>(
+pub(crate) fn seal_line<P: SetSizes>(
     alloc: Global,
     fields: &[&[u8]],
 ) -> Result<ByteString, LineError>

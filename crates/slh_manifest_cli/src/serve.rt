@@ -9,7 +9,7 @@ use crate::checking::check_line;
 use crate::sealing::seal_line;
 use line_serve::{ByteString, Sink, Source, Words, field_at, serve_words};
 use line_stdio::Program;
-use slh_dsa::ParameterSet;
+use slh_dsa::SetSizes;
 use slh_line::{Commands, LineError, Lines};
 use std::alloc::Global;
 
@@ -20,7 +20,7 @@ struct Manifests;
 impl Commands for Manifests {
     ghost answers = { manifest_answers };
 
-    fn answer<P: ParameterSet>(
+    fn answer<P: SetSizes>(
         &self,
         alloc: Global,
         fields: &[&[u8]],

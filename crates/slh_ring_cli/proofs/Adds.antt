@@ -3,7 +3,7 @@ use Rattle.std.proofs.Common.{◌≡◌, ◌⊎◌, ℕ, ◌+◌, ◌<◌, ◌�
 use Rattle.std.specs.Prelude.{unwrap_or, if◌then◌else◌}
 use Rattle.std.proofs.lemmas.Bool.{lt-leb}
 use Rattle.std.proofs.lemmas.List.{drop_all, drop_more}
-use Rattle.slh_trees.specs.Refusals.{first_refusal}
+use Rattle.slh_core.specs.Refusals.{first_refusal}
 use Rattle.slh_ring.specs.Rings.{add_refusal, has_path, with_path}
 use Rattle.slh_ring.specs.declared.error.RingError.{RingError}
 use Rattle.slh_ring.specs.declared.error.RingError.TheVariants.{Present, Full, Memory}

@@ -8,7 +8,7 @@ ghost use Rattle.slh_ring_cli.specs.Replies.{derive_line_answer, key_text as spe
 
 use crate::path_fields::path_of;
 use line_serve::{ByteString, field_at, push_hex};
-use slh_dsa::{ParameterSet, SigningKey};
+use slh_dsa::{SetSizes, SigningKey};
 use slh_line::{LineError, bytes_at};
 use slh_ring::{Path, derive};
 use std::alloc::Global;
@@ -29,7 +29,7 @@ pub(crate) fn master_of(alloc: Global, fields: &[&[u8]]) -> Result<ByteString, L
 }
 
 // The line for a key.
-fn key_text<P: ParameterSet>(alloc: Global, key: &SigningKey<P>) -> Result<ByteString, LineError>
+fn key_text<P: SetSizes>(alloc: Global, key: &SigningKey<P>) -> Result<ByteString, LineError>
     ensures { (result ≡ Ok (spec_key_text P.scheme key.now)) ⊎ (result ≡ Err Memory) }
 {
     let mut text = ByteString::from_slice(alloc, b"key ")?;
@@ -41,7 +41,7 @@ fn key_text<P: ParameterSet>(alloc: Global, key: &SigningKey<P>) -> Result<ByteS
 }
 
 // The line for the key at a path.
-fn derive_text<P: ParameterSet>(
+fn derive_text<P: SetSizes>(
     alloc: Global,
     master: &[u8],
     path: &Path,
@@ -54,7 +54,7 @@ fn derive_text<P: ParameterSet>(
 }
 
 /// The reply to a `derive` line.
-pub(crate) fn derive_line<P: ParameterSet>(
+pub(crate) fn derive_line<P: SetSizes>(
     alloc: Global,
     fields: &[&[u8]],
 ) -> Result<ByteString, LineError>

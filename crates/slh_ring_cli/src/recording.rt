@@ -10,7 +10,7 @@ ghost use Rattle.slh_ring_cli.specs.Replies.{record_text as spec_record_text};
 use crate::keys::master_of;
 use crate::path_fields::all_paths;
 use line_serve::{ByteString, push_hex_line};
-use slh_dsa::ParameterSet;
+use slh_dsa::SetSizes;
 use slh_line::LineError;
 use slh_ring::{Path, Ring, RingError};
 use std::alloc::Global;
@@ -21,7 +21,7 @@ const FIRST_PATH: usize = 3;
 const MAX_FIELDS: usize = FIRST_PATH + 64;
 
 // The ring of these paths, of which there are few enough. `Present`: one of them is there twice.
-fn ring_of<P: ParameterSet>(alloc: Global, paths: &[Path]) -> Result<Ring<P>, RingError>
+fn ring_of<P: SetSizes>(alloc: Global, paths: &[Path]) -> Result<Ring<P>, RingError>
     requires few { length paths.now ≤ 64 }
     ensures ring { IfOk result (λ ring. all_added [] paths.now ≡ Some ring) }
     ensures twice { result ≡ Err Present → all_added [] paths.now ≡ None }
@@ -35,7 +35,7 @@ fn ring_of<P: ParameterSet>(alloc: Global, paths: &[Path]) -> Result<Ring<P>, Ri
 }
 
 // The line for the record of a ring.
-fn ring_record<P: ParameterSet>(
+fn ring_record<P: SetSizes>(
     alloc: Global,
     master: &[u8],
     ring: &Ring<P>,
@@ -50,7 +50,7 @@ fn ring_record<P: ParameterSet>(
 }
 
 // The line for the record of the ring of these paths, or for a path that is there twice.
-fn record_text<P: ParameterSet>(
+fn record_text<P: SetSizes>(
     alloc: Global,
     master: &[u8],
     paths: &[Path],
@@ -69,7 +69,7 @@ fn record_text<P: ParameterSet>(
 }
 
 /// The reply to a `record` line.
-pub(crate) fn record_line<P: ParameterSet>(
+pub(crate) fn record_line<P: SetSizes>(
     alloc: Global,
     fields: &[&[u8]],
 ) -> Result<ByteString, LineError>

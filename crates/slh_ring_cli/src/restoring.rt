@@ -10,13 +10,13 @@ ghost use Rattle.slh_ring_cli.specs.Replies.{ring_text as spec_ring_text};
 
 use crate::keys::master_of;
 use line_serve::{ByteString, push_number_line};
-use slh_dsa::ParameterSet;
+use slh_dsa::SetSizes;
 use slh_line::{LineError, bytes_at};
 use slh_ring::{RestoreError, Ring};
 use std::alloc::Global;
 
 // The line for the paths of a ring.
-fn ring_text<P: ParameterSet>(alloc: Global, ring: &Ring<P>) -> Result<ByteString, LineError>
+fn ring_text<P: SetSizes>(alloc: Global, ring: &Ring<P>) -> Result<ByteString, LineError>
     ensures { (result ≡ Ok (spec_ring_text ring.now)) ⊎ (result ≡ Err Memory) }
 {
     let mut text = ByteString::from_slice(alloc, b"ring")?;
@@ -41,7 +41,7 @@ fn mismatch_text(alloc: Global, i: u32) -> Result<ByteString, LineError>
 }
 
 // The line for what restoring a record answers.
-fn restore_text<P: ParameterSet>(
+fn restore_text<P: SetSizes>(
     alloc: Global,
     master: &[u8],
     bytes: &[u8],
@@ -59,7 +59,7 @@ fn restore_text<P: ParameterSet>(
 }
 
 /// The reply to a `restore` line.
-pub(crate) fn restore_line<P: ParameterSet>(
+pub(crate) fn restore_line<P: SetSizes>(
     alloc: Global,
     fields: &[&[u8]],
 ) -> Result<ByteString, LineError>

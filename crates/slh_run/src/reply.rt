@@ -9,7 +9,7 @@ ghost use Rattle.slh_audit.specs.declared.evidence.Verdict.TheVariants.{Foreign}
 use crate::request::read_job;
 use line_serve::{ByteString, push_hex, push_hex_line};
 use slh_audit::{Evidence, Verdict};
-use slh_dsa::ParameterSet;
+use slh_dsa::SetSizes;
 use slh_jobs::{Answer, Error, Job, push_evidence, run_set};
 use slh_line::{Commands, LineError};
 use std::alloc::{AllocError, Global};
@@ -78,7 +78,7 @@ fn answer_line(alloc: Global, answer: Answer) -> Result<ByteString, AllocError>
 }
 
 // The reply to a job.
-fn job_line<P: ParameterSet>(alloc: Global, job: &Job) -> Result<ByteString, LineError>
+fn job_line<P: SetSizes>(alloc: Global, job: &Job) -> Result<ByteString, LineError>
     ensures { (result ≡ Ok (answer_text (judgement P.scheme job.now))) ⊎ (result ≡ Err Memory) }
 {
     match run_set::<P>(alloc, job) {
@@ -91,7 +91,7 @@ fn job_line<P: ParameterSet>(alloc: Global, job: &Job) -> Result<ByteString, Lin
 impl Commands for Jobs {
     ghost answers = { job_answers };
 
-    fn answer<P: ParameterSet>(
+    fn answer<P: SetSizes>(
         &self,
         alloc: Global,
         fields: &[&[u8]],

@@ -4,7 +4,7 @@ use Rattle.std.proofs.lemmas.Nat.{mul-le}
 use Rattle.slh_core.specs.Bytes.{joined}
 use Rattle.slh_bench.specs.Bench.{accepted_count}
 use Rattle.slh_bench.proofs.Signing.{counted_more, hashed_more}
-use Rattle.slh_internal.specs.Checking.{signature_size}
+use Rattle.slh_trees.specs.Checking.{signature_size}
 use Rattle.slh_bench.proofs.bench.sign_all.Goals as goal
 use Rattle.slh_bench.proofs.bench.sign_all.Goals.{then-sign_one, else-sign_one}
 
@@ -14,13 +14,13 @@ loop-i-init g c = record { hashed = c.new-hash.ensures.empty; absorbed = omega (
 
 pub update-requires : goal.update-requires
 update-requires g c =
-    let size = signature_size g.P.ForsParams.scheme in
+    let size = signature_size g.P.ForsSizes.scheme in
     let many : c.loop-i.i * size ≤ 64 * 2 ^ 18 = mul-le c.loop-i.i size 64 (2 ^ 18) (omega arith) c.signature_bound.ensures in
     omega arith
 
 pub loop-i-preserved : goal.loop-i-preserved
 loop-i-preserved g c =
-    let Z = g.P.ForsParams.scheme in
+    let Z = g.P.ForsSizes.scheme in
     let prk = c.args.prk.now in
     let i = c.loop-i.i in
     let before = c.loop-i.invariant in

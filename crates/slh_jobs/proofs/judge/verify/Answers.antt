@@ -5,8 +5,8 @@ use Rattle.slh_jobs.proofs.judge.verify.Goals as goal
 pub returns-in_err-key : goal.returns-in_err-key
 returns-in_err-key g c = grind (arith, common_steps)
 
-pub returns-in_err-verify_bytes : goal.returns-in_err-verify_bytes
-returns-in_err-verify_bytes g c = grind (arith, common_steps)
+pub returns-in_err-hash_verify : goal.returns-in_err-hash_verify
+returns-in_err-hash_verify g c = grind (arith, common_steps)
 
 pub returns : goal.returns
 returns g c = grind (arith, common_steps)
