@@ -1,4 +1,9 @@
 //! What signatures are made random by.
+ghost use Rattle.std.specs.Prelude.{◌≡◌};
+ghost use Rattle.std.specs.Option.{option_copied};
+ghost use Rattle.slh_arguments.specs.Randomness.{random_of};
+ghost use Rattle.slh_sets.specs.Sets.{scheme_for};
+
 use clap::ArgMatches;
 use slh_paths::{Failure, random};
 use slh_sets::Set;
@@ -18,7 +23,9 @@ impl Randomness {
     }
 
     /// As many as a randomizer of a set is made from.
-    pub fn of_set(&self, set: Set) -> Option<&[u8]> {
+    pub fn of_set(&self, set: Set) -> Option<&[u8]>
+        ensures { option_copied result ≡ random_of (scheme_for set).n self.now }
+    {
         match &self.0 {
             Some(bytes) => Some(&bytes[..set.n()]),
             None => None,

@@ -1,6 +1,7 @@
 //! What the words of a command stand for.
 use clap::ArgMatches;
 use slh_files::{Key, Kind, Outcome, digits_of, read_key, read_signature, read_signing_key};
+use slh_frames::MAX_CONTEXT;
 use slh_jobs::{ByteString, Mode};
 use slh_paths::{Cause, Failure, files, random};
 use slh_sets::Set;
@@ -12,11 +13,14 @@ pub const SIGNATURE_END: &str = ".sig";
 /// What is put behind the name of a file for the name of its receipt.
 pub const RECEIPT_END: &str = ".receipt";
 
-/// The most bytes of a context.
-const MAX_CONTEXT: usize = 255;
-
-/// The contexts that batches, chains, logs and manifests are signed under.
-const RESERVED_CONTEXTS: [&[u8]; 4] = [b"slh-batch", b"slh-chain", b"slh-log", b"slh-manifest"];
+/// The contexts that batches, chains, logs and manifests are signed under: each crate that signs
+/// under one of its own has it in this list.
+const RESERVED_CONTEXTS: [&[u8]; 4] = [
+    slh_batch::CONTEXT,
+    slh_chain::CONTEXT,
+    slh_log::CONTEXT,
+    slh_manifest::CONTEXT,
+];
 
 /// What names an input, in any command.
 const INPUTS: [&str; 13] = [

@@ -2,7 +2,7 @@
 use Rattle.std.proofs.Common.{◌≡◌, ◌↔◌, ℕ, Bool, true, false, List, refl, sym, subst, Option, None, Some, Result, Err, if◌then◌else◌, IsErrOf, IfErr, IfSome, inr, arith}
 use Rattle.line_serve.specs.Causes.{Rose}
 use Rattle.slh_core.specs.Parameters.{Scheme}
-use Rattle.slh_trees.specs.Refusals.{RefusedExactly}
+use Rattle.slh_core.specs.Refusals.{RefusedExactly}
 use Rattle.slh_dsa.specs.Calls.{verifying_key_refusal}
 use Rattle.slh_dsa.specs.declared.error.Error.{Error}
 use Rattle.slh_dsa.specs.declared.error.Error.TheVariants.{Length}

@@ -5,7 +5,7 @@ use Rattle.slh_batch.specs.declared.error.HeadError.{HeadError}
 use Rattle.slh_batch.specs.declared.error.ReceiptError.{ReceiptError}
 use Rattle.slh_command.specs.declared.receipts.UnderHeadError.{UnderHeadError}
 use Rattle.slh_command.specs.declared.receipts.UnderHeadError.TheVariants.{Head, Receipt}
-use Rattle.slh_trees.specs.Refusals.{first_refusal}
+use Rattle.slh_core.specs.Refusals.{first_refusal}
 
 pub head_refused : (opening : Option HeadError) (receipt : Option ReceiptError) (e : HeadError) → opening ≡ Some e
     → first_refusal (option_map Head opening ∷ option_map Receipt receipt ∷ []) ≡ Some (Head e)

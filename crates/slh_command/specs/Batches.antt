@@ -3,7 +3,7 @@
 use Rattle.std.specs.Prelude.{◌≡◌, ℕ, zero, suc, ◌*◌, ◌==◌, List, [], ◌∷◌, ◌++◌, length}
 use Rattle.std.specs.Prelude.{Option, None, Some, IfSome, if◌then◌else◌, unwrap_or}
 use Rattle.slh_core.specs.Parameters.{Scheme}
-use Rattle.slh_internal.specs.Signing.{signature_of}
+use Rattle.slh_trees.specs.Signing.{signature_of}
 use Rattle.slh_frames.specs.Frames.{frame}
 use Rattle.slh_batch.specs.Calls.{seal_refusal}
 use Rattle.slh_batch.specs.Heads.{head_of}

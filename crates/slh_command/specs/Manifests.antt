@@ -5,7 +5,7 @@ use Rattle.std.specs.Prelude.{IsErrOf, IfErr, IfSome}
 use Rattle.std.specs.Str.{bytes_eq}
 use Rattle.line_serve.specs.Causes.{Rose}
 use Rattle.slh_core.specs.Parameters.{Scheme}
-use Rattle.slh_trees.specs.Refusals.{RefusedExactly}
+use Rattle.slh_core.specs.Refusals.{RefusedExactly}
 use Rattle.slh_manifest.specs.Building.{seal_refusal}
 use Rattle.slh_manifest.specs.Checking.{NamesEntry, RefusedOrFault, check_error, entries_of}
 use Rattle.slh_manifest.specs.Checking.{has_entries, manifest_refusal}

@@ -4,7 +4,7 @@ use Rattle.std.specs.Prelude.{◌≡◌, ℕ, ◌*◌, ◌==◌, List, [], ◌�
 use Rattle.std.specs.Prelude.{Option, Some, if◌then◌else◌}
 use Rattle.std.specs.Option.{option_map}
 use Rattle.slh_core.specs.Parameters.{Scheme}
-use Rattle.slh_trees.specs.Refusals.{first_refusal}
+use Rattle.slh_core.specs.Refusals.{first_refusal}
 use Rattle.slh_batch.specs.Calls.{accept_error, open_error, receipt_under_error}
 use Rattle.slh_batch.specs.Heads.{head_in}
 use Rattle.slh_batch.specs.Receipts.{receipt_count, receipt_index}

@@ -6,10 +6,10 @@ ghost use Rattle.slh_batch.specs.declared.error.BatchError.TheVariants.{Memory};
 ghost use Rattle.slh_command.specs.Batches.{IsSealed, RefusedBy, Taken, TookAll, TookHead};
 ghost use Rattle.slh_command.specs.Batches.{TookReceipt, batch_signature, sealing_refusal};
 ghost use Rattle.slh_sets.specs.Sets.{scheme_for};
-ghost use Rattle.slh_trees.specs.Refusals.{RefusedOrNoMemory};
+ghost use Rattle.slh_core.specs.Refusals.{RefusedOrNoMemory};
 
 use slh_batch::{Batch, BatchError, Sealed};
-use slh_dsa::{ParameterSet, SigningKey};
+use slh_dsa::{SetSizes, SigningKey};
 use slh_sets::{OnSet, Set, SetSuite};
 use std::alloc::Global;
 
@@ -50,7 +50,7 @@ struct Sealing<'a, R> {
 }
 
 // Hands out the head of a signed batch.
-fn hand_out_head<P: ParameterSet, R: Receipts>(
+fn hand_out_head<P: SetSizes, R: Receipts>(
     alloc: Global,
     sealed: &Sealed<P>,
     receipts: &mut R,
@@ -70,7 +70,7 @@ fn hand_out_head<P: ParameterSet, R: Receipts>(
 }
 
 // Hands out the head of a signed batch, and each receipt.
-fn hand_out<P: ParameterSet, R: Receipts>(
+fn hand_out<P: SetSizes, R: Receipts>(
     alloc: Global,
     sealed: &Sealed<P>,
     receipts: &mut R,
@@ -93,7 +93,7 @@ fn hand_out<P: ParameterSet, R: Receipts>(
 }
 
 // Signs a batch by the bytes of a key.
-fn sealed_by<P: ParameterSet>(
+fn sealed_by<P: SetSizes>(
     alloc: Global,
     key: &[u8],
     batch: Batch,

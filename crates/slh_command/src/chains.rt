@@ -6,11 +6,11 @@ ghost use Rattle.slh_chain.specs.declared.error.LinkError.TheVariants.{Memory as
 ghost use Rattle.slh_command.specs.Chains.{chain_links, end_key, link_refusal, parts_of};
 ghost use Rattle.slh_command.specs.declared.chains.WalkError.TheVariants.{Memory};
 ghost use Rattle.slh_sets.specs.Sets.{scheme_for};
-ghost use Rattle.slh_trees.specs.Refusals.{RefusedOrNoMemory};
+ghost use Rattle.slh_core.specs.Refusals.{RefusedOrNoMemory};
 
 use line_serve::ByteString;
 use slh_chain::{Chain, ChainError, LinkError, LinkRef, Links, delegate, walk};
-use slh_dsa::{ParameterSet, SigningKey, VerifyingKey};
+use slh_dsa::{SetSizes, SigningKey, VerifyingKey};
 use slh_sets::{OnSet, Set, SetSuite};
 use std::alloc::{AllocError, Global};
 
@@ -43,7 +43,7 @@ struct Walking<'a> {
 }
 
 // The key at the end of a chain from the bytes of a root key.
-fn last_key_by<P: ParameterSet>(
+fn last_key_by<P: SetSizes>(
     alloc: Global,
     root: &[u8],
     chain: &[u8],
@@ -89,10 +89,7 @@ pub struct LinkText<'a> {
 }
 
 // A link of a chain that was walked, with its key as bytes.
-fn text_of<'a, P: ParameterSet>(
-    alloc: Global,
-    link: LinkRef<'a, P>,
-) -> Result<LinkText<'a>, AllocError>
+fn text_of<'a, P: SetSizes>(alloc: Global, link: LinkRef<'a, P>) -> Result<LinkText<'a>, AllocError>
     ensures { let link = link.entry in IfOk result (λ text. parts_of text
         ≡ record { depth = link.depth; name = link.name.now; subject = link.subject }) }
 {
@@ -104,7 +101,7 @@ fn text_of<'a, P: ParameterSet>(
 }
 
 // The links of a chain that was walked.
-fn texts_of<'a, P: ParameterSet>(
+fn texts_of<'a, P: SetSizes>(
     alloc: Global,
     links: Links<'a, P>,
 ) -> Result<Vec<LinkText<'a>>, AllocError>
@@ -121,7 +118,7 @@ fn texts_of<'a, P: ParameterSet>(
 }
 
 // The links of a chain from the bytes of a root key.
-fn links_by<'a, P: ParameterSet>(
+fn links_by<'a, P: SetSizes>(
     alloc: Global,
     root: &[u8],
     chain: &'a [u8],
@@ -185,7 +182,7 @@ struct Delegating<'a> {
 }
 
 // Makes a link by the bytes of two keys.
-fn link_by<P: ParameterSet>(
+fn link_by<P: SetSizes>(
     alloc: Global,
     key: &[u8],
     name: &[u8],

@@ -9,9 +9,9 @@ ghost use Rattle.slh_manifest.specs.Building.{manifest_of};
 ghost use Rattle.slh_manifest.specs.Entries.{entry_copied};
 ghost use Rattle.slh_manifest.specs.declared.error.BuildError.TheVariants.{Memory};
 ghost use Rattle.slh_sets.specs.Sets.{scheme_for};
-ghost use Rattle.slh_trees.specs.Refusals.{RefusedOrNoMemory};
+ghost use Rattle.slh_core.specs.Refusals.{RefusedOrNoMemory};
 
-use slh_dsa::{ParameterSet, SigningKey, VerifyingKey};
+use slh_dsa::{SetSizes, SigningKey, VerifyingKey};
 use slh_manifest::{BuildError, Builder, CheckError, EntryRef, Manifest, Store, check};
 use slh_sets::{OnSet, Set, SetSuite};
 use std::alloc::Global;
@@ -26,7 +26,7 @@ struct Sealing<'a> {
 }
 
 // Signs entries by the bytes of a key.
-fn seal_by<P: ParameterSet>(
+fn seal_by<P: SetSizes>(
     alloc: Global,
     key: &[u8],
     entries: Builder,
@@ -103,7 +103,7 @@ struct Checking<'a, T> {
 }
 
 // Checks a manifest over a store by the bytes of a key.
-fn check_by<P: ParameterSet, T: Store>(key: &[u8], manifest: &[u8], store: T) -> Checked<T>
+fn check_by<P: SetSizes, T: Store>(key: &[u8], manifest: &[u8], store: T) -> Checked<T>
     ensures { IsChecked P.scheme key.now manifest.now (T.files store) (T.faults store)
         (T.faults result.store) result.answer }
 {

@@ -2,10 +2,10 @@
 ghost use Rattle.std.specs.Prelude.{IfOk};
 ghost use Rattle.slh_command.specs.Receipts.{IsPlaceOf, receipt_refusal, under_head_refusal};
 ghost use Rattle.slh_sets.specs.Sets.{scheme_for};
-ghost use Rattle.slh_trees.specs.Refusals.{RefusedExactly};
+ghost use Rattle.slh_core.specs.Refusals.{RefusedExactly};
 
 use slh_batch::{Head, HeadError, Place, ReceiptError, accept_receipt_under, accepted_place};
-use slh_dsa::{ParameterSet, VerifyingKey};
+use slh_dsa::{SetSizes, VerifyingKey};
 use slh_sets::{OnSet, Set, SetSuite};
 
 // The receipt of a message.
@@ -17,11 +17,7 @@ struct Accepting<'a> {
 }
 
 // Checks a receipt by the bytes of a key.
-fn accept_by<P: ParameterSet>(
-    key: &[u8],
-    message: &[u8],
-    receipt: &[u8],
-) -> Result<Place, ReceiptError>
+fn accept_by<P: SetSizes>(key: &[u8], message: &[u8], receipt: &[u8]) -> Result<Place, ReceiptError>
     ensures refusal { RefusedExactly result
         (receipt_refusal P.scheme key.now message.now receipt.now) }
     ensures place { IfOk result (IsPlaceOf receipt.now) }
@@ -84,7 +80,7 @@ struct AcceptingUnder<'a> {
 }
 
 // Checks a receipt by the bytes of a key and of a head.
-fn accept_under_by<P: ParameterSet>(
+fn accept_under_by<P: SetSizes>(
     key: &[u8],
     head: &[u8],
     message: &[u8],

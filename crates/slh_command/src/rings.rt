@@ -10,7 +10,7 @@ ghost use Rattle.slh_ring.specs.declared.error.RestoreError.TheVariants.{Memory}
 ghost use Rattle.slh_sets.specs.Sets.{name_of, scheme_for};
 
 use line_serve::ByteString;
-use slh_dsa::ParameterSet;
+use slh_dsa::SetSizes;
 use slh_ring::{Path, RestoreError, Ring, RingError, derive};
 use slh_sets::{OnSet, Set, SetSuite};
 use std::alloc::{AllocError, Global};
@@ -27,11 +27,7 @@ struct Deriving<'a> {
 }
 
 // Makes a key.
-fn key_by<P: ParameterSet>(
-    alloc: Global,
-    master: &[u8],
-    path: &Path,
-) -> Result<ByteString, AllocError>
+fn key_by<P: SetSizes>(alloc: Global, master: &[u8], path: &Path) -> Result<ByteString, AllocError>
     ensures { IfOk result
         (λ key. key ≡ ring_key P.scheme P.set_name master.now path.now) }
 {
@@ -97,7 +93,7 @@ struct Recording<'a, 't> {
 }
 
 // Adds the path of a text to a ring.
-fn add_text<P: ParameterSet>(ring: &mut Ring<P>, i: usize, text: &str) -> Result<(), RecordError>
+fn add_text<P: SetSizes>(ring: &mut Ring<P>, i: usize, text: &str) -> Result<(), RecordError>
     ensures ok { OnOk result (with_text i text.now ring.old ≡ Ok ring.new) }
     ensures error { IfErr result (λ e. (with_text i text.now ring.old ≡ Err e)
         ⊎ (e ≡ NoMemory)) }
@@ -114,7 +110,7 @@ fn add_text<P: ParameterSet>(ring: &mut Ring<P>, i: usize, text: &str) -> Result
 }
 
 // The ring of the paths of some texts.
-fn ring_of<P: ParameterSet>(alloc: Global, texts: &[&str]) -> Result<Ring<P>, RecordError>
+fn ring_of<P: SetSizes>(alloc: Global, texts: &[&str]) -> Result<Ring<P>, RecordError>
     ensures ring { IfOk result (λ ring. ring_from 0 [] (contents texts.now) ≡ Ok ring) }
     ensures error { IfErr result
         (λ e. (ring_from 0 [] (contents texts.now) ≡ Err e) ⊎ (e ≡ NoMemory)) }
@@ -128,7 +124,7 @@ fn ring_of<P: ParameterSet>(alloc: Global, texts: &[&str]) -> Result<Ring<P>, Re
 }
 
 // The record of the ring of some paths, of a set that is known.
-fn record_in<P: ParameterSet>(
+fn record_in<P: SetSizes>(
     alloc: Global,
     master: &[u8],
     texts: &[&str],
@@ -193,7 +189,7 @@ struct Restoring<'a> {
 }
 
 // The paths of a ring, a line for each.
-fn paths_text<P: ParameterSet>(alloc: Global, ring: &Ring<P>) -> Result<ByteString, AllocError>
+fn paths_text<P: SetSizes>(alloc: Global, ring: &Ring<P>) -> Result<ByteString, AllocError>
     ensures { IfOk result (λ text. text ≡ spec_paths_text ring.now) }
 {
     let mut text = ByteString::new(alloc);
@@ -208,7 +204,7 @@ fn paths_text<P: ParameterSet>(alloc: Global, ring: &Ring<P>) -> Result<ByteStri
 }
 
 // The paths of a record of a set that is known.
-fn restored_in<P: ParameterSet>(
+fn restored_in<P: SetSizes>(
     alloc: Global,
     master: &[u8],
     recorded: &[u8],

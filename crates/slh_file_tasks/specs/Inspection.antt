@@ -7,7 +7,7 @@ use Rattle.std.specs.Str.{bytes_eq}
 use Rattle.line_serve.specs.Texts.{hex_line}
 use Rattle.slh_sets.specs.Sets.{all_sets, name_of, scheme_for}
 use Rattle.slh_sets.specs.declared.set.Set.{Set}
-use Rattle.slh_internal.specs.Checking.{signature_size}
+use Rattle.slh_trees.specs.Checking.{signature_size}
 use Rattle.slh_files.specs.Jobs.{made_of}
 use Rattle.slh_files.specs.Lines.{squeezed}
 use Rattle.slh_files.specs.Reading.{key_in}

@@ -1,8 +1,8 @@
 //! `slh sign` and `slh verify`.
-ghost use Rattle.std.specs.Prelude.{◌≡◌, IfOk, Ok, OnOk};
-ghost use Rattle.slh_audit.specs.declared.evidence.Verdict.TheVariants.{Genuine};
+ghost use Rattle.std.specs.Prelude.{IfOk};
+ghost use Rattle.std.specs.Option.{option_copied};
+ghost use Rattle.slh_file_tasks.specs.Signatures.{IsAudited, IsSignatureOf};
 ghost use Rattle.slh_files.specs.Jobs.{verdict_by};
-ghost use Rattle.slh_readers.specs.Answers.{IsAnswer};
 ghost use Rattle.slh_jobs.specs.Judgement.{judgement};
 ghost use Rattle.slh_jobs.specs.declared.job.Job.TheVariants.{Audit};
 ghost use Rattle.slh_sets.specs.Sets.{scheme_for};
@@ -116,7 +116,11 @@ fn signed<'a, R: Read + Drop, S: Read + Drop>(
     terms: &Terms<'_, '_>,
     first: R,
     second: S,
-) -> Result<ByteString, Failure<'a>> {
+) -> Result<ByteString, Failure<'a>>
+    ensures { let t = terms.now in IfOk result (λ signature.
+        IsSignatureOf (scheme_for t.key.now.set) t.mode t.key.now.bytes t.context.now
+        (option_copied t.opt_rand) (R.remaining first) (S.remaining second) signature) }
+{
     let (key, context, opt_rand) = (terms.key, terms.context, terms.opt_rand);
     let signed = match terms.mode {
         Mode::Pure => sign_twice(alloc, key, context, opt_rand, first, second),
@@ -146,10 +150,9 @@ fn audited<R: Read + Drop>(
     reader: R,
     signature: ByteString,
 ) -> Result<ByteString, Doubt>
-    ensures given { IfOk result (λ given. given ≡ signature) }
-    ensures genuine { OnOk result (IsAnswer (R.remaining reader) (λ m. verdict_by
-        (judgement (scheme_for terms.now.key.now.set) (Audit terms.now.mode
-        terms.now.key.now.bytes terms.now.context.now m signature))) (Ok Genuine)) }
+    ensures { let t = terms.now in IsAudited (R.remaining reader) (λ m. verdict_by
+        (judgement (scheme_for t.key.now.set) (Audit t.mode t.key.now.bytes t.context.now m
+        signature))) signature result }
 {
     let (key, mode, context) = (terms.key, terms.mode, terms.context);
     match slh_readers::audit(key, mode, context, signature.as_slice(), reader) {

@@ -25,11 +25,11 @@ use Rattle.slh_jobs.specs.declared.job.Answer.TheVariants.{Verdict as VerdictAns
 use Rattle.slh_jobs.specs.declared.job.Error.{Error}
 use Rattle.slh_jobs.specs.declared.job.Error.TheVariants.{KeyMismatch, Memory}
 use Rattle.slh_jobs.specs.declared.job.Job.TheVariants.{Audit, Sign}
-use Rattle.slh_internal.proofs.Signatures.{checked_root-signature, length-digest_signature}
-use Rattle.slh_internal.specs.Checking.{checked_root, signature_size}
-use Rattle.slh_internal.specs.Keys.{top_root}
-use Rattle.slh_internal.specs.Signing.{digest_signature, signature_of, signature_with}
-use Rattle.slh_trees.specs.Refusals.{context_refusal, first_refusal, message_refusal}
+use Rattle.slh_trees.proofs.Signatures.{checked_root-signature, length-digest_signature}
+use Rattle.slh_trees.specs.Checking.{checked_root, signature_size}
+use Rattle.slh_trees.specs.Keys.{top_root}
+use Rattle.slh_trees.specs.Signing.{digest_signature, signature_of, signature_with}
+use Rattle.slh_core.specs.Refusals.{context_refusal, first_refusal, message_refusal}
 use Rattle.slh_dsa.specs.declared.error.Error.TheVariants.{ContextTooLong, MessageTooLong}
 use Rattle.slh_files.specs.Jobs.{MadeIsGenuine, has_true_root}
 

@@ -8,3 +8,4 @@ pub mod Genuine
 pub mod ReadBack
 pub mod OwnKeys
 pub mod WordsBack
+mod Following

@@ -10,9 +10,9 @@ use Rattle.slh_core.specs.Suite.{HasLength, seeded}
 use Rattle.slh_core.specs.Wots.{wots_pk}
 use Rattle.slh_sets.specs.Sets.{scheme_for}
 use Rattle.slh_sets.specs.declared.set.Set.{Set}
-use Rattle.slh_trees.proofs.Climbs.{length-merkle}
-use Rattle.slh_internal.specs.Keys.{top_root}
-use Rattle.slh_trees.specs.Xmss.{tree_place}
+use Rattle.slh_merkle.proofs.Climbs.{length-merkle}
+use Rattle.slh_trees.specs.Keys.{top_root}
+use Rattle.slh_merkle.specs.Xmss.{tree_place}
 use Rattle.slh_files.proofs.RoundTrip.{written_is_read}
 use Rattle.slh_files.specs.Jobs.{made_of, own_key}
 use Rattle.slh_files.specs.Made.{MadeIsOwn, MadeIsRead, made_by}

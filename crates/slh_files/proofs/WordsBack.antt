@@ -11,8 +11,8 @@ use Rattle.slh_jobs.specs.EvidenceNumbers.{HasNumbers}
 use Rattle.slh_jobs.specs.EvidenceWords.{evidence_in, evidence_text, spaced}
 use Rattle.slh_jobs.proofs.EvidenceBack.{evidence_back}
 use Rattle.slh_files.specs.Lines.{is_blank, words_of}
-use Rattle.slh_evidence.specs.declared.evidence.Evidence.{Evidence}
-use Rattle.slh_evidence.specs.declared.evidence.Evidence.TheVariants.{ForsNode, ForsRoots, ChainStep, Leaf, TreeNode, Early}
+use Rattle.slh_audit.specs.declared.evidence.Evidence.{Evidence}
+use Rattle.slh_audit.specs.declared.evidence.Evidence.TheVariants.{ForsNode, ForsRoots, ChainStep, Leaf, TreeNode, Early}
 
 -- spaces, and bytes above them
 abbrev ArePlain : List ℕ → Type 0

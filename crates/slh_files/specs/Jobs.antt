@@ -17,7 +17,7 @@ use Rattle.slh_jobs.specs.declared.job.Error.{Error}
 use Rattle.slh_jobs.specs.declared.job.Error.TheVariants.{Invalid, KeyMismatch}
 use Rattle.slh_jobs.specs.declared.job.Job.{Job}
 use Rattle.slh_jobs.specs.declared.job.Job.TheVariants.{Audit, Sign}
-use Rattle.slh_internal.specs.Keys.{signing_key_bytes, top_root}
+use Rattle.slh_trees.specs.Keys.{signing_key_bytes, top_root}
 use Rattle.slh_files.specs.declared.error.KeyFileError.{KeyFileError}
 use Rattle.slh_files.specs.declared.error.KeyFileError.TheVariants.{Root}
 use Rattle.slh_files.specs.declared.key.Key.{Key}

@@ -1,6 +1,6 @@
 -- A key as a line `SET KEY`.
-use Rattle.std.specs.Prelude.{◌==◌, ℕ, List, Bool, not, ◌||◌, filter, length}
-use Rattle.std.specs.Prelude.{Option, None, Some, Result, Ok, Err, if◌then◌else◌}
+use Rattle.std.specs.Prelude.{◌==◌, ℕ, List, [], ◌∷◌, Bool, false, not, ◌||◌, filter, length}
+use Rattle.std.specs.Prelude.{Option, None, Some, Result, Ok, Err, is_ok, if◌then◌else◌}
 use Rattle.std.specs.List.{slice_split}
 use Rattle.line_serve.specs.Fields.{field_at, hex_value}
 use Rattle.slh_sets.specs.Sets.{set_named}
@@ -45,3 +45,12 @@ line_key kind text =
     if length words == 0 then Err Empty
     else if length words == 2 then set_key kind (field_at words 1) (set_named (field_at words 0))
     else Err NoKey
+
+-- two words are a set's name and a key of it
+abbrev pub is_line : Kind → List ℕ → List ℕ → Bool
+is_line kind name digits = is_ok (set_key kind digits (set_named name))
+
+-- a word and the one behind it are so, of those that have one
+abbrev pub has_line : Kind → List (List ℕ) → Bool
+has_line kind [] = false
+has_line kind (name ∷ rest) = is_line kind name (field_at rest 0) || has_line kind rest

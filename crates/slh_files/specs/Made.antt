@@ -2,7 +2,7 @@
 use Rattle.std.specs.Prelude.{◌≡◌, ◌≤◌, ℕ, ◌*◌, List, length, take, drop, Ok}
 use Rattle.base64.specs.GeneralPurpose.{IsBytes}
 use Rattle.slh_core.specs.Parameters.{Scheme}
-use Rattle.slh_internal.specs.Keys.{signing_key_bytes}
+use Rattle.slh_trees.specs.Keys.{signing_key_bytes}
 use Rattle.slh_sets.specs.declared.set.Set.{Set}
 use Rattle.slh_files.specs.Heads.{seed_len}
 use Rattle.slh_files.specs.Jobs.{made_of, own_key}

@@ -6,7 +6,7 @@ ghost use Rattle.base64.specs.GeneralPurpose.{IsBytes, encode_of};
 ghost use Rattle.slh_files.specs.Blocks.{block_in};
 ghost use Rattle.slh_files.specs.Heads.{der_of, key_len};
 ghost use Rattle.slh_files.specs.Jobs.{MadeIsGenuine};
-ghost use Rattle.slh_evidence.specs.declared.evidence.Evidence.{Evidence};
+ghost use Rattle.slh_audit.specs.declared.evidence.Evidence.{Evidence};
 ghost use Rattle.slh_files.specs.Lines.{squeezed, words_of};
 ghost use Rattle.slh_files.specs.Made.{MadeIsOwn, MadeIsRead};
 ghost use Rattle.slh_files.specs.Reading.{key_in, key_with, pem_key};
@@ -18,7 +18,7 @@ ghost use Rattle.slh_jobs.specs.EvidenceWords.{evidence_in, evidence_text};
 ghost use Rattle.slh_sets.specs.Sets.{scheme_for};
 ghost use Rattle.slh_sets.specs.declared.set.Set.{Set as KeySet};
 
-use slh_dsa::ParameterSet;
+use slh_dsa::SetSizes;
 use slh_sets::{OnSet, Set, SetSuite};
 
 /// The text of each key's file is read as this key and no other, for each kind and set.
@@ -36,7 +36,7 @@ pub fn read_is_written()
         → squeezed body ≡ encode_of standard (der_of kind key.set key.bytes) }
 {}
 
-fn made_is_genuine_in<P: ParameterSet>()
+fn made_is_genuine_in<P: SetSizes>()
     ensures { MadeIsGenuine P.scheme }
 {}
 
@@ -61,7 +61,7 @@ pub fn made_is_genuine(set: Set)
     set.run(MadeGenuine);
 }
 
-fn made_is_own_in<P: ParameterSet>()
+fn made_is_own_in<P: SetSizes>()
     ensures { MadeIsOwn P.scheme }
 {}
 

@@ -43,6 +43,7 @@ mod writing;
 pub use error::KeyFileError;
 pub use evidence::evidence_of;
 pub use key::{Key, Kind};
+pub use lines::has_line;
 pub use making::{has_own_root, made_key, verifying_key};
 pub use outcome::Outcome;
 pub use readers::gather;

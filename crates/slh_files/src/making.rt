@@ -9,13 +9,13 @@ ghost use Rattle.slh_jobs.specs.declared.job.Error.TheVariants.{Length, Memory};
 use crate::key::Key;
 use hybrid_array::ArraySize;
 use slh_core::params::chain_sizes;
-use slh_dsa::{ParameterSet, SigningKey};
+use slh_dsa::{SetSizes, SigningKey};
 use slh_jobs::{ByteString, Error};
 use slh_sets::{OnSet, Set, SetSuite};
 use std::alloc::{AllocError, Global};
 
 // The signing key of the first 3n bytes. `Length`: there are fewer.
-fn key_by<P: ParameterSet>(alloc: Global, seeds: &[u8]) -> Result<ByteString, Error>
+fn key_by<P: SetSizes>(alloc: Global, seeds: &[u8]) -> Result<ByteString, Error>
     ensures value { IfOk result (λ key. key ≡ made_by P.scheme seeds.now) }
     ensures error { 3 * P.N.USIZE ≤ length seeds.now → IfErr result (λ e. e ≡ Memory) }
 {

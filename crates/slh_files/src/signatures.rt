@@ -4,7 +4,7 @@ ghost use Rattle.std.specs.List.{find};
 ghost use Rattle.slh_files.specs.Lines.{squeezed};
 ghost use Rattle.slh_files.specs.Signatures.{digits_value, signature_in};
 ghost use Rattle.slh_sets.specs.Sets.{all_sets, scheme_for};
-ghost use Rattle.slh_internal.specs.Checking.{signature_size};
+ghost use Rattle.slh_trees.specs.Checking.{signature_size};
 
 use crate::reading::squeeze;
 use line_serve::hex_field;

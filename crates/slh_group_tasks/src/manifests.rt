@@ -21,7 +21,6 @@ fn cause_of(error: BuildError) -> Cause {
         BuildError::Missing => Cause::Gone,
         BuildError::TooLarge => Cause::TooLarge,
         BuildError::Empty => Cause::NoFiles,
-        BuildError::Signature => Cause::SignatureLength,
         BuildError::Randomizer => Cause::Randomizer,
         BuildError::Memory => Cause::Memory,
     }

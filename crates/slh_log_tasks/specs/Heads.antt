@@ -11,7 +11,7 @@ use Rattle.slh_log.specs.declared.error.OpenError.TheVariants.{Unsigned}
 use Rattle.slh_log.specs.declared.note.Checkpoint.{Checkpoint}
 use Rattle.slh_log_tasks.specs.declared.heads.SignHeadError.{SignHeadError}
 use Rattle.slh_log_tasks.specs.declared.heads.SignHeadError.TheVariants.{Head, Key}
-use Rattle.slh_trees.specs.Refusals.{RefusedExactly}
+use Rattle.slh_core.specs.Refusals.{RefusedExactly}
 
 -- why a checkpoint isn't opened; bytes that are no key of the set signed nothing
 abbrev pub head_refusal : Scheme → List ℕ → List ℕ → List ℕ → List ℕ → Option OpenError

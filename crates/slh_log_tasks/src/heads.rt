@@ -4,9 +4,9 @@ ghost use Rattle.std.specs.Option.{option_copied};
 ghost use Rattle.slh_log.specs.Texts.{signed_checkpoint};
 ghost use Rattle.slh_log_tasks.specs.Heads.{IsHeadBy, no_memory, sign_refusal};
 ghost use Rattle.slh_sets.specs.Sets.{name_of, scheme_for};
-ghost use Rattle.slh_trees.specs.Refusals.{RefusedOrNoMemory};
+ghost use Rattle.slh_core.specs.Refusals.{RefusedOrNoMemory};
 
-use slh_dsa::{ParameterSet, SigningKey, VerifyingKey};
+use slh_dsa::{SetSizes, SigningKey, VerifyingKey};
 use slh_log::{Checkpoint, CheckpointError, OpenError, checkpoint, open};
 use slh_sets::{OnSet, Set, SetSuite};
 use std::alloc::Global;
@@ -20,7 +20,7 @@ struct Opening<'a> {
 }
 
 // Opens a checkpoint by the bytes of a key.
-fn open_by<P: ParameterSet>(key: &[u8], origin: &str, bytes: &[u8]) -> Result<Checkpoint, OpenError>
+fn open_by<P: SetSizes>(key: &[u8], origin: &str, bytes: &[u8]) -> Result<Checkpoint, OpenError>
     ensures { IsHeadBy P.scheme P.set_name key.now origin.now bytes.now result }
 {
     let Ok(key) = VerifyingKey::<P>::try_from(key) else {
@@ -68,7 +68,7 @@ struct Signing<'a> {
 }
 
 // Signs a head by the bytes of a key.
-fn sign_by<P: ParameterSet>(
+fn sign_by<P: SetSizes>(
     alloc: Global,
     key: &[u8],
     origin: &str,

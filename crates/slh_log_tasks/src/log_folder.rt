@@ -1,6 +1,7 @@
 //! The files of a log below a folder.
 use clap::ArgMatches;
 use log_tiles::{Bundle, MAX_ENTRY_LEN, NameError, Tile, TileSource};
+use merkle_tree::{DIGEST_LEN, Sha256};
 use slh_arguments::required;
 use slh_jobs::ByteString;
 use slh_log::{Checkpoint, read_unverified};
@@ -153,15 +154,20 @@ impl<'s, 'a> LogFolder<'s, 'a> {
     }
 }
 
-impl<'s, 'a> TileSource for LogFolder<'s, 'a> {
-    ghost use Rattle.std.specs.Prelude.{false};
+impl<'s, 'a> TileSource<Sha256> for LogFolder<'s, 'a> {
+    ghost use Rattle.std.specs.Prelude.{[], false};
+
+    ghost tells = { false };
 
     ghost has = { λ _ _. false };
 
-    fn read(&self, tile: Tile, out: &mut [u8]) -> bool {
+    ghost digest = { λ _ _. [] };
+
+    fn read(&self, tile: Tile, out: &mut [[u8; DIGEST_LEN]]) -> bool {
         let Some(bytes) = self.bytes_of(tile) else {
             return false;
         };
+        let out = out.as_flattened_mut();
         if bytes.len() != out.len() {
             return false;
         }

@@ -1,7 +1,7 @@
 -- What the files begin with that are never replaced.
 use Rattle.std.specs.Prelude.{◌==◌, ◌||◌, ℕ, Bool, false, List, Option, None, Some, codes, length, not}
 use Rattle.std.specs.Prelude.{if◌then◌else◌, is_ok, is_some, nat_lt}
-use Rattle.slh_files.specs.Lines.{squeezed}
+use Rattle.slh_files.specs.Lines.{has_line, squeezed, words_of}
 use Rattle.slh_files.specs.Places.{first_place}
 use Rattle.slh_files.specs.Reading.{key_in}
 use Rattle.slh_files.specs.Signatures.{digits_value}
@@ -24,6 +24,12 @@ abbrev pub is_master : List ℕ → Bool
 is_master bytes =
     if nat_lt 4096 (length bytes) then false else has_bytes (digits_value (squeezed bytes))
 
--- a secret key in PEM, a line SET KEY of a signing key, or a master
+-- a word and the one behind it are a line SET KEY of a signing key, whatever stands around them
+abbrev pub holds_line : List ℕ → Bool
+holds_line bytes = has_line Signing (words_of bytes)
+
+-- a secret key in PEM, lines SET KEY of signing keys, or a master
 unfoldable pub is_secret : List ℕ → Bool
-is_secret bytes = is_some (first_place secret_label bytes) || (is_key bytes || is_master bytes)
+is_secret bytes =
+    is_some (first_place secret_label bytes)
+    || (is_key bytes || (holds_line bytes || is_master bytes))

@@ -1,5 +1,7 @@
 //! Outputs on the system: each file is written whole or not at all, and no secret is replaced.
-ghost use Rattle.std.specs.Prelude.{◌≢◌, IfOk, string_bytes};
+ghost use Rattle.std.specs.Prelude.{◌≡◌, ◌≢◌, ◌↔◌, ◌≤◌, IfOk, IsOk, Ok, string_bytes};
+ghost use Rattle.whole_files.specs.Causes.{RoseBy};
+ghost use Rattle.whole_files.specs.declared.error.Written.TheVariants.{Settled};
 
 use crate::cause::Cause;
 use crate::failure::Failure;
@@ -107,17 +109,29 @@ fn write_in_place(rt: &HostRuntime, path: &str, bytes: &[u8]) -> io::Result<()> 
 struct HostFronts<'r> {
     // why some couldn't be read: the last ones that couldn't
     fault: Option<io::Error>,
+    faults: u64,
     rt: &'r HostRuntime,
 }
 
+impl<'r> HostFronts<'r> {
+    // Counts a look that failed.
+    fn fail(&mut self, error: io::Error) -> Failed
+        ensures rose { RoseBy 1 self.old.faults self.new.faults }
+        ensures later { self.old.faults ≤ self.new.faults }
+    {
+        self.fault = Some(error);
+        self.faults = self.faults.saturating_add(1);
+        Failed
+    }
+}
+
 impl<'r> Fronts<HostFiles<'r>> for HostFronts<'r> {
+    ghost faults = { λ s. s.faults };
+
     fn front(&mut self, _files: &HostFiles<'r>, path: &str) -> Result<ByteString, Failed> {
         match read_front(self.rt, path, FRONT) {
             Ok(front) => Ok(front),
-            Err(error) => {
-                self.fault = Some(error);
-                Err(Failed)
-            }
+            Err(error) => Err(self.fail(error)),
         }
     }
 }
@@ -131,7 +145,11 @@ fn put_at<'a>(
 ) -> Result<(), Failure<'a>> {
     let part = part_of(rt, path)?;
     let mut files = HostFiles::new(rt);
-    let mut fronts = HostFronts { fault: None, rt };
+    let mut fronts = HostFronts {
+        fault: None,
+        faults: 0,
+        rt,
+    };
     let (alloc, part) = (rt.alloc(), part.as_str());
     match put_whole(alloc, &mut files, &mut fronts, path, part, bytes) {
         Ok(written) => told(name, Ok(written), files.fault.take()),
@@ -205,7 +223,9 @@ fn told<'a>(
     name: (&'a str, &'static str),
     written: Result<Written, WriteError>,
     fault: Option<io::Error>,
-) -> Result<(), Failure<'a>> {
+) -> Result<(), Failure<'a>>
+    ensures { IsOk result ↔ (written ≡ Ok Settled) }
+{
     let (path, end) = name;
     let fault = known(fault);
     match written {

@@ -4,7 +4,7 @@ ghost use Rattle.slh_files.specs.Places.{first_place};
 ghost use Rattle.slh_paths.specs.Secrets.{is_key as spec_is_key, is_master as spec_is_master};
 ghost use Rattle.slh_paths.specs.Secrets.{is_secret};
 
-use slh_files::{KeyFileError, Kind, digits_of, read_key};
+use slh_files::{KeyFileError, Kind, digits_of, has_line, read_key};
 use std::alloc::{AllocError, Global};
 
 /// How many of a file's first bytes are looked into.
@@ -16,8 +16,8 @@ const MOST_MASTER: usize = 1 << 12;
 // What stands in each PEM label of a secret key, whatever its kind and form.
 const LABEL: &[u8] = b"PRIVATE KEY";
 
-/// Whether bytes may be a secret key in PEM, a line `SET KEY` of a signing key, or a master secret:
-/// up to 4096 bytes of nothing but hexadecimal digits and blanks.
+/// Whether bytes may be a secret key in PEM, have a line `SET KEY` of a signing key among other
+/// words, or be a master secret: up to 4096 bytes of nothing but hexadecimal digits and blanks.
 #[tactic(auto, unfolding(crate::specs::Secrets::is_secret))]
 pub(crate) fn holds_secret(alloc: Global, bytes: &[u8]) -> Result<bool, AllocError>
     ensures { IfOk result (λ is. is ≡ is_secret bytes.now) }
@@ -26,6 +26,9 @@ pub(crate) fn holds_secret(alloc: Global, bytes: &[u8]) -> Result<bool, AllocErr
         return Ok(true);
     }
     if is_key(alloc, bytes)? {
+        return Ok(true);
+    }
+    if has_line(alloc, Kind::Signing, bytes)? {
         return Ok(true);
     }
     is_master(alloc, bytes)

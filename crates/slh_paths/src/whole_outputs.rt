@@ -1,8 +1,8 @@
 //! Outputs that are written whole, over any file system. What stands at the place decides.
-ghost use Rattle.std.specs.Prelude.{◌≡◌, ◌≢◌, ◌≤◌, IfErr, IfOk, IsErrOf, IsTrue};
+ghost use Rattle.std.specs.Prelude.{◌≡◌, ◌≢◌, ◌≤◌, ℕ, IfErr, IfOk, IsErrOf, IsTrue};
 ghost use Rattle.slh_paths.specs.Outputs.{IsBefore, IsFront, IsPutting, IsRegular, Puts, Spares};
-ghost use Rattle.slh_paths.specs.declared.whole_outputs.PutError.TheVariants.{Write};
-ghost use Rattle.whole_files.specs.Causes.{RoseBy};
+ghost use Rattle.slh_paths.specs.declared.whole_outputs.PutError.TheVariants.{Unread, Write};
+ghost use Rattle.whole_files.specs.Causes.{HasCause, RoseBy};
 ghost use Rattle.whole_files.specs.Files.{Files, Same};
 ghost use Rattle.whole_files.specs.declared.error.WriteError.TheVariants.{Failed as NothingLeft, Left};
 ghost use Rattle.whole_files.specs.declared.error.Written.TheVariants.{Settled, Unsettled};
@@ -14,11 +14,15 @@ use whole_files::{Failed, FileSystem, Kind, WriteError, Written, write_whole};
 
 /// The first bytes of files, which a [`FileSystem`] doesn't tell.
 pub trait Fronts<F: FileSystem> {
+    /// How many looks failed, up to 2^64 - 1.
+    ghost faults: { Self → ℕ };
+
     /// The first 2^16 bytes of the regular file at a path, or all of them. What is there can't be
     /// read, or there is no memory: `Failed`.
     fn front(&mut self, files: &F, path: &str) -> Result<ByteString, Failed>
-        ensures { IsTrue F.tells
-            → IfOk result (λ front. IsFront (F.files files.now path.now) front) };
+        ensures front { IsTrue F.tells
+            → IfOk result (λ front. IsFront (F.files files.now path.now) front) }
+        ensures cause { HasCause (faults self.old) (faults self.new) result };
 }
 
 /// Why an output isn't written.
@@ -44,6 +48,9 @@ fn check_front<F: FileSystem, R: Fronts<F>>(
     requires { IsTrue F.tells → IsRegular (F.files files.now path.now) }
     ensures spares { IsTrue F.tells → Spares (F.files files.now path.now) result }
     ensures before { IfErr result IsBefore }
+    ensures unread { IsErrOf result Unread
+        → RoseBy 1 (R.faults fronts.old) (R.faults fronts.new) }
+    ensures looks { R.faults fronts.old ≤ R.faults fronts.new }
 {
     let Ok(front) = fronts.front(files, path) else {
         return Err(PutError::Unread);
@@ -68,6 +75,9 @@ fn check_secret<F: FileSystem, R: Fronts<F>>(
         → RoseBy 1 (F.faults files.old) (F.faults files.new) }
     ensures left { IsErrOf result (Write Left) → ⊥ }
     ensures later { F.faults files.old ≤ F.faults files.new }
+    ensures unread { IsErrOf result Unread
+        → RoseBy 1 (R.faults fronts.old) (R.faults fronts.new) }
+    ensures looks { R.faults fronts.old ≤ R.faults fronts.new }
 {
     match files.stat(path) {
         Err(_) => Err(PutError::Write(WriteError::Failed)),
@@ -110,6 +120,11 @@ pub fn put_whole<F: FileSystem, R: Fronts<F>>(
     ensures left { IsErrOf result (Write Left)
         → RoseBy 2 (F.faults files.old) (F.faults files.new) }
     ensures later { F.faults files.old ≤ F.faults files.new }
+
+    // `Unread` is told only where a look failed.
+    ensures unread { IsErrOf result Unread
+        → RoseBy 1 (R.faults fronts.old) (R.faults fronts.new) }
+    ensures looks { R.faults fronts.old ≤ R.faults fronts.new }
 {
     check_secret(alloc, files, fronts, path)?;
     match write_whole(files, path, part, bytes) {

@@ -8,7 +8,7 @@ use Rattle.slh_readers.specs.declared.error.ReadError.{ReadError}
 use Rattle.slh_readers.specs.declared.error.ReadError.TheVariants.{Read, Refused, Changed}
 use Rattle.slh_jobs.specs.declared.job.Error.{Error}
 use Rattle.slh_jobs.specs.declared.job.Error.TheVariants.{MessageTooLong}
-use Rattle.slh_trees.specs.Refusals.{message_refusal}
+use Rattle.slh_core.specs.Refusals.{message_refusal}
 
 -- some bytes are all that is left
 pub left_is_all : (left : Option (List ℕ)) → IsAll left (unwrap_or left [])

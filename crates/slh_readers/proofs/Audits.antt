@@ -4,11 +4,11 @@ use Rattle.std.specs.Prelude.{IsErrAnd, unwrap_or}
 use Rattle.std.specs.Bool.{◌==◌}
 use Rattle.std.proofs.lemmas.List.{drop-drop}
 use Rattle.slh_audit.proofs.Answered.{by_digest}
-use Rattle.slh_evidence.specs.Evidence.{dispute_of, shows}
+use Rattle.slh_audit.specs.Evidence.{dispute_of, shows}
 use Rattle.slh_audit.specs.Verdicts.{digest_audit, digest_audit_answer, digest_check_answer, digest_of, length_refusals}
 use Rattle.slh_audit.specs.declared.evidence.AuditError.{AuditError}
 use Rattle.slh_audit.specs.declared.evidence.AuditError.TheVariants as audit
-use Rattle.slh_evidence.specs.declared.evidence.Evidence.{Evidence}
+use Rattle.slh_audit.specs.declared.evidence.Evidence.{Evidence}
 use Rattle.slh_audit.specs.declared.evidence.Verdict.{Verdict}
 use Rattle.slh_core.specs.Bytes.{part}
 use Rattle.slh_core.specs.Parameters.{Scheme}
@@ -33,9 +33,9 @@ use Rattle.slh_jobs.specs.declared.job.Error.{Error}
 use Rattle.slh_jobs.specs.declared.job.Error.TheVariants as job
 use Rattle.slh_jobs.specs.declared.job.Job.TheVariants.{Audit, Check}
 use Rattle.slh_stream.specs.Verifying.{message_digest}
-use Rattle.slh_trees.proofs.Refusals.{first_none, no_cause, none_first, passed}
-use Rattle.slh_internal.specs.Checking.{signature_size}
-use Rattle.slh_trees.specs.Refusals.{context_refusal, first_refusal, message_refusal}
+use Rattle.slh_core.proofs.Refusals.{first_none, no_cause, none_first, passed}
+use Rattle.slh_trees.specs.Checking.{signature_size}
+use Rattle.slh_core.specs.Refusals.{context_refusal, first_refusal, message_refusal}
 
 -- the parts of the public half of a key
 

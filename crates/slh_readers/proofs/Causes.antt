@@ -11,7 +11,7 @@ use Rattle.slh_jobs.specs.declared.job.Answer.TheVariants.{Accepted, Signature}
 use Rattle.slh_jobs.specs.declared.job.Error.{Error}
 use Rattle.slh_jobs.specs.declared.job.Error.TheVariants as job
 use Rattle.std.specs.Bool.{◌==◌}
-use Rattle.slh_trees.specs.Refusals.{RefusedExactly, context_refusal, first_refusal, length_refusal, message_refusal}
+use Rattle.slh_core.specs.Refusals.{RefusedExactly, context_refusal, first_refusal, length_refusal, message_refusal}
 
 too_long_by : (b : Bool) (e : Error) → (if b then Some job.MessageTooLong else None) ≡ Some e
     → ((if b then Some key.MessageTooLong else None) ≡ Some key.MessageTooLong) × (e ≡ job.MessageTooLong)

@@ -5,8 +5,8 @@ use Rattle.std.specs.Bool.{◌==◌}
 use Rattle.std.specs.Str.{bytes_eq}
 use Rattle.slh_stream.specs.declared.pass_error.PassError.{PassError}
 use Rattle.slh_stream.specs.declared.pass_error.PassError.TheVariants.{Length, Changed}
-use Rattle.slh_trees.proofs.Refusals.{first_none, passed}
-use Rattle.slh_trees.specs.Refusals.{first_refusal, length_refusal}
+use Rattle.slh_core.proofs.Refusals.{first_none, passed}
+use Rattle.slh_core.specs.Refusals.{first_refusal, length_refusal}
 
 pub same_rand : (size : Option PassError) (a b : List ℕ)
     → first_refusal (size ∷ (if bytes_eq a b then None else Some Changed) ∷ []) ≡ None → a ≡ b

@@ -22,8 +22,8 @@ use Rattle.slh_readers.specs.declared.error.ReadError.TheVariants.{Read, Refused
 use Rattle.slh_jobs.specs.declared.job.Error.{Error}
 use Rattle.slh_jobs.specs.declared.job.Error.TheVariants as job
 use Rattle.slh_jobs.specs.declared.job.Job.TheVariants.{Sign}
-use Rattle.slh_trees.specs.Refusals.{context_refusal, first_refusal, message_refusal}
-use Rattle.slh_internal.specs.Signing.{signature_of}
+use Rattle.slh_core.specs.Refusals.{context_refusal, first_refusal, message_refusal}
+use Rattle.slh_trees.specs.Signing.{signature_of}
 
 two : {E : Type 0} (a b : Option E) → first_refusal (a ∷ b ∷ []) ≡ first_refusal (a ∷ b ∷ None ∷ [])
 two (Some x) b = refl

@@ -13,8 +13,8 @@ use Rattle.slh_jobs.specs.declared.job.Error.{Error}
 use Rattle.slh_jobs.specs.declared.job.Error.TheVariants as job
 use Rattle.slh_jobs.specs.declared.job.Job.TheVariants.{Verify}
 use Rattle.slh_readers.proofs.Causes.{begun, decided, fits, key_cause, key_refused, size_cause, size_refused, too_long, verdict_is}
-use Rattle.slh_internal.specs.Checking.{signature_size}
-use Rattle.slh_trees.specs.Refusals.{RefusedExactly, context_refusal, message_refusal}
+use Rattle.slh_trees.specs.Checking.{signature_size}
+use Rattle.slh_core.specs.Refusals.{RefusedExactly, context_refusal, message_refusal}
 
 module _ (Z : Scheme) (mode : Mode) (public context signature : List ℕ) where
   abbrev verdict : List ℕ → Result Bool Error

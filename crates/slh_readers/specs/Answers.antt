@@ -13,7 +13,7 @@ use Rattle.slh_jobs.specs.declared.job.Error.{Error}
 use Rattle.slh_jobs.specs.declared.job.Error.TheVariants.{Length, Memory}
 use Rattle.slh_jobs.specs.declared.job.Job.TheVariants.{Sign}
 use Rattle.slh_stream.specs.Passes.{randomizer_for}
-use Rattle.slh_internal.specs.Signing.{signature_of}
+use Rattle.slh_trees.specs.Signing.{signature_of}
 
 -- The answer is that for some bytes, which are all that the reader had, where that is known. Of a
 -- fault of the reader nothing is said.

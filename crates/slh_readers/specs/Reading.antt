@@ -7,7 +7,7 @@ use Rattle.slh_readers.specs.declared.error.ReadError.{ReadError}
 use Rattle.slh_readers.specs.declared.error.ReadError.TheVariants.{Read, Refused, Changed}
 use Rattle.slh_jobs.specs.declared.job.Error.{Error}
 use Rattle.slh_jobs.specs.declared.job.Error.TheVariants.{MessageTooLong}
-use Rattle.slh_trees.specs.Refusals.{message_refusal}
+use Rattle.slh_core.specs.Refusals.{message_refusal}
 
 -- bytes are all that was left, where that is known
 abbrev pub IsAll : Option (List ℕ) → List ℕ → Type 0

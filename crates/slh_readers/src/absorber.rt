@@ -2,10 +2,10 @@
 ghost use Rattle.std.specs.Prelude.{◌≡◌, List, ℕ, ◌++◌, OnOk};
 ghost use Rattle.slh_dsa.specs.declared.error.Error.TheVariants.{MessageTooLong};
 ghost use Rattle.slh_readers.specs.Terms.{Terms};
-ghost use Rattle.slh_trees.specs.Refusals.{RefusedExactly, message_refusal};
+ghost use Rattle.slh_core.specs.Refusals.{RefusedExactly, message_refusal};
 
 use slh_core::pieces::MessageSuite;
-use slh_dsa::{Error, ParameterSet};
+use slh_dsa::{Error, SetSizes};
 use slh_stream::{
     DigestSigner, Digesting, FirstPass, MessageVerifier, Passing, SecondPass, Verifying,
 };
@@ -24,7 +24,7 @@ pub(crate) trait Absorber {
             → stands self.new terms (m ++ piece.now)) };
 }
 
-impl<'a, P: ParameterSet + MessageSuite> Absorber for MessageVerifier<'a, P> {
+impl<'a, P: SetSizes + MessageSuite> Absorber for MessageVerifier<'a, P> {
     ghost stands = { λ v t m. ⟦<MessageVerifier<'a, P> as Verifying>⟧.verifies v
         t.mode t.key t.context t.signature m };
 
@@ -33,7 +33,7 @@ impl<'a, P: ParameterSet + MessageSuite> Absorber for MessageVerifier<'a, P> {
     }
 }
 
-impl<'a, P: ParameterSet> Absorber for DigestSigner<'a, P> {
+impl<'a, P: SetSizes> Absorber for DigestSigner<'a, P> {
     ghost stands = { λ s t m. ⟦<DigestSigner<'a, P> as Digesting>⟧.digests s
         t.mode t.key t.opt_rand t.context m };
 
@@ -42,7 +42,7 @@ impl<'a, P: ParameterSet> Absorber for DigestSigner<'a, P> {
     }
 }
 
-impl<'a, P: ParameterSet + MessageSuite> Absorber for FirstPass<'a, P> {
+impl<'a, P: SetSizes + MessageSuite> Absorber for FirstPass<'a, P> {
     ghost stands = { λ f t m. ⟦<FirstPass<'a, P> as Passing>⟧.passes f
         t.key t.opt_rand t.context m };
 
@@ -51,7 +51,7 @@ impl<'a, P: ParameterSet + MessageSuite> Absorber for FirstPass<'a, P> {
     }
 }
 
-impl<'a, P: ParameterSet + MessageSuite> Absorber for SecondPass<'a, P> {
+impl<'a, P: SetSizes + MessageSuite> Absorber for SecondPass<'a, P> {
     ghost stands = { λ p t m. ⟦<SecondPass<'a, P> as Passing>⟧.passes p
         t.key t.opt_rand t.context m × (p.rand ≡ t.rand) };
 

@@ -9,6 +9,7 @@ ghost use Rattle.slh_sets.specs.Sets.{scheme_for};
 
 use crate::error::ReadError;
 use crate::reading::absorb_all;
+use hybrid_array::ArraySize;
 use slh_audit::{Evidence, Verdict, audit_for_digest, check_evidence_for_digest};
 use slh_core::params::{MAX_DIGEST_LEN, forest_sizes};
 use slh_dsa::{Mode, SigningKey};
@@ -32,7 +33,7 @@ fn digest_read<P: SetSuite, R: Read + Drop>(
     doubted: Doubted<'_, R>,
     out: &mut [u8],
 ) -> Result<(), ReadError>
-    requires { length out.old ≡ P.DIGEST_LEN }
+    requires { length out.old ≡ P.M.USIZE }
     ensures { let d = doubted.entry in
         IsDigested P.scheme d.mode d.key.now d.context.now d.signature.now
         (R.remaining d.reader) out.new result }
@@ -67,7 +68,7 @@ impl<'a, R: Read + Drop> OnSet for Auditing<'a, R> {
         forest_sizes::<P>();
         let (key, signature) = (self.doubted.key, self.doubted.signature);
         let mut store = [0u8; MAX_DIGEST_LEN];
-        let digest = &mut store[..P::DIGEST_LEN];
+        let digest = &mut store[..P::M::USIZE];
         digest_read::<P, R>(self.doubted, digest)?;
         Ok(audit_for_digest::<P>(key, digest, signature)?)
     }
@@ -92,7 +93,7 @@ impl<'a, R: Read + Drop> OnSet for Checking<'a, R> {
         let Checking { doubted, evidence } = self;
         let (key, signature) = (doubted.key, doubted.signature);
         let mut store = [0u8; MAX_DIGEST_LEN];
-        let digest = &mut store[..P::DIGEST_LEN];
+        let digest = &mut store[..P::M::USIZE];
         digest_read::<P, R>(doubted, digest)?;
         Ok(check_evidence_for_digest::<P>(key, digest, signature, &evidence)?)
     }

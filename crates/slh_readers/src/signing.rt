@@ -7,7 +7,7 @@ ghost use Rattle.slh_readers.specs.Answers.{EndsPass, IsSigned, IsSignedTwice, d
 ghost use Rattle.slh_readers.specs.declared.error.ReadError.TheVariants.{Refused};
 ghost use Rattle.slh_jobs.specs.declared.job.Error.TheVariants.{Memory};
 ghost use Rattle.slh_sets.specs.Sets.{scheme_for};
-ghost use Rattle.slh_internal.specs.Signing.{signature_of};
+ghost use Rattle.slh_trees.specs.Signing.{signature_of};
 
 use crate::error::ReadError;
 use crate::reading::absorb_all;

@@ -7,7 +7,7 @@ use slh_sets::Set;
 use std::alloc::{AllocError, Global};
 
 /// What `--version` prints: the version, and the logic of the toolchain that proved the program.
-const VERSION: &str = "0.20.0 (logic dac8208d650f15bf)";
+const VERSION: &str = "0.21.0 (logic dac8208d650f15bf)";
 
 const HASHES: [&str; 2] = ["sha256", "sha512"];
 

@@ -5,11 +5,11 @@ use Rattle.slh_chain.specs.declared.error.LinkError.{LinkError}
 use Rattle.slh_chain.specs.declared.error.LinkError.TheVariants.{Memory}
 use Rattle.slh_command.proofs.Keys.{both_keys}
 use Rattle.slh_command.proofs.chains.link_by.Goals as goal
-use Rattle.slh_trees.specs.Refusals.{RefusedOrNoMemory}
+use Rattle.slh_core.specs.Refusals.{RefusedOrNoMemory}
 
 pub returns-clause-refusal : goal.returns-clause-refusal
 returns-clause-refusal g c =
-    let refusal = delegate_refusal g.P.ForsParams.scheme c.args.name.now c.args.depth (option_copied c.args.opt_rand) in
+    let refusal = delegate_refusal g.P.ForsSizes.scheme c.args.name.now c.args.depth (option_copied c.args.opt_rand) in
     subst (λ (o : Option LinkError). RefusedOrNoMemory Memory c.delegate.result o)
     (sym (both_keys _ _ refusal (Some Memory) c.in-Ok.ensures.refusal c.in-Ok-try_from.ensures.refusal))
     c.delegate.ensures.refusal

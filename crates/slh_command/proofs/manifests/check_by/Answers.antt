@@ -6,7 +6,7 @@ use Rattle.slh_command.proofs.manifests.check_by.Goals as goal
 
 pub returns : goal.returns
 returns g c =
-    let Z = g.P.ForsParams.scheme in
+    let Z = g.P.ForsSizes.scheme in
     let answer = c.check-answer in
     let same : c.in-Ok.key ≡ c.args.key.now = c.in-Ok.ensures.value in
     subst (λ (k : List ℕ). IsChecked {T = Unit {0}} Z k c.args.manifest.now (g.T.Store.files c.args.store)

@@ -9,7 +9,7 @@ use Rattle.slh_command.specs.Receipts.{opening_refusal}
 
 pub returns-in-Err-clause-refusal : goal.returns-in-Err-clause-refusal
 returns-in-Err-clause-refusal g c =
-    let Z = g.P.ForsParams.scheme in
+    let Z = g.P.ForsSizes.scheme in
     let key = c.args.key.now in
     let head = c.args.head.now in
     let opened = rw c.in-Ok.ensures.value at c.in-Err.ensures.refusal in
@@ -18,7 +18,7 @@ returns-in-Err-clause-refusal g c =
 
 pub returns-in-Ok-accept_receipt_under-clause-refusal : goal.returns-in-Ok-accept_receipt_under-clause-refusal
 returns-in-Ok-accept_receipt_under-clause-refusal g c =
-    let Z = g.P.ForsParams.scheme in
+    let Z = g.P.ForsSizes.scheme in
     let key = c.args.key.now in
     let head = c.args.head.now in
     let under = receipt_under_error Z (head_in head) c.args.message.now c.args.receipt.now in

@@ -7,7 +7,7 @@ use Rattle.slh_readers.specs.Terms.{Terms}
 
 pub returns-in_err-try_from : goal.returns-in_err-try_from
 returns-in_err-try_from g c =
-    let Z = g.P.ForsParams.scheme in
+    let Z = g.P.ForsSizes.scheme in
     let d = c.args.doubted in
     let e = c.in_err-try_from.field-0.0 in
     digested_before Z d.key.now d.context.now d.signature.now d.mode _ _ c.from_residual.result e
@@ -15,7 +15,7 @@ returns-in_err-try_from g c =
 
 pub returns-in_err-verifier : goal.returns-in_err-verifier
 returns-in_err-verifier g c =
-    let Z = g.P.ForsParams.scheme in
+    let Z = g.P.ForsSizes.scheme in
     let d = c.args.doubted in
     let e = c.in_err-verifier.field-0.0 in
     digested_before Z d.key.now d.context.now d.signature.now d.mode _ _ c.from_residual-in_err-verifier.result e
@@ -24,7 +24,7 @@ returns-in_err-verifier g c =
 
 pub returns-in_err-absorb_all : goal.returns-in_err-absorb_all
 returns-in_err-absorb_all g c =
-    let Z = g.P.ForsParams.scheme in
+    let Z = g.P.ForsSizes.scheme in
     let d = c.args.doubted in
     let terms : Terms = record { mode = d.mode; key = c.verifying_key-public.result; context = d.context.now; opt_rand = None; signature = d.signature.now; rand = [] } in
     digested_within Z d.key.now d.context.now d.signature.now d.mode _ _ _ _ _ terms c.from_residual-in_err-absorb_all.result c.in_err-absorb_all.field-0.0
@@ -34,7 +34,7 @@ returns-in_err-absorb_all g c =
 
 pub returns : goal.returns
 returns g c =
-    let Z = g.P.ForsParams.scheme in
+    let Z = g.P.ForsSizes.scheme in
     let n = g.P.N.ArraySize.USIZE in
     let d = c.args.doubted in
     let public = c.verifying_key-public.result in
@@ -46,5 +46,5 @@ returns g c =
       whole,
       ended Z d.key.now d.context.now d.signature.now c.in_ok-try_from.ensures.refusal c.in_ok-verifier.ensures.refusal all short,
       c.finish_digest.ensures d.mode public d.context.now d.signature.now all stood
-          ∙ same_digest Z n (ap (λ (Y : Scheme). Y.n) g.met.P.ForsParams.scheme_is) d.mode d.key.now public d.context.now all d.signature.now half,
+          ∙ same_digest Z n (ap (λ (Y : Scheme). Y.n) g.met.P.ForsSizes.scheme_is) d.mode d.key.now public d.context.now all d.signature.now half,
     )

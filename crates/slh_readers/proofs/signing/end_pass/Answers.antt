@@ -3,7 +3,7 @@ use Rattle.slh_readers.proofs.Passed.{other_rand, same_rand}
 use Rattle.slh_readers.proofs.signing.end_pass.Goals as goal
 use Rattle.slh_readers.specs.Answers.{EndsPass}
 use Rattle.slh_jobs.proofs.Signed.{written}
-use Rattle.slh_internal.specs.Checking.{signature_size}
+use Rattle.slh_trees.specs.Checking.{signature_size}
 
 pub returns-in-Ok : goal.returns-in-Ok
 unfolding EndsPass
@@ -16,5 +16,5 @@ returns-in-Ok g c key opt_rand context m stood =
 pub returns-in-Err-Changed : goal.returns-in-Err-Changed
 unfolding EndsPass
 returns-in-Err-Changed g c key opt_rand context m stood =
-    other_rand (signature_size g.P.ForsParams.scheme) (length c.as_mut_slice.result.now) _ _
+    other_rand (signature_size g.P.ForsSizes.scheme) (length c.as_mut_slice.result.now) _ _
     (rw c.in-Err-Changed.field-0-is at c.in-Err-Changed.ensures.refusal key opt_rand context m stood)

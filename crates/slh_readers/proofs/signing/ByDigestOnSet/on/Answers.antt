@@ -7,14 +7,14 @@ use Rattle.slh_readers.proofs.Signatures.{digest_ended, long_digest, no_digest, 
 use Rattle.slh_readers.proofs.signing.ByDigestOnSet.on.Goals as goal
 use Rattle.slh_jobs.specs.Errors.{error_of}
 use Rattle.slh_readers.specs.Terms.{Terms}
-use Rattle.slh_internal.specs.Signing.{signature_of}
+use Rattle.slh_trees.specs.Signing.{signature_of}
 
 pub returns-in_err-key : goal.returns-in_err-key
 returns-in_err-key g c =
     let s = c.args.self in
     let e = c.in_err-key.field-0.0 in
     inl (refused_before _ _ c.from_residual.result (error_of e)
-    (no_digest_key g.P.ForsParams.scheme s.key.now s.context.now (option_copied s.opt_rand) s.mode e c.in_err-key.ensures.refusal)
+    (no_digest_key g.P.ForsSizes.scheme s.key.now s.context.now (option_copied s.opt_rand) s.mode e c.in_err-key.ensures.refusal)
     c.from_residual.ensures.1)
 
 pub returns-in_err-signer : goal.returns-in_err-signer
@@ -22,7 +22,7 @@ returns-in_err-signer g c =
     let s = c.args.self in
     let e = c.in_err-signer.field-0.0 in
     inl (refused_before _ _ c.from_residual-in_err-signer.result (error_of e)
-    (no_digest g.P.ForsParams.scheme s.key.now s.context.now (option_copied s.opt_rand) s.mode e c.in_ok-key.ensures.refusal
+    (no_digest g.P.ForsSizes.scheme s.key.now s.context.now (option_copied s.opt_rand) s.mode e c.in_ok-key.ensures.refusal
     c.in_err-signer.ensures.refusal)
     c.from_residual-in_err-signer.ensures.1)
 
@@ -32,12 +32,12 @@ returns-in_err-absorb_all g c =
     let opt_rand = option_copied s.opt_rand in
     let terms : Terms = record { mode = s.mode; key = c.in_ok-key.key; context = s.context.now; opt_rand = opt_rand; signature = []; rand = [] } in
     inl (refused_within _ _ _ terms _ _ c.from_residual-in_err-absorb_all.result c.in_err-absorb_all.field-0.0 c.in_ok-signer.ensures.empty
-    (long_digest g.P.ForsParams.scheme s.key.now s.context.now opt_rand s.mode c.in_ok-key.ensures.refusal c.in_ok-signer.ensures.refusal)
+    (long_digest g.P.ForsSizes.scheme s.key.now s.context.now opt_rand s.mode c.in_ok-key.ensures.refusal c.in_ok-signer.ensures.refusal)
     c.in_err-absorb_all.ensures c.from_residual-in_err-absorb_all.ensures.1)
 
 pub returns : goal.returns
 returns g c =
-    let Z = g.P.ForsParams.scheme in
+    let Z = g.P.ForsSizes.scheme in
     let s = c.args.self in
     let opt_rand = option_copied s.opt_rand in
     let terms : Terms = record { mode = s.mode; key = c.in_ok-key.key; context = s.context.now; opt_rand = opt_rand; signature = []; rand = [] } in

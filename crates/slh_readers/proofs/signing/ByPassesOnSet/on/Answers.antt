@@ -14,21 +14,21 @@ returns-in_err-key g c =
     let s = c.args.self in
     let opt_rand = option_copied s.opt_rand in
     let e = c.in_err-key.field-0.0 in
-    twice_refused g.P.ForsParams.scheme s.key.now s.context.now opt_rand _ _ c.from_residual.result (error_of e)
-    (no_key g.P.ForsParams.scheme s.key.now s.context.now opt_rand Pure e c.in_err-key.ensures.refusal) c.from_residual.ensures.1
+    twice_refused g.P.ForsSizes.scheme s.key.now s.context.now opt_rand _ _ c.from_residual.result (error_of e)
+    (no_key g.P.ForsSizes.scheme s.key.now s.context.now opt_rand Pure e c.in_err-key.ensures.refusal) c.from_residual.ensures.1
 
 pub returns-in_err-pass : goal.returns-in_err-pass
 returns-in_err-pass g c =
     let s = c.args.self in
     let opt_rand = option_copied s.opt_rand in
     let e = c.in_err-pass.field-0.0 in
-    twice_refused g.P.ForsParams.scheme s.key.now s.context.now opt_rand _ _ c.from_residual-in_err-pass.result (error_of e)
-    (not_begun g.P.ForsParams.scheme s.key.now s.context.now opt_rand Pure e c.in_ok-key.ensures.refusal c.in_err-pass.ensures.refusal)
+    twice_refused g.P.ForsSizes.scheme s.key.now s.context.now opt_rand _ _ c.from_residual-in_err-pass.result (error_of e)
+    (not_begun g.P.ForsSizes.scheme s.key.now s.context.now opt_rand Pure e c.in_ok-key.ensures.refusal c.in_err-pass.ensures.refusal)
     c.from_residual-in_err-pass.ensures.1
 
 pub returns-in_err-absorb_all : goal.returns-in_err-absorb_all
 returns-in_err-absorb_all g c =
-    let Z = g.P.ForsParams.scheme in
+    let Z = g.P.ForsSizes.scheme in
     let s = c.args.self in
     let opt_rand = option_copied s.opt_rand in
     let terms : Terms = record { mode = Pure; key = c.in_ok-key.key; context = s.context.now; opt_rand = opt_rand; signature = []; rand = [] } in
@@ -39,7 +39,7 @@ returns-in_err-absorb_all g c =
 
 pub returns-in_err-absorb_all-2 : goal.returns-in_err-absorb_all-2
 returns-in_err-absorb_all-2 g c =
-    let Z = g.P.ForsParams.scheme in
+    let Z = g.P.ForsSizes.scheme in
     let s = c.args.self in
     let opt_rand = option_copied s.opt_rand in
     let terms : Terms = record { mode = Pure; key = c.in_ok-key.key; context = s.context.now; opt_rand = opt_rand; signature = []; rand = [] } in
@@ -54,7 +54,7 @@ returns-in_err-absorb_all-2 g c =
 
 pub returns : goal.returns
 returns g c =
-    let Z = g.P.ForsParams.scheme in
+    let Z = g.P.ForsSizes.scheme in
     let s = c.args.self in
     let held = c.in_ok-key.key in
     let opt_rand = option_copied s.opt_rand in
