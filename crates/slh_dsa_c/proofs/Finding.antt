@@ -11,8 +11,8 @@ use Rattle.slh_dsa.specs.Calls.{is_valid}
 use Rattle.slh_frames.specs.declared.frame.Mode.TheVariants.{Pure}
 use Rattle.slh_sets.specs.Sets.{scheme_for}
 use Rattle.slh_sets.specs.declared.set.Set.{Set}
-use Rattle.slh_internal.specs.Checking.{signature_size}
-use Rattle.slh_trees.specs.Refusals.{first_refusal}
+use Rattle.slh_trees.specs.Checking.{signature_size}
+use Rattle.slh_core.specs.Refusals.{first_refusal}
 use Rattle.slh_manifest.specs.Checking.{body_part, entries_of, has_entries, is_manifest, manifest_refusal, signature_part}
 use Rattle.slh_manifest.specs.Manifest.{manifest_context}
 use Rattle.slh_manifest.specs.declared.entry.Entry.{Entry}

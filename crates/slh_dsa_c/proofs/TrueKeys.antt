@@ -5,13 +5,13 @@ use Rattle.std.specs.Option.{option_map}
 use Rattle.std.proofs.lemmas.Bool.{cases_Bool}
 use Rattle.std.proofs.lemmas.Bool.Decides.{Decides-eqb}
 use Rattle.std.proofs.lemmas.Slice.Eq.{bytes_eq-Decides}
-use Rattle.slh_evidence.proofs.Pieces.{joined_parts}
+use Rattle.slh_audit.proofs.Pieces.{joined_parts}
 use Rattle.slh_core.specs.Bytes.{joined, part}
 use Rattle.slh_core.specs.Parameters.{Scheme}
 use Rattle.slh_dsa_c.specs.Status.{has_own_root, key_number}
 use Rattle.slh_sets.specs.Sets.{scheme_for}
 use Rattle.slh_sets.specs.declared.set.Set.{Set}
-use Rattle.slh_internal.specs.Keys.{IsTrueKey, top_root}
+use Rattle.slh_trees.specs.Keys.{IsTrueKey, top_root}
 
 four_joined : (n : ℕ) (key : List ℕ) → length key ≡ 4 * n → key ≡ part n key 0 ++ part n key 1 ++ part n key 2 ++ part n key 3
 unfolding joined

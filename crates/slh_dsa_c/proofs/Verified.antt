@@ -4,10 +4,10 @@ use Rattle.std.specs.Option.{option_map}
 use Rattle.std.specs.Prelude.{IfSome, MatchOption}
 use Rattle.std.proofs.lemmas.Bool.Decides.{Decides-eqb}
 use Rattle.slh_core.specs.Parameters.{Scheme}
-use Rattle.slh_internal.specs.Keys.{IsTrueKey}
-use Rattle.slh_internal.specs.Signing.{signature_of}
-use Rattle.slh_trees.specs.Refusals.{context_refusal, message_refusal}
-use Rattle.slh_trees.proofs.Refusals.{at_most, first_none, no_cause, none_first, passed}
+use Rattle.slh_trees.specs.Keys.{IsTrueKey}
+use Rattle.slh_trees.specs.Signing.{signature_of}
+use Rattle.slh_core.specs.Refusals.{context_refusal, message_refusal}
+use Rattle.slh_core.proofs.Refusals.{at_most, first_none, no_cause, none_first, passed}
 use Rattle.slh_dsa.specs.Calls.{hash_verify_error, opt_rand_refusal, sign_input_refusal, sign_refusal, signature_refusal, signing_key_refusal}
 use Rattle.slh_frames.specs.Frames.{mode_frame}
 use Rattle.slh_dsa.specs.declared.error.Error.{Error}

@@ -1,13 +1,13 @@
 -- What opening a log's checkpoint and checking proofs against it answers, by the numbers of the
 -- header.
-use Rattle.std.specs.Prelude.{ℕ, ◌+◌, ◌*◌, ◌/◌, ◌%◌, ◌==◌, List, [], length, nat_lt}
-use Rattle.std.specs.Prelude.{if◌then◌else◌, Option, None, Some}
+use Rattle.std.specs.Prelude.{◌≡◌, ◌≢◌, ℕ, ◌+◌, ◌*◌, ◌/◌, ◌%◌, ◌==◌, List, [], length, nat_lt}
+use Rattle.std.specs.Prelude.{if◌then◌else◌, Option, None, Some, Result, IfErr, IfOk}
 use Rattle.std.specs.Simd.{first_chunks}
 use Rattle.slh_core.specs.Parameters.{Scheme}
-use Rattle.slh_dsa_c.specs.Status.{in_named_set}
+use Rattle.slh_dsa_c.specs.Status.{in_named_set, status_of}
 use Rattle.slh_dsa_c.specs.declared.logs.CHead.{CHead}
 use Rattle.slh_log.specs.Calls.{growth_refusal, open_refusal, presence_refusal}
-use Rattle.slh_log.specs.Reading.{text_of}
+use Rattle.slh_log.specs.Reading.{read_root, read_size, text_of}
 use Rattle.slh_log.specs.declared.error.GrowthError.{GrowthError}
 use Rattle.slh_log.specs.declared.error.GrowthError.TheVariants as growth
 use Rattle.slh_log.specs.declared.error.OpenError.{OpenError}
@@ -15,7 +15,7 @@ use Rattle.slh_log.specs.declared.error.OpenError.TheVariants as opening
 use Rattle.slh_log.specs.declared.error.PresenceError.{PresenceError}
 use Rattle.slh_log.specs.declared.error.PresenceError.TheVariants as presence
 use Rattle.slh_sets.specs.Sets.{set_numbered}
-use Rattle.slh_internal.specs.Checking.{signature_size}
+use Rattle.slh_trees.specs.Checking.{signature_size}
 
 -- the numbers of the causes
 abbrev pub open_number : OpenError → ℕ
@@ -56,6 +56,14 @@ log_open_number Z set key origin checkpoint len =
     then (if nat_lt len (4 + signature_size Z) then 5
     else number_of_open (open_refusal Z set key (text_of origin) checkpoint))
     else 5
+
+-- what opening answers: the head that the checkpoint says, or such a number
+pub record IsOpened (Z : Scheme) (set key origin checkpoint : List ℕ) (len : ℕ)
+    (result : Result CHead ℕ) : Type 0 where
+  pub status : status_of result ≡ log_open_number Z set key origin checkpoint len
+  pub size : IfOk result (λ head. read_size checkpoint ≡ Some head.size)
+  pub root : IfOk result (λ head. read_root checkpoint ≡ Some head.root)
+  pub refused : IfErr result (λ number. number ≢ 0)
 
 abbrev pub log_open_status : ℕ → List ℕ → List ℕ → List ℕ → ℕ → ℕ
 log_open_status set key origin checkpoint len = in_named_set (set_numbered set) (λ Z name.

@@ -1,5 +1,5 @@
 -- What signing in pieces stands for as C keeps it, and what its calls answer.
-use Rattle.std.specs.Prelude.{◌≡◌, ◌≢◌, ◌==◌, ℕ, ◌*◌, List, [], ◌∷◌, length}
+use Rattle.std.specs.Prelude.{◌≡◌, ◌≢◌, ◌==◌, ℕ, ◌*◌, ◌^◌, ◌<◌, List, [], ◌∷◌, length}
 use Rattle.std.specs.Prelude.{Option, None, Some, MatchOption, if◌then◌else◌}
 use Rattle.slh_core.specs.Bytes.{part}
 use Rattle.slh_core.specs.Parameters.{Scheme}
@@ -11,11 +11,11 @@ use Rattle.slh_dsa_c.specs.declared.sign_pieces.Pass.TheVariants.{First, Second}
 use Rattle.slh_dsa_c.specs.Status.{error_number, in_set, number_of_refusal}
 use Rattle.slh_sets.specs.Sets.{scheme_numbered}
 use Rattle.slh_stream.specs.Passes.{pass_refusal, randomizer_for}
-use Rattle.slh_stream.specs.SuspendedPass.{IsFirstAside, IsSecondAside}
+use Rattle.slh_stream.specs.SuspendedPass.{IsEnded, IsFirstAside, IsSecondAside}
 use Rattle.slh_stream.specs.declared.pass_error.PassError.{PassError}
 use Rattle.slh_stream.specs.declared.pass_error.PassError.TheVariants.{Length, Changed}
 use Rattle.slh_stream.specs.declared.suspended_pass.SuspendedPass.{SuspendedPass}
-use Rattle.slh_trees.specs.Refusals.{first_refusal}
+use Rattle.slh_core.specs.Refusals.{first_refusal}
 
 -- why no pass begins: what signing the empty message is refused for, but for the room that it has
 abbrev pub begin_refusal : Scheme → List ℕ → List ℕ → Option (List ℕ) → Option Error
@@ -54,6 +54,16 @@ Signs signer key opt_rand context rand message = MatchOption (scheme_numbered si
 abbrev pub IsNone : CSigner → Type 0
 IsNone signer = MatchOption (scheme_numbered signer.set) (Unit {0}) (λ _.
     pass_numbered signer.pass ≡ None)
+
+-- more bytes of a message were counted than there may be
+abbrev pub IsOverfull : CSigner → Type 0
+IsOverfull signer = 2 ^ 60 < signer.state.numbers.taken
+
+-- What holds of each signer that ends in a signature, whatever its numbers are: it has a set and is
+-- in the second pass, and PRF_msg of what it has absorbed is its R.
+abbrev pub Ends : CSigner → List ℕ → List ℕ → Type 0
+Ends signer key sig = MatchOption (scheme_numbered signer.set) ⊥ (λ Z.
+    (signer.pass ≡ 2) × IsEnded Z Z.n signer.state key sig)
 
 -- bytes that a set gives, none where no set has the number
 abbrev pub bytes_in : Option Scheme → (Scheme → List ℕ) → List ℕ

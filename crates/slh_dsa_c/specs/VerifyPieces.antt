@@ -1,5 +1,5 @@
 -- What a verification in pieces stands for as C keeps it, and what its calls answer.
-use Rattle.std.specs.Prelude.{◌≡◌, ◌≢◌, ℕ, ◌*◌, ◌^◌, List, [], ◌∷◌, length, take, nat_lt}
+use Rattle.std.specs.Prelude.{◌≡◌, ◌≢◌, ℕ, ◌*◌, ◌^◌, ◌<◌, List, [], ◌∷◌, length, take, nat_lt}
 use Rattle.std.specs.Prelude.{Option, None, MatchOption, if◌then◌else◌}
 use Rattle.slh_core.specs.Parameters.{Scheme}
 use Rattle.slh_dsa.specs.Calls.{verify_refusal, verifying_key_refusal}
@@ -8,10 +8,10 @@ use Rattle.slh_dsa_c.specs.declared.verify_pieces.CVerifier.{CVerifier}
 use Rattle.slh_dsa_c.specs.Numbers.{mode_numbered}
 use Rattle.slh_dsa_c.specs.Status.{in_mode, in_set, number_of_refusal}
 use Rattle.slh_sets.specs.Sets.{scheme_numbered}
-use Rattle.slh_stream.specs.Suspended.{IsSuspended}
+use Rattle.slh_stream.specs.Suspended.{IsAccepted, IsSuspended}
 use Rattle.slh_stream.specs.declared.suspended.SuspendedVerifier.{SuspendedVerifier}
-use Rattle.slh_internal.specs.Checking.{signature_size}
-use Rattle.slh_trees.specs.Refusals.{first_refusal}
+use Rattle.slh_trees.specs.Checking.{signature_size}
+use Rattle.slh_core.specs.Refusals.{first_refusal}
 
 -- why no verification begins: what verifying the empty message is refused for before it looks at the
 -- signature
@@ -46,6 +46,17 @@ Verifies verifier key context sig message = MatchOption (scheme_numbered verifie
 abbrev pub IsNone : CVerifier → Type 0
 IsNone verifier = MatchOption (scheme_numbered verifier.set) (Unit {0}) (λ _.
     mode_numbered verifier.mode ≡ None)
+
+-- more bytes of a message were counted than there may be
+abbrev pub IsOverfull : CVerifier → Type 0
+IsOverfull verifier = 2 ^ 60 < verifier.state.numbers.taken
+
+-- What holds of each verifier by which a signature is accepted, whatever its numbers are: it has a
+-- set and a mode, and in them the signature leads to its root.
+abbrev pub Accepts : CVerifier → List ℕ → Type 0
+Accepts verifier sig = MatchOption (scheme_numbered verifier.set) ⊥ (λ Z.
+    MatchOption (mode_numbered verifier.mode) ⊥ (λ m.
+    IsAccepted Z Z.n verifier.state m sig))
 
 -- in the set of a number, the bytes have the length of a signature, and another randomizer than the
 -- signature with which a verification was begun

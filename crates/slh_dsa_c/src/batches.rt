@@ -7,7 +7,7 @@ ghost use Rattle.slh_dsa_c.specs.Batches.{head_status, receipt_number, under_sta
 use crate::set::read_in_set;
 use crate::status::{FORM, INVALID, LENGTH, MESSAGE_TOO_LONG, OK, UNKNOWN_SET};
 use slh_batch::{Head, HeadError, ReceiptError, accept, accept_under};
-use slh_dsa::{ParameterSet, VerifyingKey};
+use slh_dsa::{SetSizes, VerifyingKey};
 use slh_sets::{OnSet, SetSuite};
 
 // The number of a refusal.
@@ -30,7 +30,7 @@ struct Accept<'a> {
 }
 
 // Checks a receipt by a key of bytes.
-fn accept_by<P: ParameterSet>(public: &[u8], msg: &[u8], receipt: &[u8]) -> u32
+fn accept_by<P: SetSizes>(public: &[u8], msg: &[u8], receipt: &[u8]) -> u32
     ensures { result ≡ accept_number P.scheme public.now msg.now receipt.now }
 {
     let Ok(key) = VerifyingKey::<P>::try_from(public) else {
@@ -95,7 +95,7 @@ struct Open<'a> {
 }
 
 // Opens a head by a key of bytes.
-fn head_by<P: ParameterSet>(public: &[u8], head: &[u8]) -> Result<CBatchHead, u32>
+fn head_by<P: SetSizes>(public: &[u8], head: &[u8]) -> Result<CBatchHead, u32>
     ensures { result ≡ head_answer P.scheme public.now head.now }
 {
     let Ok(key) = VerifyingKey::<P>::try_from(public) else {

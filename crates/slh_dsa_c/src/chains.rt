@@ -10,7 +10,7 @@ use crate::status::{BUDGET, FORM, INVALID, LENGTH, OK, UNKNOWN_SET};
 use hybrid_array::ArraySize;
 use slh_chain::{ChainError, walk};
 use slh_core::params::chain_sizes;
-use slh_dsa::{ParameterSet, VerifyingKey};
+use slh_dsa::{SetSizes, VerifyingKey};
 use slh_sets::{SetSuite, WriteOnSet};
 
 /// Where a chain ends, beside the key.
@@ -42,11 +42,7 @@ struct Walk<'a> {
 }
 
 // Writes the key at the end of a chain.
-fn write_end<P: ParameterSet>(
-    root: &VerifyingKey<P>,
-    chain: &[u8],
-    key: &mut [u8],
-) -> Result<CEnd, u32>
+fn write_end<P: SetSizes>(root: &VerifyingKey<P>, chain: &[u8], key: &mut [u8]) -> Result<CEnd, u32>
     requires { length key.old ≡ 2 * P.N.USIZE }
     ensures end { result ≡ end_or_number (walk_answer P.scheme root.now chain.now) }
     ensures key { IsOk result → IfOk (walk_answer P.scheme root.now chain.now)

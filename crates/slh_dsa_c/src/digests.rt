@@ -7,13 +7,13 @@ ghost use Rattle.slh_dsa_c.specs.Status.{sign_digest_status, verify_digest_error
 ghost use Rattle.slh_dsa_c.specs.Status.{verify_digest_status};
 ghost use Rattle.slh_sets.specs.Sets.{scheme_numbered};
 ghost use Rattle.slh_stream.specs.Digests.{digest_frame};
-ghost use Rattle.slh_trees.specs.Refusals.{RefusedExactly};
-ghost use Rattle.slh_internal.specs.Signing.{signature_of};
+ghost use Rattle.slh_core.specs.Refusals.{RefusedExactly};
+ghost use Rattle.slh_trees.specs.Signing.{signature_of};
 
 use crate::mode::mode_of;
 use crate::set::{read_in_set, write_in_set};
 use crate::status::{OK, UNKNOWN_MODE, UNKNOWN_SET, number_of};
-use slh_dsa::{Error, Mode, ParameterSet, SigningKey, VerifyingKey};
+use slh_dsa::{Error, Mode, SetSizes, SigningKey, VerifyingKey};
 use slh_sets::{OnSet, SetSuite, WriteOnSet};
 use slh_stream::{sign_digest, verify_digest};
 
@@ -28,7 +28,7 @@ struct VerifyDigest<'a> {
 }
 
 // Verifies by a key of bytes.
-fn verify_by<P: ParameterSet>(mode: Mode, call: VerifyDigest) -> Result<(), Error>
+fn verify_by<P: SetSizes>(mode: Mode, call: VerifyDigest) -> Result<(), Error>
     ensures { let c = call.entry in RefusedExactly result
         (verify_digest_error_by_key P.scheme mode
         c.public.now c.ctx.now c.digest.now c.sig.now) }
@@ -90,7 +90,7 @@ struct SignDigest<'a> {
 }
 
 // Signs by a key of bytes.
-fn sign_by<P: ParameterSet>(mode: Mode, call: SignDigest, sig: &mut [u8]) -> Result<(), Error>
+fn sign_by<P: SetSizes>(mode: Mode, call: SignDigest, sig: &mut [u8]) -> Result<(), Error>
     ensures refusal { let c = call.entry in let opt_rand = option_copied c.opt_rand in
         RefusedExactly result (sign_digest_refusal_by_key P.scheme mode
         c.key.now c.ctx.now opt_rand c.digest.now (length sig.old)) }

@@ -3,7 +3,7 @@ ghost use Rattle.std.specs.Prelude.{◌≡◌, ◌≢◌, ◌*◌, length, drop,
 ghost use Rattle.slh_sets.specs.Sets.{scheme_numbered};
 ghost use Rattle.slh_dsa_c.specs.Status.{key_of_seeds, keygen_lengths, keygen_status};
 ghost use Rattle.slh_dsa_c.specs.Status.{number_of_refusal};
-ghost use Rattle.slh_internal.specs.Keys.{IsTrueKey};
+ghost use Rattle.slh_trees.specs.Keys.{IsTrueKey};
 
 use crate::set::write_in_set;
 use crate::status::{LENGTH, OK, UNKNOWN_SET, number_of};

@@ -3,15 +3,15 @@ ghost use Rattle.std.specs.Prelude.{◌≡◌, ◌≢◌, ◌*◌, length, drop,
 ghost use Rattle.slh_dsa_c.specs.Status.{key_number, key_status, number_of_refusal, public_lengths};
 ghost use Rattle.slh_dsa_c.specs.Status.{public_status};
 ghost use Rattle.slh_sets.specs.Sets.{scheme_numbered};
-ghost use Rattle.slh_internal.specs.Keys.{IsTrueKey};
+ghost use Rattle.slh_trees.specs.Keys.{IsTrueKey};
 
 use crate::set::{read_in_set, write_in_set};
 use crate::status::{KEY_MISMATCH, LENGTH, OK, UNKNOWN_SET};
 use hybrid_array::ArraySize;
 use slh_core::equal_parts::part_of;
 use slh_core::params::chain_sizes;
-use slh_internal::uncounted::top_root;
 use slh_sets::{OnSet, SetSuite, WriteOnSet};
+use slh_trees::uncounted::top_root;
 
 // A signing key whose verifying key is wanted.
 #[derive(Drop)]

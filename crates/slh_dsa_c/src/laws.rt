@@ -8,8 +8,8 @@ ghost use Rattle.slh_frames.specs.declared.frame.Mode.{Mode as SigningMode};
 ghost use Rattle.slh_dsa_c.specs.Numbers.{mode_numbered};
 ghost use Rattle.slh_dsa_c.specs.Status.{sign_status, verify_status};
 ghost use Rattle.slh_sets.specs.Sets.{scheme_numbered};
-ghost use Rattle.slh_internal.specs.Keys.{IsTrueKey};
-ghost use Rattle.slh_internal.specs.Signing.{signature_of};
+ghost use Rattle.slh_trees.specs.Keys.{IsTrueKey};
+ghost use Rattle.slh_trees.specs.Signing.{signature_of};
 
 use crate::set::read_in_set;
 use slh_dsa::laws::signed_is_accepted;

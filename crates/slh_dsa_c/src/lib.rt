@@ -31,6 +31,7 @@ mod verify;
 mod verify_pieces;
 mod verify_set;
 mod verify_small;
+mod version;
 
 pub use audit::{slh_dsa_sha2_audit, slh_dsa_sha2_check_evidence};
 pub use batches::{CBatchHead, slh_batch_accept, slh_batch_accept_under, slh_batch_open};
@@ -65,3 +66,4 @@ pub use verify_small::{
     slh_dsa_sha2_256f_verify_pure_small, slh_dsa_sha2_256f_verify_small,
     slh_dsa_sha2_256s_verify_pure_small, slh_dsa_sha2_256s_verify_small,
 };
+pub use version::slh_dsa_version;

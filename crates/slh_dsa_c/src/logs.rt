@@ -1,24 +1,21 @@
 //! Heads of logs, and proofs that are checked against them.
 ghost use Rattle.std.specs.Prelude.{◌≡◌, ◌≢◌, length, IfErr, IfOk, Some};
-ghost use Rattle.slh_dsa_c.specs.Logs.{growth_number, growth_status, log_open_number};
+ghost use Rattle.slh_dsa_c.specs.Logs.{IsOpened, growth_number, growth_status, log_open_number};
 ghost use Rattle.slh_dsa_c.specs.Logs.{log_open_status, open_number, presence_number};
 ghost use Rattle.slh_dsa_c.specs.Logs.{presence_status};
 ghost use Rattle.slh_dsa_c.specs.Status.{status_of};
 ghost use Rattle.slh_log.specs.Reading.{read_root, read_size};
-ghost use Rattle.slh_sets.specs.Sets.{name_of, scheme_for};
 
 use crate::status::{
     EMPTY, FORM, INVALID, LENGTH, MESSAGE_TOO_LONG, NO_ENTRY, OK, ORIGIN, SMALLER, UNKNOWN_SET,
     UNSIGNED,
 };
-use slh_dsa::{
-    ParameterSet, Sha2_128f, Sha2_128s, Sha2_192f, Sha2_192s, Sha2_256f, Sha2_256s, VerifyingKey,
-};
+use slh_dsa::{SetSizes, VerifyingKey};
 use slh_log::{
     Checkpoint, GrowthError, OpenError, PresenceError, check_growth, check_presence, open_in,
     text_of,
 };
-use slh_sets::Set;
+use slh_sets::{OnSetInScratch, Set, SetSuite};
 
 /// What the head of a log says.
 #[repr(C)]
@@ -89,7 +86,7 @@ struct Open<'a> {
 }
 
 // Opens a checkpoint by a key of bytes, in a buffer that is long enough.
-fn open_by<P: ParameterSet>(call: Open<'_>, scratch: &mut [u8]) -> Result<CHead, u32>
+fn open_by<P: SetSizes>(call: Open<'_>, scratch: &mut [u8]) -> Result<CHead, u32>
     ensures status { let c = call.entry in status_of result ≡ log_open_number P.scheme P.set_name
         c.public.now c.origin.now c.checkpoint.now (length scratch.old) }
     ensures size { let c = call.entry in
@@ -117,23 +114,14 @@ fn open_by<P: ParameterSet>(call: Open<'_>, scratch: &mut [u8]) -> Result<CHead,
     }
 }
 
-// Opens a checkpoint in a set.
-fn open_in_set(set: Set, call: Open<'_>, scratch: &mut [u8]) -> Result<CHead, u32>
-    ensures status { let c = call.entry in status_of result ≡ log_open_number (scheme_for set)
-        (name_of set) c.public.now c.origin.now c.checkpoint.now (length scratch.old) }
-    ensures size { let c = call.entry in
-        IfOk result (λ head. read_size c.checkpoint.now ≡ Some head.size) }
-    ensures root { let c = call.entry in
-        IfOk result (λ head. read_root c.checkpoint.now ≡ Some head.root) }
-    ensures refused { IfErr result (λ number. number ≢ 0) }
-{
-    match set {
-        Set::Sha2_128s => open_by::<Sha2_128s>(call, scratch),
-        Set::Sha2_128f => open_by::<Sha2_128f>(call, scratch),
-        Set::Sha2_192s => open_by::<Sha2_192s>(call, scratch),
-        Set::Sha2_192f => open_by::<Sha2_192f>(call, scratch),
-        Set::Sha2_256s => open_by::<Sha2_256s>(call, scratch),
-        Set::Sha2_256f => open_by::<Sha2_256f>(call, scratch),
+impl<'a> OnSetInScratch for Open<'a> {
+    type Out = Result<CHead, u32>;
+
+    ghost gives = { λ c Z name len result. IsOpened Z name c.public.now c.origin.now
+        c.checkpoint.now len result };
+
+    fn on<P: SetSuite>(self, scratch: &mut [u8]) -> Result<CHead, u32> {
+        open_by::<P>(self, scratch)
     }
 }
 
@@ -162,7 +150,7 @@ pub extern "C" fn slh_log_open(
     let Some(set) = Set::from_number(set) else {
         return UNKNOWN_SET;
     };
-    match open_in_set(set, call, scratch) {
+    match set.run_in_scratch(call, scratch) {
         Ok(opened) => {
             *head = opened;
             OK

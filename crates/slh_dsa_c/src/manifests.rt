@@ -7,7 +7,7 @@ ghost use Rattle.slh_manifest.specs.Checking.{count_of, entries_of, has_entries}
 
 use crate::set::read_in_set;
 use crate::status::{FORM, INVALID, LENGTH, NO_ENTRY, OK, UNKNOWN_SET};
-use slh_dsa::{ParameterSet, VerifyingKey};
+use slh_dsa::{SetSizes, VerifyingKey};
 use slh_manifest::{CheckError, Manifest};
 use slh_sets::{OnSet, SetSuite};
 
@@ -43,7 +43,7 @@ struct Open<'a> {
 }
 
 // The number of entries, or the number of the refusal.
-fn count_in<P: ParameterSet>(public: &[u8], manifest: &[u8]) -> Result<u32, u32>
+fn count_in<P: SetSizes>(public: &[u8], manifest: &[u8]) -> Result<u32, u32>
     ensures { result ≡ open_answer P.scheme public.now manifest.now }
 {
     let Ok(key) = VerifyingKey::<P>::try_from(public) else {

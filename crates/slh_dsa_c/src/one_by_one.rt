@@ -22,9 +22,7 @@ pub struct OneByOne<P: ParameterSet + SmallSuite> {
 impl<P: ParameterSet + SmallSuite> HashSuite for OneByOne<P> {
     type N = P::N;
 
-    const DIGEST_LEN: usize = P::DIGEST_LEN;
-
-    ghost DIGEST_LEN = { P.DIGEST_LEN };
+    type M = P::M;
 
     type Keyed = <P as SmallSuite>::Small;
 
@@ -115,49 +113,33 @@ impl<P: ParameterSet + SmallSuite> HashSuite for OneByOne<P> {
 }
 
 impl<P: ParameterSet + SmallSuite> WotsParams for OneByOne<P> {
-    const WOTS_MSG_LEN: usize = P::WOTS_MSG_LEN;
+    type WotsMsgLen = P::WotsMsgLen;
 
-    ghost WOTS_MSG_LEN = { P.WOTS_MSG_LEN };
-
-    const WOTS_SIG_LEN: usize = P::WOTS_SIG_LEN;
-
-    ghost WOTS_SIG_LEN = { P.WOTS_SIG_LEN };
+    type WotsSigLen = P::WotsSigLen;
 
     ghost valid_wots = { P.valid_wots };
 }
 
 impl<P: ParameterSet + SmallSuite> XmssParams for OneByOne<P> {
-    const H_PRIME: usize = P::H_PRIME;
-
-    ghost H_PRIME = { P.H_PRIME };
+    type HPrime = P::HPrime;
 
     ghost valid_xmss = { P.valid_xmss };
 }
 
 impl<P: ParameterSet + SmallSuite> HypertreeParams for OneByOne<P> {
-    const D: usize = P::D;
+    type D = P::D;
 
-    ghost D = { P.D };
-
-    const H: usize = P::H;
-
-    ghost H = { P.H };
+    type H = P::H;
 
     ghost valid_hypertree = { P.valid_hypertree };
 }
 
 impl<P: ParameterSet + SmallSuite> ForsParams for OneByOne<P> {
-    const K: usize = P::K;
+    type K = P::K;
 
-    ghost K = { P.K };
+    type A = P::A;
 
-    const A: usize = P::A;
-
-    ghost A = { P.A };
-
-    const MD: usize = P::MD;
-
-    ghost MD = { P.MD };
+    type MD = P::MD;
 
     ghost scheme = { P.scheme };
 
@@ -169,9 +151,11 @@ impl<P: ParameterSet + SmallSuite> ForsParams for OneByOne<P> {
 impl<P: ParameterSet + SmallSuite> ParameterSet for OneByOne<P> {
     const NAME: &'static str = <P as ParameterSet>::NAME;
 
-    const SIG_LEN: usize = P::SIG_LEN;
+    type SkLen = P::SkLen;
 
-    ghost SIG_LEN = { P.SIG_LEN };
+    type VkLen = P::VkLen;
+
+    type SigLen = P::SigLen;
 
     ghost set_name = { P.set_name };
 
@@ -180,6 +164,10 @@ impl<P: ParameterSet + SmallSuite> ParameterSet for OneByOne<P> {
     }
 
     ghost name_len = { P.name_len };
+
+    ghost sk_len = { P.sk_len };
+
+    ghost vk_len = { P.vk_len };
 
     ghost sig_len = { P.sig_len };
 }

@@ -1,9 +1,10 @@
 //! Signing a message that comes in pieces, twice.
-ghost use Rattle.std.specs.Prelude.{◌≡◌, ◌≢◌, ◌*◌, ℕ, List, [], ◌++◌, Option, length};
+ghost use Rattle.std.specs.Prelude.{◌≡◌, ◌≢◌, ◌*◌, ◌^◌, ◌<◌, ℕ, List, [], ◌++◌, Option, length};
 ghost use Rattle.std.specs.Prelude.{IfOk, IfSome, MatchOption, MatchResult, OnOk, OnErr};
 ghost use Rattle.std.specs.Prelude.{None, Some, Err};
 ghost use Rattle.std.specs.Option.{option_copied};
 ghost use Rattle.slh_dsa_c.specs.SignPieces.{HasOtherLength, IsAside, IsNone, IsOtherKey, Signs};
+ghost use Rattle.slh_dsa_c.specs.SignPieces.{Ends, IsOverfull};
 ghost use Rattle.slh_dsa_c.specs.SignPieces.{IsOtherKeyIn, StandsIn, begin_refusal, begin_status};
 ghost use Rattle.slh_dsa_c.specs.SignPieces.{finish_number, finish_status, pass_number};
 ghost use Rattle.slh_dsa_c.specs.SignPieces.{pass_numbered, randomizer_in};
@@ -13,9 +14,9 @@ ghost use Rattle.slh_dsa.specs.declared.error.Error.TheVariants.{ContextTooLong,
 ghost use Rattle.slh_frames.specs.Frames.{frame};
 ghost use Rattle.slh_sets.specs.Sets.{scheme_numbered};
 ghost use Rattle.slh_stream.specs.Passes.{randomizer_for};
-ghost use Rattle.slh_stream.specs.SuspendedPass.{IsBlank, IsFirstAside, IsSecondAside};
-ghost use Rattle.slh_trees.specs.Refusals.{RefusedExactly, context_refusal, message_refusal};
-ghost use Rattle.slh_internal.specs.Signing.{signature_of};
+ghost use Rattle.slh_stream.specs.SuspendedPass.{IsBlank, IsEnded, IsFirstAside, IsSecondAside};
+ghost use Rattle.slh_core.specs.Refusals.{RefusedExactly, context_refusal, message_refusal};
+ghost use Rattle.slh_trees.specs.Signing.{signature_of};
 
 use crate::set::{read_in_set, write_in_set};
 use crate::status::{CHANGED, LENGTH, MESSAGE_TOO_LONG, OK, STATE, UNKNOWN_SET, number_of};
@@ -55,7 +56,7 @@ impl CSigner {
     /// No signing, to be written over by `slh_dsa_sha2_sign_begin`.
     pub fn new() -> Self
         ensures none { IsNone result }
-        ensures blank { IsBlank result.state }
+        ensures blank { IsBlank result.state.numbers }
     {
         CSigner {
             set: 0,
@@ -173,6 +174,7 @@ fn update_in<P: SetSuite>(
         → IsAside P.N.USIZE pass state.old key opt_rand context rand m
         → MatchOption result ⊥ (λ r. OnOk r
         (IsAside P.N.USIZE pass state.new key opt_rand context rand (m ++ piece.now))) }
+    ensures overfull { 2 ^ 60 < state.old.numbers.taken → result ≡ None }
 {
     match pass {
         Pass::First => state.update::<P>(piece),
@@ -199,6 +201,7 @@ impl<'a> OnSet for Update<'a> {
         × StandsIn Z c.pass state key opt_rand context rand (m ++ c.piece.now))
         (λ e. e ≡ update_number (m ++ c.piece.now)))
         × (pass_numbered c.pass ≡ None → result ≡ Err 13)
+        × (2 ^ 60 < c.state.numbers.taken → result ≡ Err 13)
         × MatchResult result (λ _. Unit {0}) (λ e. e ≢ 0) };
 
     fn on<P: SetSuite>(self) -> Result<SuspendedPass, u32> {
@@ -225,6 +228,7 @@ pub extern "C" fn slh_dsa_sha2_sign_update(signer: &mut CSigner, piece: &[u8]) -
         → result ≡ 0 → Signs signer.new key opt_rand context rand (m ++ piece.now) }
     ensures chosen { (signer.new.set ≡ signer.old.set) × (signer.new.pass ≡ signer.old.pass) }
     ensures unknown { IsNone signer.old → result ≡ 13 }
+    ensures overfull { IsOverfull signer.old → result ≢ 0 }
     ensures same { result ≢ 0 → signer.new ≡ signer.old }
 {
     let call = Update {
@@ -261,6 +265,7 @@ impl<'a> OnSet for Again<'a> {
         (randomizer_for Z key opt_rand (frame context m)) [])
         (λ e. e ≡ number))
         × (c.pass ≢ 1 → result ≡ Err 13)
+        × (2 ^ 60 < c.state.numbers.taken → result ≡ Err 13)
         × MatchResult result (λ _. Unit {0}) (λ e. e ≢ 0) };
 
     fn on<P: SetSuite>(self) -> Result<SuspendedPass, u32> {
@@ -289,6 +294,7 @@ pub extern "C" fn slh_dsa_sha2_sign_again(signer: &mut CSigner, ctx: &[u8]) -> u
     ensures chosen { result ≡ 0 → (signer.new.set ≡ signer.old.set) × (signer.new.pass ≡ 2) }
     ensures unknown { IsNone signer.old → result ≡ 13 }
     ensures late { signer.old.pass ≢ 1 → result ≡ 13 }
+    ensures overfull { IsOverfull signer.old → result ≢ 0 }
     ensures same { result ≢ 0 → signer.new ≡ signer.old }
 {
     let call = Again {
@@ -329,6 +335,7 @@ fn finish_by<P: SetSuite>(state: &SuspendedPass, key: &[u8], out: &mut [u8]) -> 
         → IsSecondAside P.scheme.n state.now begun opt_rand context rand m
         → IsOtherKey P.scheme key.now begun → result ≡ 13 }
     ensures length { length key.now ≢ 4 * P.scheme.n → result ≡ 5 }
+    ensures ended { result ≡ 0 → IsEnded P.scheme P.scheme.n state.now key.now out.new }
     ensures same { result ≢ 0 → out.new ≡ out.old }
 {
     let Ok(key) = SigningKey::<P>::try_from(key) else {
@@ -364,9 +371,10 @@ impl<'a> WriteOnSet for Finish<'a> {
 
     ghost wrote = { λ status. status ≡ 0 };
 
-    ghost writes = { λ c Z sig. (opt_rand : Option (List ℕ)) (context rand m : List ℕ)
+    ghost writes = { λ c Z sig. ((opt_rand : Option (List ℕ)) (context rand m : List ℕ)
         → StandsIn Z c.pass c.state c.key.now opt_rand context rand m
-        → sig ≡ signature_of Z c.key.now opt_rand (frame context m) };
+        → sig ≡ signature_of Z c.key.now opt_rand (frame context m))
+        × IsEnded Z Z.n c.state c.key.now sig };
 
     fn write<P: SetSuite>(self, out: &mut [u8]) -> u32 {
         if self.pass != 2 {
@@ -393,8 +401,9 @@ pub extern "C" fn slh_dsa_sha2_sign_finish(signer: &mut CSigner, key: &[u8], sig
     ensures length { HasOtherLength signer.old.set key.now → signer.old.pass ≡ 2 → result ≡ 5 }
     ensures unknown { IsNone signer.old → result ≡ 13 }
     ensures early { signer.old.pass ≢ 2 → result ≡ 13 }
+    ensures ended { result ≡ 0 → Ends signer.old key.now sig.new }
     ensures spent { IsNone signer.new }
-    ensures wiped { IsBlank signer.new.state }
+    ensures wiped { IsBlank signer.new.state.numbers }
     ensures same { result ≢ 0 → sig.new ≡ sig.old }
 {
     let call = Finish {

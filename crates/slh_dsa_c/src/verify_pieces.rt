@@ -1,14 +1,15 @@
 //! Verifying a message that comes in pieces.
-ghost use Rattle.std.specs.Prelude.{◌≡◌, ◌≢◌, ◌*◌, ℕ, List, [], ◌++◌, length, take};
-ghost use Rattle.std.specs.Prelude.{IfOk, MatchResult, None, Err};
+ghost use Rattle.std.specs.Prelude.{◌≡◌, ◌≢◌, ◌*◌, ◌^◌, ◌<◌, ℕ, List, [], ◌++◌, length, take};
+ghost use Rattle.std.specs.Prelude.{IfOk, MatchOption, MatchResult, None, Err};
 ghost use Rattle.slh_dsa_c.specs.Numbers.{mode_numbered};
 ghost use Rattle.slh_dsa_c.specs.VerifyPieces.{HasOtherLength, HasOtherRandomizer, IsNone, StandsIn, Verifies};
-ghost use Rattle.slh_dsa_c.specs.VerifyPieces.{begin_number, begin_refusal, begin_status, update_number};
+ghost use Rattle.slh_dsa_c.specs.VerifyPieces.{Accepts, IsOverfull, begin_number, begin_refusal, begin_status};
+ghost use Rattle.slh_dsa_c.specs.VerifyPieces.{update_number};
 ghost use Rattle.slh_dsa_c.specs.Status.{number_of_refusal, verify_error_by_key, verify_number};
 ghost use Rattle.slh_dsa_c.specs.Status.{verify_status};
-ghost use Rattle.slh_stream.specs.Suspended.{IsBlank, IsSuspended};
-ghost use Rattle.slh_internal.specs.Checking.{signature_size};
-ghost use Rattle.slh_trees.specs.Refusals.{RefusedExactly};
+ghost use Rattle.slh_stream.specs.Suspended.{IsAccepted, IsBlank, IsSuspended};
+ghost use Rattle.slh_trees.specs.Checking.{signature_size};
+ghost use Rattle.slh_core.specs.Refusals.{RefusedExactly};
 
 use crate::mode::mode_of;
 use crate::set::read_in_set;
@@ -31,7 +32,7 @@ impl CVerifier {
     /// No verification, to be written over by `slh_dsa_sha2_verify_begin`.
     pub fn new() -> Self
         ensures none { IsNone result }
-        ensures blank { IsBlank result.state }
+        ensures blank { IsBlank result.state.numbers }
     {
         CVerifier {
             set: 0,
@@ -131,6 +132,7 @@ impl<'a> OnSet for Update<'a> {
         × StandsIn Z c.mode state key context sig (m ++ c.piece.now))
         (λ e. e ≡ update_number (m ++ c.piece.now)))
         × (mode_numbered c.mode ≡ None → result ≡ Err 13)
+        × (2 ^ 60 < c.state.numbers.taken → result ≡ Err 13)
         × MatchResult result (λ _. Unit {0}) (λ e. e ≢ 0) };
 
     fn on<P: SetSuite>(self) -> Result<SuspendedVerifier, u32> {
@@ -156,6 +158,7 @@ pub extern "C" fn slh_dsa_sha2_verify_update(verifier: &mut CVerifier, piece: &[
     ensures chosen { (verifier.new.set ≡ verifier.old.set)
         × (verifier.new.mode ≡ verifier.old.mode) }
     ensures unknown { IsNone verifier.old → result ≡ 13 }
+    ensures overfull { IsOverfull verifier.old → result ≢ 0 }
     ensures same { result ≢ 0 → verifier.new ≡ verifier.old }
 {
     let call = Update {
@@ -189,7 +192,9 @@ impl<'a> OnSet for Finish<'a> {
         × ((key context sig m : List ℕ) → StandsIn Z c.mode c.state key context sig m
         → length c.sig.now ≡ signature_size Z → take Z.n c.sig.now ≢ take Z.n sig → result ≡ 13)
         × (mode_numbered c.mode ≢ None → length c.sig.now ≢ signature_size Z → result ≡ 5)
-        × (mode_numbered c.mode ≡ None → result ≡ 13) };
+        × (mode_numbered c.mode ≡ None → result ≡ 13)
+        × (result ≡ 0 → MatchOption (mode_numbered c.mode) ⊥ (λ m.
+        IsAccepted Z Z.n c.state m c.sig.now)) };
 
     fn on<P: SetSuite>(self) -> u32 {
         match mode_of(self.mode) {
@@ -211,6 +216,7 @@ fn finish_in<P: SetSuite>(state: &SuspendedVerifier, mode: Mode, sig: &[u8]) -> 
         → length sig.now ≡ signature_size P.scheme → take P.N.USIZE sig.now ≢ rand
         → result ≡ 13 }
     ensures length { length sig.now ≢ signature_size P.scheme → result ≡ 5 }
+    ensures accepted { result ≡ 0 → IsAccepted P.scheme P.N.USIZE state.now mode sig.now }
 {
     match state.finish::<P>(mode, sig) {
         Some(Ok(())) => OK,
@@ -230,8 +236,9 @@ pub extern "C" fn slh_dsa_sha2_verify_finish(verifier: &mut CVerifier, sig: &[u8
     ensures length { mode_numbered verifier.old.mode ≢ None
         → HasOtherLength verifier.old.set sig.now → result ≡ 5 }
     ensures unknown { IsNone verifier.old → result ≡ 13 }
+    ensures accepted { result ≡ 0 → Accepts verifier.old sig.now }
     ensures spent { IsNone verifier.new }
-    ensures wiped { IsBlank verifier.new.state }
+    ensures wiped { IsBlank verifier.new.state.numbers }
 {
     let call = Finish {
         mode: verifier.mode,

@@ -4,10 +4,10 @@ ghost use Rattle.std.specs.Prelude.{◌≡◌};
 ghost use Rattle.slh_dsa_c.specs.Status.{verify_number, verify_status};
 
 use crate::verify::{Verify, status_by};
-use slh_dsa::{ParameterSet, Sha2_128f, Sha2_128s, Sha2_192f, Sha2_192s, Sha2_256f, Sha2_256s};
+use slh_dsa::{SetSizes, Sha2_128f, Sha2_128s, Sha2_192f, Sha2_192s, Sha2_256f, Sha2_256s};
 
 // The status of a signature in a set.
-fn verify_in<P: ParameterSet>(mode: u32, public: &[u8], msg: &[u8], ctx: &[u8], sig: &[u8]) -> u32
+fn verify_in<P: SetSizes>(mode: u32, public: &[u8], msg: &[u8], ctx: &[u8], sig: &[u8]) -> u32
     ensures { result ≡ verify_number P.scheme mode public.now ctx.now msg.now sig.now }
 {
     let call = Verify {

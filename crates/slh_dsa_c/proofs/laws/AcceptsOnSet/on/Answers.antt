@@ -5,6 +5,6 @@ use Rattle.slh_dsa_c.proofs.laws.AcceptsOnSet.on.Goals as goal
 
 pub returns : goal.returns
 returns g c =
-    let Z = g.P.ForsParams.scheme in
-    let size : Z.n ≡ g.P.N.ArraySize.USIZE = ap (λ (Z : Scheme). Z.n) g.met.P.ForsParams.scheme_is in
+    let Z = g.P.ForsSizes.scheme in
+    let size : Z.n ≡ g.P.N.ArraySize.USIZE = ap (λ (Z : Scheme). Z.n) g.met.P.ForsSizes.scheme_is in
     subst (λ n. Accepts Z n) (sym size) c.signed_is_accepted.ensures
