@@ -27,20 +27,24 @@ fn run_root(leaves: &[[u8; 32]], level: u32, index: u64) -> Option<[u8; 32]> {
     Some(root_of::<Sha256>(leaves.get(start as usize..end as usize)?))
 }
 
-// Puts a hash at a place of a tile's bytes.
-fn put(out: &mut [u8], place: u32, hash: &[u8; 32]) {
-    let start = place as usize * 32;
-    if start + 32 <= out.len() {
-        out[start..start + 32].copy_from_slice(hash);
+// Puts a hash at a place of a tile.
+fn put(out: &mut [[u8; 32]], place: u32, hash: &[u8; 32]) {
+    let place = place as usize;
+    if place < out.len() {
+        out[place] = *hash;
     }
 }
 
-impl<'a> TileSource for Made<'a> {
-    ghost use Rattle.std.specs.Prelude.{false};
+impl<'a> TileSource<Sha256> for Made<'a> {
+    ghost use Rattle.std.specs.Prelude.{[], false};
+
+    ghost tells = { false };
 
     ghost has = { λ _ _. false };
 
-    fn read(&self, tile: Tile, out: &mut [u8]) -> bool {
+    ghost digest = { λ _ _. [] };
+
+    fn read(&self, tile: Tile, out: &mut [[u8; 32]]) -> bool {
         if self.missing == Some(tile) {
             return false;
         }
@@ -53,7 +57,7 @@ impl<'a> TileSource for Made<'a> {
         }
         if self.bent == Some(tile) {
             for j in 0..out.len() {
-                out[j] ^= 1;
+                out[j][0] ^= 1;
             }
         }
         true
@@ -184,12 +188,16 @@ fn same_root(height: u32) -> [u8; 32] {
     root
 }
 
-impl TileSource for Same {
-    ghost use Rattle.std.specs.Prelude.{false};
+impl TileSource<Sha256> for Same {
+    ghost use Rattle.std.specs.Prelude.{[], false};
+
+    ghost tells = { false };
 
     ghost has = { λ _ _. false };
 
-    fn read(&self, tile: Tile, out: &mut [u8]) -> bool {
+    ghost digest = { λ _ _. [] };
+
+    fn read(&self, tile: Tile, out: &mut [[u8; 32]]) -> bool {
         self.reads.set(self.reads.get().wrapping_add(1));
         let hash = same_root(tile.level.wrapping_mul(8));
         for j in 0..tile.width {

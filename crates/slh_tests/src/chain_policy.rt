@@ -2,7 +2,7 @@
 use crate::keys_128f::{key, public};
 use crate::shown::shows;
 use slh_chain::Chain;
-use slh_dsa::ParameterSet;
+use slh_dsa::SetSizes;
 use std::alloc::Global;
 use std::str;
 
@@ -20,7 +20,7 @@ fn allows(name: &[u8], today: &str, revoked: &[&str], purpose: &str) -> Option<b
 }
 
 // Whether each link of a chain does.
-fn is_allowed<P: ParameterSet>(
+fn is_allowed<P: SetSizes>(
     chain: &Chain<'_, P>,
     today: &str,
     revoked: &[&str],

@@ -15,12 +15,12 @@ const CONTEXT: &[u8] = b"Test context!";
 
 // Each operation on the set stands here once: a call that names a set is dear to prove.
 fn sign(sk_seed: u8, opt_rand: Option<&[u8]>, out: &mut [u8]) -> Result<(), Error> {
-    key_of(sk_seed, 3).sign_into(Mode::Pure, CONTEXT, MESSAGE, opt_rand, out)
+    key_of(sk_seed, 3).hash_sign_into(Mode::Pure, MESSAGE, CONTEXT, opt_rand, out)
 }
 
 fn verify(public: &[u8], message: &[u8], context: &[u8], sig: &[u8]) -> Result<(), Error> {
     let key = VerifyingKey::<Sha2_128f>::try_from(public)?;
-    key.verify_bytes(Mode::Pure, context, message, sig)
+    key.hash_verify(Mode::Pure, message, context, sig)
 }
 
 // The signature by the key of a secret seed, and zeros where none was made.

@@ -6,18 +6,18 @@ ghost use Rattle.std.specs.Prelude.{refl};
 ghost use Rattle.slh_core.specs.Parameters.{scheme_of};
 ghost use Rattle.slh_core.specs.Suite.{seeded};
 ghost use Rattle.slh_core.specs.Steps.{IsFresh};
-ghost use Rattle.slh_trees.specs.ToySuite.{toy, toy_lengths, toy_bytes, toy_digest_length};
+ghost use Rattle.slh_merkle.specs.ToySuite.{toy, toy_lengths, toy_bytes, toy_digest_length};
 
 use crate::shown::shows;
-use hybrid_array::sizes::U1;
+use hybrid_array::sizes::{U1, U2, U3, U4, U5};
 use slh_core::address::{Address, ForsTree, WotsHash};
 use slh_core::nbytes::NBytes;
 use slh_core::params::{ForsParams, HypertreeParams, WotsParams, XmssParams};
 use slh_core::steps::Steps;
 use slh_core::suite::HashSuite;
 use slh_core::wots::wots_chain;
-use slh_trees::toy::Toy;
-use slh_trees::{fors_node, fors_sign_root, ht_sign, ht_verify, xmss_node, xmss_sign};
+use slh_merkle::toy::Toy;
+use slh_merkle::{fors_node, fors_sign_root, ht_sign, ht_verify, xmss_node, xmss_sign};
 use std::cell::Cell;
 use std::marker::Brand;
 use std::sync::ledger::{Blank, Ledger};
@@ -37,9 +37,7 @@ fn count(keyed: &CountingKeyed) {
 impl HashSuite for Counting {
     type N = U1;
 
-    const DIGEST_LEN: usize = 3;
-
-    ghost DIGEST_LEN = { 3 };
+    type M = U3;
 
     type Keyed = CountingKeyed;
 
@@ -131,13 +129,9 @@ impl HashSuite for Counting {
 impl WotsParams for Counting {
     ghost use Rattle.std.proofs.Common.{rules};
 
-    const WOTS_MSG_LEN: usize = 2;
+    type WotsMsgLen = U2;
 
-    ghost WOTS_MSG_LEN = { 2 };
-
-    const WOTS_SIG_LEN: usize = 5;
-
-    ghost WOTS_SIG_LEN = { 5 };
+    type WotsSigLen = U5;
 
     ghost valid_wots = { Prim.search rules };
 }
@@ -145,9 +139,7 @@ impl WotsParams for Counting {
 impl XmssParams for Counting {
     ghost use Rattle.std.proofs.Common.{lit≤};
 
-    const H_PRIME: usize = 2;
-
-    ghost H_PRIME = { 2 };
+    type HPrime = U2;
 
     ghost valid_xmss = { record { height_low = lit≤ tt; height_high = lit≤ tt } };
 }
@@ -155,13 +147,9 @@ impl XmssParams for Counting {
 impl HypertreeParams for Counting {
     ghost use Rattle.std.proofs.Common.{rules};
 
-    const D: usize = 2;
+    type D = U2;
 
-    ghost D = { 2 };
-
-    const H: usize = 4;
-
-    ghost H = { 4 };
+    type H = U4;
 
     ghost valid_hypertree = { Prim.search rules };
 }
@@ -169,17 +157,11 @@ impl HypertreeParams for Counting {
 impl ForsParams for Counting {
     ghost use Rattle.std.proofs.Common.{rules};
 
-    const K: usize = 2;
+    type K = U2;
 
-    ghost K = { 2 };
+    type A = U2;
 
-    const A: usize = 2;
-
-    ghost A = { 2 };
-
-    const MD: usize = 1;
-
-    ghost MD = { 1 };
+    type MD = U1;
 
     ghost scheme = { scheme_of toy 1 2 2 2 2 };
 

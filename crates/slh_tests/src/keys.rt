@@ -7,7 +7,7 @@ use crate::shown::shows;
 use crate::worked::{KEY, MESSAGE, SIGNATURE};
 use slh_core::steps::Steps;
 use slh_dsa::{Error, SigningKey, VerifyingKey};
-use slh_trees::toy::Toy;
+use slh_merkle::toy::Toy;
 use std::marker::Brand;
 use std::sync::ledger::{Blank, Ledger};
 

@@ -1,4 +1,4 @@
-//! Tests of `slh_trees`, `slh_audit` and `slh_dsa` from outside: the toy suite, whose values were
+//! Tests of `slh_merkle`, `slh_audit` and `slh_dsa` from outside: the toy suite, whose values were
 //! worked by hand, and a known key of SLH-DSA-SHA2-128f. Below them those of `slh_core` (`core_`),
 //! `slh_hash` (`hash_`) and `signature_core` (`signature_traits`), above them those of `slh_sets`
 //! (`sets`) and, over its six sets, of `slh_stream` (`stream_`).
@@ -77,6 +77,10 @@ mod signature_traits;
 mod signatures;
 #[cfg(test)]
 mod stream_answers;
+#[cfg(test)]
+mod stream_aside;
+#[cfg(test)]
+mod stream_by_key;
 #[cfg(test)]
 mod stream_pieces;
 #[cfg(test)]

@@ -25,9 +25,7 @@ fn signed_elsewhere(alloc: Global, body: &[u8; 88]) -> Option<Vec<u8>> {
     let signature = key(3)
         .try_sign_with_context(alloc, &body, CONTEXT, None)
         .ok()?;
-    builder
-        .with_signature::<Sha2_128f>(alloc, signature.as_slice())
-        .ok()
+    builder.with_signature::<Sha2_128f>(alloc, &signature).ok()
 }
 
 fn files(alloc: Global) -> Option<MemStore> {

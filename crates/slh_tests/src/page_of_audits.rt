@@ -2,7 +2,7 @@
 use crate::shown;
 use crate::worked::{SIGNATURE, changed};
 use slh_audit::{AuditError, Evidence, Verdict, audit, check_evidence};
-use slh_trees::toy::Toy;
+use slh_merkle::toy::Toy;
 
 const KEY: [u8; 4] = [5, 7, 3, 0xe1];
 

@@ -1,10 +1,10 @@
-//! The example of the page of `slh_internal`.
+//! The example of the page of `slh_trees`.
 use crate::shown::shows;
 use crate::worked::{SIGNATURE, changed};
 use slh_core::nbytes::NBytes;
-use slh_internal::SigView;
-use slh_internal::uncounted::check_root;
-use slh_trees::toy::Toy;
+use slh_merkle::toy::Toy;
+use slh_trees::SigView;
+use slh_trees::uncounted::check_root;
 
 // what stands before an empty context (FIPS 205, algorithm 22)
 const HEAD: [u8; 2] = [0, 0];

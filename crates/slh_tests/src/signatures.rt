@@ -6,8 +6,8 @@ use crate::shown::shows;
 use crate::worked::{KEY, MESSAGE, SIGNATURE, signing_key};
 use hybrid_array::{Array, ArraySize};
 use signature_core::SignatureEncoding;
-use slh_dsa::{ArrayLengths, Error, Frame, Mode, Signature, SigningKey};
-use slh_trees::toy::Toy;
+use slh_dsa::{Error, Frame, Mode, ParameterSet, Signature, SigningKey};
+use slh_merkle::toy::Toy;
 use std::alloc::{AllocError, Global};
 
 // The identifiers of SHA-256 and SHA-512, and the digests of `abc`.
@@ -44,7 +44,7 @@ fn is_vector(given: Result<Vec<u8>, AllocError>, bytes: &[u8]) -> bool {
     }
 }
 
-fn is_cloned<P: ArrayLengths>(alloc: Global, sig: &Signature<P>) -> bool {
+fn is_cloned<P: ParameterSet>(alloc: Global, sig: &Signature<P>) -> bool {
     match sig.clone(alloc) {
         Ok(copy) => copy == *sig,
         Err(_) => false,
@@ -74,7 +74,7 @@ fn a_framed_message_is_signed_as_in_pure_mode(rt: HostRuntime) {
     shows(&rt, is_worked(rt.alloc(), made_in_pure_mode(rt.alloc())));
 }
 
-fn are_bytes<P: ArrayLengths>(alloc: Global, key: &SigningKey<P>) -> bool {
+fn are_bytes<P: ParameterSet>(alloc: Global, key: &SigningKey<P>) -> bool {
     is_array(key.to_bytes(alloc), &KEY)
         && is_vector(key.to_vec(alloc), &KEY)
         && is_array(key.verifying_key().to_bytes(alloc), &KEY[2..])

@@ -9,7 +9,7 @@ use hmac_sha256::Hash;
 use hybrid_array::ArraySize;
 use sha2::{Digest, Sha512};
 use slh_core::params::chain_sizes;
-use slh_dsa::{Mode, ParameterSet, SigningKey};
+use slh_dsa::{Mode, SetSizes, SigningKey};
 use slh_sets::{OnSet, Set, SetSuite};
 use slh_stream::{sign_digest, verify_digest};
 
@@ -23,7 +23,7 @@ const NUMBERS: [u8; 32] = [
 const MOST: usize = 49_856;
 
 // Whether the digest of a message gets the wanted signature, and it is accepted.
-fn is_known_by_digest<P: ParameterSet>(
+fn is_known_by_digest<P: SetSizes>(
     key: &SigningKey<P>,
     signing: &Signing<'_>,
     wanted: &str,

@@ -3,7 +3,7 @@ ghost use Rattle.std.specs.Prelude.{◌≤◌};
 
 use hybrid_array::ArraySize;
 use slh_core::params::chain_sizes;
-use slh_dsa::{Error, Mode, ParameterSet, SigningKey, VerifyingKey};
+use slh_dsa::{Error, Mode, SetSizes, SigningKey, VerifyingKey};
 use slh_sets::SetSuite;
 use slh_stream::{
     DigestSigner, FirstPass, MessageVerifier, PassError, SecondPass, SuspendedVerifier,
@@ -20,7 +20,7 @@ pub(crate) struct Signing<'a> {
 }
 
 /// The key of three seeds, which repeat 1, 2 and 3.
-pub(crate) fn key<P: ParameterSet>() -> Result<SigningKey<P>, Error> {
+pub(crate) fn key<P: SetSizes>() -> Result<SigningKey<P>, Error> {
     chain_sizes::<P>();
     let n = P::N::USIZE;
     SigningKey::slh_keygen_internal(&[1; 32][..n], &[2; 32][..n], &[3; 32][..n])
@@ -54,7 +54,7 @@ fn sign_in_passes<P: SetSuite>(
     Ok(pass.finish_into(out))
 }
 
-fn sign_by_digest<P: ParameterSet>(
+fn sign_by_digest<P: SetSizes>(
     key: &SigningKey<P>,
     signing: &Signing<'_>,
     out: &mut [u8],

@@ -5,7 +5,7 @@ use rand_core::Rng;
 use signature_core::counter::Counter;
 use signature_core::{KeypairRef, RandomizedSigner, Signer, Verifier};
 use slh_dsa::{Signature, SigningKey};
-use slh_trees::toy::Toy;
+use slh_merkle::toy::Toy;
 use std::alloc::Global;
 
 // Whether the verifying key of a key accepts a signature that was made of the message.

@@ -4,7 +4,7 @@
 // Each operation on keys of the suite stands here once: a call that names a set is dear to prove.
 
 use slh_dsa::{Error, SigningKey};
-use slh_trees::toy::Toy;
+use slh_merkle::toy::Toy;
 
 pub(crate) const KEY: [u8; 4] = [5, 7, 3, 0xe1];
 
