@@ -26,6 +26,23 @@ processor() {
     fi
 }
 
+# is_level NAME: whether code is built for that processor. The toolchain's way by LLVM refuses x86-64-v4,
+# and what it refuses would be told only after all proofs.
+is_level() {
+    case $1 in
+    x86-64 | x86-64-v2 | x86-64-v3) return 0 ;;
+    esac
+    say "no code is built for '$1': SLH_CPU and SLH_HWCAPS take x86-64, x86-64-v2 and x86-64-v3"
+    return 1
+}
+
+# are_levels: whether code is built for each processor that SLH_CPU and SLH_HWCAPS name
+are_levels() {
+    for named in ${SLH_CPU:-} ${SLH_HWCAPS:-}; do
+        is_level "$named" || return 1
+    done
+}
+
 # The rows of crates.txt for a crate and all of the repository's that it stands on.
 rows_below() {
     awk -v crate="$1" '
@@ -185,6 +202,7 @@ build() {
 # program_of CRATE: sets `program` to the crate's program, which is built where it isn't yet
 program_of() {
     cpu=$(processor)
+    is_level "$cpu" || return 1
     program=$top/out/$cpu/$1
     is_built "$program" "$(sources_sum "$1")" || build "$1" run "$1" "$program"
 }
@@ -192,6 +210,7 @@ program_of() {
 # archive_of CRATE: sets `archive` to the crate's static library, which is built where it isn't yet
 archive_of() {
     cpu=$(processor)
+    is_level "$cpu" || return 1
     archive=$top/out/$cpu/lib$1.a
     is_built "$archive" "$(sources_sum "$1")" || build "$1" lib "lib$1.a" "$archive"
 }
