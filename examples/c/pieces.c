@@ -12,7 +12,7 @@
 
 enum { MSG = 300, CTX = 7 };
 
-_Static_assert(sizeof(slh_dsa_verifier) == 736 && sizeof(slh_dsa_signer) == 800, "C.md tells it");
+_Static_assert(sizeof(slh_dsa_verifier) == 744 && sizeof(slh_dsa_signer) == 808, "C.md tells it");
 
 static uint8_t seeds[SLH_DSA_MAX_SEEDS_BYTES], key[SLH_DSA_MAX_SIGNING_KEY_BYTES];
 static uint8_t public_key[SLH_DSA_MAX_VERIFYING_KEY_BYTES];
@@ -225,7 +225,34 @@ static void states_are_whole(void)
     WANT(memcmp(&s[0].state, &s[1].state, sizeof s[0].state) == 0, 1);
 }
 
-/* Each call of a state of any bytes answers something. */
+/* What ends a copy of a state. */
+static slh_dsa_status verify_ends(const slh_dsa_verifier *of)
+{
+    slh_dsa_verifier *v = malloc(sizeof *v);
+    slh_dsa_status status;
+
+    if (v == NULL)
+        abort();
+    memcpy(v, of, sizeof *v);
+    status = slh_dsa_sha2_verify_finish(v, whole, bytes);
+    free(v);
+    return status;
+}
+
+static slh_dsa_status sign_ends(const slh_dsa_signer *of)
+{
+    slh_dsa_signer *s = malloc(sizeof *s);
+    slh_dsa_status status;
+
+    if (s == NULL)
+        abort();
+    memcpy(s, of, sizeof *s);
+    status = slh_dsa_sha2_sign_finish(s, key, 4 * n, signature, bytes);
+    free(s);
+    return status;
+}
+
+/* Each call of a state of any bytes answers something, and none accepts or signs. */
 static void any_bytes(const uint8_t *filling, size_t filling_bytes)
 {
     slh_dsa_verifier *v = malloc(sizeof *v);
@@ -242,18 +269,21 @@ static void any_bytes(const uint8_t *filling, size_t filling_bytes)
     WANT(slh_dsa_sha2_verify_update(v, msg, 1) == SLH_DSA_STATE, 1);
     WANT(slh_dsa_sha2_sign_update(s, msg, 1) == SLH_DSA_STATE, 1);
     WANT(slh_dsa_sha2_sign_again(s, ctx, CTX) == SLH_DSA_STATE, 1);
-    /* With a set, a mode and a pass, what they stand for is up to the rest. */
+    WANT(verify_ends(v), SLH_DSA_STATE);
+    WANT(sign_ends(s), SLH_DSA_STATE);
+    /* With a set, a mode and a pass, which stand there twice, what they stand for is up to the
+       rest. */
     for (uint32_t number = 0; number < 9; number++) {
         set_of[0] = set;
-        set_of[1] = number % 3;
+        set_of[1] = set_of[2] = number % 3;
         pass_of[0] = set;
-        pass_of[1] = number % 3;
+        pass_of[1] = pass_of[2] = number % 3;
         (void)!slh_dsa_sha2_verify_update(v, msg, MSG);
         (void)!slh_dsa_sha2_sign_update(s, msg, MSG);
         (void)!slh_dsa_sha2_sign_again(s, ctx, CTX);
+        WANT(verify_ends(v) != SLH_DSA_OK, 1);
+        WANT(sign_ends(s) != SLH_DSA_OK, 1);
     }
-    (void)!slh_dsa_sha2_verify_finish(v, whole, bytes);
-    WANT(slh_dsa_sha2_sign_finish(s, key, 4 * n, signature, bytes) != SLH_DSA_OK, 1);
     free(v);
     free(s);
 }

@@ -244,6 +244,7 @@ static void sizes(void)
     WANT_SIZES(192F);
     WANT_SIZES(256S);
     WANT_SIZES(256F);
+    WANT(slh_dsa_version(), SLH_DSA_VERSION_NUMBER);
     WANT(slh_dsa_sha2_n(0) == 0 && slh_dsa_sha2_n(7) == 0, 1);
     WANT(slh_dsa_sha2_signature_bytes(0) == 0 && slh_dsa_sha2_signature_bytes(7) == 0, 1);
     WANT(slh_dsa_sha2_n(UINT32_MAX) == 0 && slh_dsa_sha2_signature_bytes(UINT32_MAX) == 0, 1);

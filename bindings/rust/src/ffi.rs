@@ -30,24 +30,24 @@ pub(crate) struct RawEvidence {
 #[repr(C)]
 #[derive(Clone)]
 pub(crate) struct RawVerifier {
-    words: [u64; 92],
+    words: [u64; 93],
 }
 
 /// `slh_dsa_signer`: a signing between two pieces of its message. It is secret.
 #[repr(C)]
 pub(crate) struct RawSigner {
-    words: [u64; 100],
+    words: [u64; 101],
 }
 
 impl RawVerifier {
     pub(crate) fn new() -> RawVerifier {
-        RawVerifier { words: [0; 92] }
+        RawVerifier { words: [0; 93] }
     }
 }
 
 impl RawSigner {
     pub(crate) fn new() -> RawSigner {
-        RawSigner { words: [0; 100] }
+        RawSigner { words: [0; 101] }
     }
 }
 

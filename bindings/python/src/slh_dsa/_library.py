@@ -52,13 +52,13 @@ class EvidenceStructure(ctypes.Structure):
 class VerifierStructure(ctypes.Structure):
     """`slh_dsa_verifier` of slh_dsa.h."""
 
-    _fields_ = [("words", ctypes.c_uint64 * 92)]
+    _fields_ = [("words", ctypes.c_uint64 * 93)]
 
 
 class SignerStructure(ctypes.Structure):
     """`slh_dsa_signer` of slh_dsa.h. It is cleared once nobody has it any more."""
 
-    _fields_ = [("words", ctypes.c_uint64 * 100)]
+    _fields_ = [("words", ctypes.c_uint64 * 101)]
 
     def __del__(self) -> None:
         ctypes.memset(ctypes.addressof(self), 0, ctypes.sizeof(self))
@@ -142,6 +142,7 @@ def _declared(library: ctypes.CDLL) -> dict[str, Any]:
     for name in ("n", "signature_bytes"):
         named[_PREFIX + name] = (name, size, [number])
     others: dict[str, list[Any]] = {
+        "slh_dsa_version": [],
         "slh_chain_walk": [number, *buffer * 3, ctypes.POINTER(EndStructure)],
         "slh_manifest_open": [number, *buffer * 2, ctypes.POINTER(number)],
         "slh_manifest_entry": [*buffer, number, file],

@@ -1,3 +1,3 @@
 """The version of the package, which is that of the library for C."""
 
-__version__ = "0.20.0"
+__version__ = "0.21.0"
