@@ -15,17 +15,27 @@ pub fn look(rt: &HostRuntime, verb: &str, one: &str, other: &str) -> io::Result<
         "same" => same(rt, one, other),
         "mode" => mode(rt, one),
         "list" => list(rt, one),
-        "copy" => done(fs::copy(rt, one, other)?),
-        "link" => done(symlink(rt, one, other)?),
-        "folder" => done(fs::create_dir(rt, one)?),
-        "remove" => done(fs::remove_file(rt, one)?),
+        "copy" => copy(rt, one, other),
+        "link" => done(symlink(rt, one, other)),
+        "folder" => done(fs::create_dir(rt, one)),
+        "remove" => done(fs::remove_file(rt, one)),
         "permit" => permit(rt, one, other),
         _ => Err(io::Error::from(ErrorKind::Unsupported)),
     }
 }
 
-fn done<T: Drop>(_made: T) -> io::Result<u8> {
-    Ok(YES)
+fn done(made: io::Result<()>) -> io::Result<u8> {
+    match made {
+        Ok(()) => Ok(YES),
+        Err(error) => Err(error),
+    }
+}
+
+fn copy(rt: &HostRuntime, one: &str, other: &str) -> io::Result<u8> {
+    match fs::copy(rt, one, other) {
+        Ok(_) => Ok(YES),
+        Err(error) => Err(error),
+    }
 }
 
 // Tells whether two files have the same bytes.
@@ -52,7 +62,7 @@ fn permit(rt: &HostRuntime, path: &str, mode: &str) -> io::Result<u8> {
     let Ok(mode) = u32::from_str_radix(mode, 8) else {
         return Err(io::Error::from(ErrorKind::InvalidInput));
     };
-    done(fs::set_permissions(rt, path, Permissions::from_mode(mode))?)
+    done(fs::set_permissions(rt, path, Permissions::from_mode(mode)))
 }
 
 // Tells what stands in a folder, a line for each name.
