@@ -134,6 +134,7 @@ def small_logs(key):
         "other.log/checkpoint": second.checkpoint(key, ORIGIN, 8, seven),
         "long.tile": tile + b"\0",
         "long.entries": entries + b"\0",
+        "known/log.empty": second.checkpoint(key, ORIGIN, 0, hashlib.sha256().digest()),
         "other.growth": growth.replace(b"old 6", b"old 5") + b"\n\n\n",
     } | {f"entries/{i}": entry for i, entry in enumerate(second.LOGGED)}
 
