@@ -1,5 +1,5 @@
 -- What a `Hash` stands for: the list of the bytes that it has absorbed.
-use Rattle.std.specs.Prelude.{◌≡◌, refl, ℕ, ◌*◌, ◌/◌, ◌%◌, List, [], length, take, drop}
+use Rattle.std.specs.Prelude.{◌≡◌, refl, ℕ, ◌-◌, ◌*◌, ◌/◌, ◌%◌, List, [], length, take, drop}
 use Rattle.std.specs.Prelude.{replicate}
 use Rattle.std.specs.Coded.{Coded-set, coded_list, coded_ℕ}
 use Rattle.hmac_sha256.specs.declared.hashing.Hash.{Hash}
@@ -24,6 +24,10 @@ absorbed_bytes hash = hash.total
 -- bytes that it holds are the rest of m, and the number that it keeps is m's length.
 unfoldable pub StandsFor : Hash → List ℕ → Type 0
 StandsFor hash m = HasAbsorbed hash.state (take (hash.total % 64) hash.block) hash.total m
+
+-- zeros stand behind the bytes that the hash holds
+unfoldable pub IsClear : Hash → Type 0
+IsClear hash = drop (hash.total % 64) hash.block ≡ replicate (64 - hash.total % 64) 0
 
 -- for one hash and one list this is one fact
 pub StandsFor-prop : (hash : Hash) (m : List ℕ) → IsProp (StandsFor hash m)

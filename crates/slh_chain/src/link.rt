@@ -14,7 +14,7 @@ ghost use Rattle.slh_chain.specs.declared.error.LinkError.TheVariants.{Memory};
 
 use crate::error::LinkError;
 use hybrid_array::ArraySize;
-use slh_core::params::{chain_sizes, forest_sizes, layer_sizes};
+use slh_core::params::{MAX_N, chain_sizes, forest_sizes, layer_sizes};
 use slh_dsa::{Message, Mode, SetSizes, SigningKey, VerifyingKey, check_opt_rand};
 use slh_frames::MAX_MESSAGE;
 use std::alloc::Global;
@@ -30,7 +30,7 @@ const MAX_DEPTH: u8 = 15;
 
 // No link has more bytes.
 fn link_bound<P: SetSizes>()
-    ensures n { P.N.USIZE ≤ 32 }
+    ensures n { P.N.USIZE ≤ MAX_N }
     ensures signature { signature_size P.scheme ≤ 2 ^ 18 }
 {
     chain_sizes::<P>();

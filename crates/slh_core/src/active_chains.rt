@@ -6,7 +6,7 @@ ghost use Rattle.slh_core.specs.Bytes.{joined, part};
 ghost use Rattle.slh_core.specs.ActiveChains.{AreActive, count_below};
 
 use crate::equal_parts::put_part;
-use crate::params::{MAX_CHAINS, MAX_ENDS_LEN};
+use crate::params::{MAX_CHAINS, MAX_ENDS_LEN, MAX_N};
 
 /// The chains of a signature that are under way, in the order of their digits. Their values stand
 /// in that order too, so that each step goes over a row without gaps.
@@ -32,7 +32,7 @@ impl ActiveChains {
 
     // Takes in one chain, with its value.
     fn take_in(&mut self, c: usize, value: &[u8], n: usize, values: &mut [u8])
-        requires small { n ≤ 32 }
+        requires small { n ≤ MAX_N }
         requires room { self.old.count < MAX_CHAINS }
         requires chain { c < MAX_CHAINS }
         requires len { length value.now ≡ n }
@@ -53,7 +53,7 @@ impl ActiveChains {
     /// Takes in the chains whose digit is `q`, with their values of `n` bytes from a signature.
     #[tactic(auto, unfolding(crate::specs::Bytes::joined))]
     pub fn enter(&mut self, digits: &[u16], q: u16, sig: &[u8], n: usize, values: &mut [u8])
-        requires small { n ≤ 32 }
+        requires small { n ≤ MAX_N }
         requires few { length digits.now ≤ MAX_CHAINS }
         requires whole { length sig.now ≡ length digits.now * n }
         requires active { AreActive digits.now q 0 self.old }
@@ -79,7 +79,7 @@ impl ActiveChains {
     /// Writes the values of all chains, in the order of their numbers.
     #[tactic(auto, unfolding(crate::specs::Bytes::joined))]
     pub fn write_to(&self, values: &[u8], n: usize, out: &mut [u8])
-        requires small { n ≤ 32 }
+        requires small { n ≤ MAX_N }
         requires few { self.now.count ≤ MAX_CHAINS }
         requires values { length values.now ≡ MAX_ENDS_LEN }
         requires places { (c : ℕ) → c < self.now.count

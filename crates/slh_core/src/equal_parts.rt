@@ -3,6 +3,7 @@ ghost use Rattle.std.specs.Prelude.{◌≡◌, ◌+◌, ◌*◌, ◌≤◌, ◌+
 ghost use Rattle.slh_core.specs.Bytes.{part as spec_part};
 
 use crate::nbytes::NBytes;
+use crate::params::MAX_N;
 use hybrid_array::ArraySize;
 
 /// Puts part number `c` of `n` bytes in its place. The bytes around it stay.
@@ -19,7 +20,7 @@ pub fn put_part(out: &mut [u8], n: usize, c: usize, part: &[u8])
 /// Part number `c`.
 #[inline]
 pub fn part_of<N: ArraySize>(bytes: &[u8], c: usize) -> NBytes<N>
-    requires small { N.USIZE ≤ 32 }
+    requires small { N.USIZE ≤ MAX_N }
     requires fits { (c + 1) * N.USIZE ≤ length bytes.now }
     ensures { result ≡ spec_part N.USIZE bytes.now c }
 {

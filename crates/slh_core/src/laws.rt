@@ -4,13 +4,13 @@ ghost use Rattle.slh_core.specs.Digits.{IsBelowSomewhere};
 ghost use Rattle.slh_core.specs.Wots.{chain, wots_pk, wots_sig, wots_pk_from_sig};
 ghost use Rattle.slh_core.specs.Suite.{Seeded, seeded};
 
-use crate::params::WotsSizes;
+use crate::params::{MAX_N, WotsSizes};
 
 /// The digits of two different messages of n bytes are incomparable: some digit of each is below
 /// the other's. So no signature of the one gives all chain values for the other.
 pub fn digits_are_incomparable()
     ensures { (n : ℕ) (x y : List ℕ)
-        → n ≤ 32
+        → n ≤ MAX_N
         → length x ≡ n
         → length y ≡ n
         → ((k : ℕ) → slice_index x k < 256)

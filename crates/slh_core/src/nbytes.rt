@@ -1,31 +1,33 @@
 //! Byte strings whose length a type gives.
 ghost use Rattle.std.specs.Prelude.{◌≡◌, ◌↔◌, ℕ, ◌≤◌, length, take, IsOk, IfOk};
 
+use crate::params::MAX_N;
 use hybrid_array::{ArrayRef, ArraySize, TryFromSliceError};
 use std::alloc::AllocError;
 use std::marker::{Model, PhantomData};
 
-/// `N::USIZE` bytes, at most 32: a seed, a hash value or a message.
+/// `N::USIZE` bytes, at most `MAX_N`: a seed, a hash value or a message.
 #[derive(Drop)]
 pub struct NBytes<N: ArraySize> {
-    store: [u8; 32],
+    store: [u8; MAX_N],
     size: PhantomData<N>,
 }
 
 impl<N: ArraySize> Model for NBytes<N> {
     ghost use Rattle.std.specs.Prelude.{ℕ, List, take, ◌≤◌};
+    ghost use Rattle.slh_core.specs.declared.params.TheConstants.{MAX_N};
 
     ghost Value = { List ℕ };
 
     ghost view = { λ s. take N.USIZE s.store };
 
-    ghost invariant = { λ s. N.USIZE ≤ 32 };
+    ghost invariant = { λ s. N.USIZE ≤ MAX_N };
 }
 
 impl<N: ArraySize> NBytes<N> {
     /// The bytes of a slice, refused where its length isn't `N::USIZE`.
     pub fn from_slice(slice: &[u8]) -> Result<Self, TryFromSliceError>
-        requires { N.USIZE ≤ 32 }
+        requires { N.USIZE ≤ MAX_N }
         ensures ok { IsOk result ↔ (length slice.now ≡ N.USIZE) }
         ensures value { IfOk result (λ bytes. bytes ≡ slice.now) }
     {
@@ -38,7 +40,7 @@ impl<N: ArraySize> NBytes<N> {
     /// The bytes of a view, which has the length by its type.
     #[inline]
     pub fn from_view(view: ArrayRef<'_, u8, N>) -> Self
-        requires { N.USIZE ≤ 32 }
+        requires { N.USIZE ≤ MAX_N }
         ensures { result ≡ view.entry }
     {
         Self::exact(view.as_slice())
@@ -47,11 +49,11 @@ impl<N: ArraySize> NBytes<N> {
     /// The bytes of a slice that is known to have the length.
     #[inline]
     pub fn exact(slice: &[u8]) -> Self
-        requires small { N.USIZE ≤ 32 }
+        requires small { N.USIZE ≤ MAX_N }
         requires len { length slice.now ≡ N.USIZE }
         ensures { result ≡ slice.now }
     {
-        let mut store = [0u8; 32];
+        let mut store = [0u8; MAX_N];
         store[..N::USIZE].copy_from_slice(slice);
         NBytes {
             store,
@@ -59,10 +61,10 @@ impl<N: ArraySize> NBytes<N> {
         }
     }
 
-    /// The first bytes of a store of 32.
+    /// The first bytes of a store.
     #[inline]
-    pub fn first_of(store: [u8; 32]) -> Self
-        requires { N.USIZE ≤ 32 }
+    pub fn first_of(store: [u8; MAX_N]) -> Self
+        requires { N.USIZE ≤ MAX_N }
         ensures { result ≡ take N.USIZE store }
     {
         NBytes {
@@ -71,12 +73,12 @@ impl<N: ArraySize> NBytes<N> {
         }
     }
 
-    /// The bytes. That there are at most 32 is known once this was called.
+    /// The bytes. That there are at most `MAX_N` is known once this was called.
     #[inline]
     pub fn as_slice(&self) -> &[u8]
         ensures value { result.now ≡ self.now }
         ensures len { length result.now ≡ N.USIZE }
-        ensures small { N.USIZE ≤ 32 }
+        ensures small { N.USIZE ≤ MAX_N }
     {
         &self.store[..N::USIZE]
     }

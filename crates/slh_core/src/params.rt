@@ -209,7 +209,7 @@ impl<P: ForsParams> ForsSizes for P {
 /// What the law says of the sizes of key pairs.
 pub fn chain_sizes<P: WotsSizes>()
     ensures n_low { 1 ≤ P.N.USIZE }
-    ensures n_high { P.N.USIZE ≤ 32 }
+    ensures n_high { P.N.USIZE ≤ MAX_N }
     ensures message_len { P.WOTS_MSG_LEN ≡ 2 * P.N.USIZE }
     ensures signature_len { P.WOTS_SIG_LEN ≡ chain_count P.N.USIZE }
 {}
@@ -217,7 +217,7 @@ pub fn chain_sizes<P: WotsSizes>()
 /// What the law says of the sizes of trees.
 pub fn tree_sizes<P: XmssSizes>()
     ensures n_low { 1 ≤ P.N.USIZE }
-    ensures n_high { P.N.USIZE ≤ 32 }
+    ensures n_high { P.N.USIZE ≤ MAX_N }
     ensures message_len { P.WOTS_MSG_LEN ≡ 2 * P.N.USIZE }
     ensures signature_len { P.WOTS_SIG_LEN ≡ chain_count P.N.USIZE }
     ensures height_low { 1 ≤ P.H_PRIME }
@@ -227,7 +227,7 @@ pub fn tree_sizes<P: XmssSizes>()
 /// What the law says of the sizes of layers.
 pub fn layer_sizes<P: HypertreeSizes>()
     ensures n_low { 1 ≤ P.N.USIZE }
-    ensures n_high { P.N.USIZE ≤ 32 }
+    ensures n_high { P.N.USIZE ≤ MAX_N }
     ensures signature_len { P.WOTS_SIG_LEN ≡ chain_count P.N.USIZE }
     ensures height_low { 1 ≤ P.H_PRIME }
     ensures height_high { P.H_PRIME ≤ 31 }
@@ -240,7 +240,7 @@ pub fn layer_sizes<P: HypertreeSizes>()
 /// What the law says of the sizes of a forest and of a digest.
 pub fn forest_sizes<P: ForsSizes>()
     ensures n_low { 1 ≤ P.N.USIZE }
-    ensures n_high { P.N.USIZE ≤ 32 }
+    ensures n_high { P.N.USIZE ≤ MAX_N }
     ensures bits_low { 1 ≤ P.A }
     ensures bits_high { P.A ≤ 16 }
     ensures trees_low { 1 ≤ P.K }

@@ -7,6 +7,7 @@ ghost use Rattle.slh_core.specs.Costs.{fors_leaf_cost, wots_pk_cost};
 ghost use Rattle.slh_core.specs.Parameters.{chain_count};
 ghost use Rattle.slh_core.specs.Suite.{Suite, HasLength, HasBytes, HasDigestLength, Seeded, seeded};
 ghost use Rattle.slh_core.specs.Wots.{chain_value, value_or, wots_pk, checked_ends};
+ghost use Rattle.slh_core.specs.declared.params.TheConstants.{MAX_N};
 
 use crate::active_chains::ActiveChains;
 use crate::address::{Address, ForsTree, RowAddress, WotsHash};
@@ -372,7 +373,7 @@ pub trait HashSuite {
         → keyed_suite k ≡ seeded suite Self.N.USIZE (seed_of k) };
 
     /// Each function gives as many bytes as its type says.
-    ghost lengths: { Self.N.USIZE ≤ 32 → HasLength suite Self.N.USIZE };
+    ghost lengths: { Self.N.USIZE ≤ MAX_N → HasLength suite Self.N.USIZE };
 
     /// So does the digest of a message.
     ghost digest_length: { Self.M.USIZE ≤ MAX_DIGEST_LEN → HasDigestLength suite Self.M.USIZE };

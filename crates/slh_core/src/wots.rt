@@ -14,7 +14,7 @@ use crate::chain_rows::{chain_numbers, first_numbers};
 use crate::digits::message_digits;
 use crate::equal_parts::put_part;
 use crate::nbytes::NBytes;
-use crate::params::{MAX_ENDS_LEN, WotsSizes, chain_sizes};
+use crate::params::{MAX_ENDS_LEN, MAX_N, WotsSizes, chain_sizes};
 use crate::steps::Steps;
 use hybrid_array::ArraySize;
 use std::sync::ledger::Ledger;
@@ -156,7 +156,7 @@ fn write_chains<P: WotsSizes, L: Ledger>(
     out: &mut [u8],
     steps: &mut Steps<L>,
 )
-    requires n { P.N.USIZE ≤ 32 }
+    requires n { P.N.USIZE ≤ MAX_N }
     requires count { length digits.now ≡ chain_count P.N.USIZE }
     requires below { EachIndex digits.now (λ k. slice_index digits.now k < 16) }
     requires room { length out.old ≡ length digits.now * P.N.USIZE }

@@ -5,6 +5,7 @@ ghost use Rattle.sha2.specs.Hashers.{Holds512};
 ghost use Rattle.sha256_lanes.specs.Midstate.{BeginsWith, BeginsWith-prop};
 ghost use Rattle.sha512_lanes.specs.Midstate.{BeginsWith as BeginsWith512};
 ghost use Rattle.sha512_lanes.specs.Midstate.{BeginsWith-prop as BeginsWith512-prop};
+ghost use Rattle.slh_core.specs.declared.params.TheConstants.{MAX_N};
 ghost use Rattle.slh_hash.specs.Keyed.{Holds512-prop, nothing-prop};
 ghost use Rattle.slh_hash.specs.Sha2.{seed_block};
 ghost use Rattle.std.specs.Prelude.{◌≡◌, ◌+◌, ◌≤◌, [], length};
@@ -28,7 +29,7 @@ pub struct Sha2Keyed<N: ArraySize> {
     ghost one_block: { absorbed_bytes started.core ≡ 64 },
     ghost nothing_held: { started.held ≡ [] } by { nothing-prop started.held },
     ghost begins: { BeginsWith midstate (seed_block 64 N.USIZE pk_seed) } by { BeginsWith-prop midstate (seed_block 64 N.USIZE pk_seed) },
-    ghost small: { N.USIZE ≤ 32 },
+    ghost small: { N.USIZE ≤ MAX_N },
 }
 
 impl<N: ArraySize> Sha2Keyed<N> {

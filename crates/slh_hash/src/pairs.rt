@@ -20,7 +20,7 @@ use hybrid_array::ArraySize;
 use sha256_lanes::{Begun, Eight, Heads};
 use slh_core::address::{Address, ForsTree, WotsHash};
 use slh_core::nbytes::NBytes;
-use slh_core::params::{MAX_CHAINS, MAX_ENDS_LEN};
+use slh_core::params::{MAX_CHAINS, MAX_ENDS_LEN, MAX_N};
 use slh_core::steps::Steps;
 use std::sync::ledger::Ledger;
 
@@ -83,7 +83,7 @@ pub(crate) fn begin_eight<N: ArraySize>(keyed: &Sha2Keyed<N>, heads: &Heads) -> 
 #[inline]
 pub(crate) fn next_eight(begun: &Begun, step: u32, values: &Eight, n: usize) -> Eight
     requires low { step < 16 }
-    requires small { n ≤ 32 }
+    requires small { n ≤ MAX_N }
     ensures { (s a front : List ℕ) (k : ℕ) → k < 8 → HasBegun begun.now k (seed_block 64 n s) front
         → front ++ to_be_bytes w32 step ≡ compressed_address a
         → take n (lane_bytes result k)
@@ -104,7 +104,7 @@ pub(crate) fn count_steps<L: Ledger>(count: usize, steps: &mut Steps<L>)
 
 /// Writes the first `n` bytes of each value, one after the other.
 pub(crate) fn put_lanes(values: &Eight, n: usize, out: &mut [u8])
-    requires small { n ≤ 32 }
+    requires small { n ≤ MAX_N }
     requires room { length out.old ≡ 8 * n }
     ensures { out.new ≡ joined (λ k. take n (lane_bytes values.now k)) 8 }
 {
@@ -199,7 +199,7 @@ pub(crate) fn keys_of_ends<N: ArraySize, L: Ledger>(
     steps: &mut Steps<L>,
 )
     requires inside { adrs.now.key_pair_adrs + 8 ≤ 2 ^ 32 }
-    requires small { N.USIZE ≤ 32 }
+    requires small { N.USIZE ≤ MAX_N }
     requires few { count ≤ MAX_CHAINS }
     requires whole { length ends.now ≡ 8 * count * N.USIZE }
     requires room { length out.old ≡ 8 * N.USIZE }

@@ -9,7 +9,7 @@ use crate::messages::{MAX_MESSAGE_LEN, put_messages};
 use crate::rows_256::{ADDRESS_LEN, put_hashes};
 use hybrid_array::ArraySize;
 use slh_core::address::WotsHash;
-use slh_core::params::MAX_CHAINS;
+use slh_core::params::{MAX_CHAINS, MAX_N};
 use slh_core::steps::Steps;
 use std::sync::ledger::Ledger;
 
@@ -28,7 +28,7 @@ fn four_keys<N: ArraySize, L: Ledger>(
 )
     requires lanes { first + 4 ≤ 8 }
     requires inside { adrs.now.key_pair_adrs + 8 ≤ 2 ^ 32 }
-    requires small { N.USIZE ≤ 32 }
+    requires small { N.USIZE ≤ MAX_N }
     requires few { count ≤ MAX_CHAINS }
     requires whole { length ends.now ≡ 8 * count * N.USIZE }
     requires room { length out.old ≡ 4 * N.USIZE }
@@ -61,7 +61,7 @@ pub(crate) fn keys_of_ends_512<N: ArraySize, L: Ledger>(
     steps: &mut Steps<L>,
 )
     requires inside { adrs.now.key_pair_adrs + 8 ≤ 2 ^ 32 }
-    requires small { N.USIZE ≤ 32 }
+    requires small { N.USIZE ≤ MAX_N }
     requires few { count ≤ MAX_CHAINS }
     requires whole { length ends.now ≡ 8 * count * N.USIZE }
     requires room { length out.old ≡ 8 * N.USIZE }

@@ -1,4 +1,5 @@
 //! The states of the suite of security category 1 (FIPS 205, section 11.2.1).
+ghost use Rattle.slh_core.specs.declared.params.TheConstants.{MAX_N};
 ghost use Rattle.std.specs.Prelude.{◌-◌, ◌+◌, ◌*◌, ◌≤◌, ◌++◌};
 ghost use Rattle.hmac_sha256.specs.Hash.{absorbed_bytes};
 ghost use Rattle.hmac_sha256.specs.Mac.{Authenticates, mac_absorbed_bytes};
@@ -20,7 +21,7 @@ use std::marker::PhantomData;
 pub struct Mac256<N: ArraySize> {
     mac: HMAC,
     size: PhantomData<N>,
-    ghost small: { N.USIZE ≤ 32 },
+    ghost small: { N.USIZE ≤ MAX_N },
 }
 
 /// SHA-256 that has absorbed a randomizer, a public seed, a root and a message after them, and the
@@ -30,7 +31,7 @@ pub struct Digest256<N: ArraySize> {
     rand: NBytes<N>,
     pk_seed: NBytes<N>,
     hash: Hash,
-    ghost small: { N.USIZE ≤ 32 },
+    ghost small: { N.USIZE ≤ MAX_N },
 }
 
 #[tactic(auto, unfolding(crate::specs::Sha2::message_digest_256))]
@@ -98,6 +99,7 @@ impl<N: ArraySize, M: ArraySize> MessageSuite for Sha2L1<N, M> {
 impl<M: ArraySize> ResumableSuite for Sha2L1<U16, M> {
     fn suspend_digest(digest: Digest256<U16>, hashes: &mut Hashes) {
         hashes.sha256 = digest.hash;
+        hashes.sha256.clear_rest();
     }
 
     fn resume_digest(
@@ -120,6 +122,7 @@ impl<M: ArraySize> ResumableSuite for Sha2L1<U16, M> {
 
     fn suspend_mac(mac: Mac256<U16>, hashes: &mut Hashes) {
         hashes.sha256 = mac.mac.into_inner();
+        hashes.sha256.clear_rest();
     }
 
     fn resume_mac(hashes: &Hashes, sk_prf: &NBytes<U16>, most: u64) -> Option<Mac256<U16>> {

@@ -1,4 +1,5 @@
 //! The states of the suite of security categories 3 and 5 (FIPS 205, section 11.2.2).
+ghost use Rattle.slh_core.specs.declared.params.TheConstants.{MAX_N};
 ghost use Rattle.std.specs.Prelude.{◌≡◌, ℕ, ◌≤◌, List, ◌++◌};
 ghost use Rattle.hmac_sha256.specs.Hmac.{masked};
 ghost use Rattle.sha512_lanes.specs.Hash.{StandsFor};
@@ -22,7 +23,7 @@ use std::marker::PhantomData;
 pub struct Mac512<N: ArraySize> {
     mac: Hmac512,
     size: PhantomData<N>,
-    ghost small: { N.USIZE ≤ 32 },
+    ghost small: { N.USIZE ≤ MAX_N },
 }
 
 /// SHA-512 that has absorbed a randomizer, a public seed, a root and a message after them, and the
@@ -128,6 +129,7 @@ fn resumed_mac<N: ArraySize>(hashes: &Hashes, sk_prf: &NBytes<N>) -> Mac512<N>
 impl<M: ArraySize> ResumableSuite for Sha2L35<U24, M> {
     fn suspend_digest(digest: Digest512<U24>, hashes: &mut Hashes) {
         hashes.sha512 = digest.hash;
+        hashes.sha512.clear_rest();
     }
 
     fn resume_digest(
@@ -141,6 +143,7 @@ impl<M: ArraySize> ResumableSuite for Sha2L35<U24, M> {
 
     fn suspend_mac(mac: Mac512<U24>, hashes: &mut Hashes) {
         hashes.sha512 = mac.mac.into_inner();
+        hashes.sha512.clear_rest();
     }
 
     fn resume_mac(hashes: &Hashes, sk_prf: &NBytes<U24>, _most: u64) -> Option<Mac512<U24>> {
@@ -151,6 +154,7 @@ impl<M: ArraySize> ResumableSuite for Sha2L35<U24, M> {
 impl<M: ArraySize> ResumableSuite for Sha2L35<U32, M> {
     fn suspend_digest(digest: Digest512<U32>, hashes: &mut Hashes) {
         hashes.sha512 = digest.hash;
+        hashes.sha512.clear_rest();
     }
 
     fn resume_digest(
@@ -164,6 +168,7 @@ impl<M: ArraySize> ResumableSuite for Sha2L35<U32, M> {
 
     fn suspend_mac(mac: Mac512<U32>, hashes: &mut Hashes) {
         hashes.sha512 = mac.mac.into_inner();
+        hashes.sha512.clear_rest();
     }
 
     fn resume_mac(hashes: &Hashes, sk_prf: &NBytes<U32>, _most: u64) -> Option<Mac512<U32>> {

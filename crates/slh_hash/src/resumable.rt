@@ -1,7 +1,8 @@
 //! What a hash suite is whose states can be put aside between the pieces of a message.
 ghost use Rattle.std.specs.Prelude.{◌≡◌, ℕ, ◌≤◌, ◌^◌, List, ◌++◌, length};
 ghost use Rattle.std.specs.Prelude.{IfSome, MatchOption};
-ghost use Rattle.slh_hash.specs.Suspended.{HasHashed, is_category_1, mac_block, new_hashes};
+ghost use Rattle.slh_hash.specs.Suspended.{HasClearRest, HasHashed, is_category_1, mac_block};
+ghost use Rattle.slh_hash.specs.Suspended.{new_hashes, other_hash};
 
 use hmac_sha256::Hash;
 use sha512_lanes::Hash512;
@@ -44,10 +45,13 @@ impl Hashes {
 /// A hash suite whose states are put aside as numbers, and taken up again. Which hash function is
 /// used follows from n.
 pub trait ResumableSuite: MessageSuite {
-    /// Puts H_msg aside.
+    /// Puts H_msg aside: zeros behind the bytes that its hash holds, and nothing in the other one.
     fn suspend_digest(digest: Self::Digest, hashes: &mut Hashes)
-        ensures { (r s root m : List ℕ) → Self.digests digest r s root m
-            → HasHashed (is_category_1 Self.N.USIZE) hashes.new (r ++ s ++ root ++ m) };
+        ensures hashed { (r s root m : List ℕ) → Self.digests digest r s root m
+            → HasHashed (is_category_1 Self.N.USIZE) hashes.new (r ++ s ++ root ++ m) }
+        ensures clear { HasClearRest (is_category_1 Self.N.USIZE) hashes.new }
+        ensures other { other_hash (is_category_1 Self.N.USIZE) hashes.new
+            ≡ other_hash (is_category_1 Self.N.USIZE) hashes.old };
 
     /// Takes H_msg up again. `None`: more bytes of a message were counted than `most`.
     fn resume_digest(
@@ -63,11 +67,14 @@ pub trait ResumableSuite: MessageSuite {
             → MatchOption result ⊥ (λ d. Self.digests d rand.now pk_seed.now root m) }
         ensures counts { IfSome result (λ d. Self.digest_count d ≤ most) };
 
-    /// Puts PRF_msg aside.
+    /// Puts PRF_msg aside in the same way.
     fn suspend_mac(mac: Self::Mac, hashes: &mut Hashes)
-        ensures { (key opt_rand m : List ℕ) → Self.authenticates mac key opt_rand m
+        ensures hashed { (key opt_rand m : List ℕ) → Self.authenticates mac key opt_rand m
             → HasHashed (is_category_1 Self.N.USIZE) hashes.new
-            (mac_block (is_category_1 Self.N.USIZE) key ++ opt_rand ++ m) };
+            (mac_block (is_category_1 Self.N.USIZE) key ++ opt_rand ++ m) }
+        ensures clear { HasClearRest (is_category_1 Self.N.USIZE) hashes.new }
+        ensures other { other_hash (is_category_1 Self.N.USIZE) hashes.new
+            ≡ other_hash (is_category_1 Self.N.USIZE) hashes.old };
 
     /// Takes PRF_msg up again. `None`: more bytes of a message were counted than `most`.
     fn resume_mac(hashes: &Hashes, sk_prf: &NBytes<Self::N>, most: u64) -> Option<Self::Mac>

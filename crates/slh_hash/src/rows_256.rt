@@ -14,6 +14,7 @@ use sha256_lanes::{BLOCK_BYTES, MAX_TAIL};
 use slh_core::address::{Address, RowAddress};
 use slh_core::equal_parts::{piece, put_part};
 use slh_core::nbytes::NBytes;
+use slh_core::params::MAX_N;
 use slh_core::steps::Steps;
 use std::sync::ledger::Ledger;
 
@@ -227,7 +228,7 @@ fn hash_long_pairs<N: ArraySize, A: RowAddress + Drop, L: Ledger>(
     out: &mut [u8],
     steps: &mut Steps<L>,
 )
-    requires small { N.USIZE ≤ 32 }
+    requires small { N.USIZE ≤ MAX_N }
     requires pairs { length pairs.now ≡ length numbers.now * (2 * N.USIZE) }
     requires room { length out.old ≡ length numbers.now * N.USIZE }
     ensures value { let n = N.USIZE in
@@ -256,7 +257,7 @@ pub(crate) fn hash_pairs<N: ArraySize, A: RowAddress + Drop, L: Ledger>(
     out: &mut [u8],
     steps: &mut Steps<L>,
 )
-    requires small { N.USIZE ≤ 32 }
+    requires small { N.USIZE ≤ MAX_N }
     requires pairs { length pairs.now ≡ length numbers.now * (2 * N.USIZE) }
     requires room { length out.old ≡ length numbers.now * N.USIZE }
     ensures value { let n = N.USIZE in

@@ -11,6 +11,7 @@ use crate::rows_256::{ADDRESS_LEN, parts_between, put_hashes_between, tails_of};
 use hybrid_array::ArraySize;
 use sha512_lanes::{BLOCK_BYTES, MAX_TAIL};
 use slh_core::address::RowAddress;
+use slh_core::params::MAX_N;
 use slh_core::steps::Steps;
 use std::sync::ledger::Ledger;
 
@@ -57,7 +58,7 @@ pub(crate) fn hash_pairs_512<N: ArraySize, A: RowAddress + Drop, L: Ledger>(
     out: &mut [u8],
     steps: &mut Steps<L>,
 )
-    requires small { N.USIZE ≤ 32 }
+    requires small { N.USIZE ≤ MAX_N }
     requires pairs { length pairs.now ≡ length numbers.now * (2 * N.USIZE) }
     requires room { length out.old ≡ length numbers.now * N.USIZE }
     ensures value { let n = N.USIZE in

@@ -1,4 +1,5 @@
 //! The suite of security category 1 (FIPS 205, section 11.2.1) in little code.
+ghost use Rattle.slh_core.specs.declared.params.TheConstants.{MAX_N};
 ghost use Rattle.std.specs.Prelude.{◌≡◌, ℕ, ◌+◌, ◌≤◌, List, ◌++◌, length};
 ghost use Rattle.hmac_sha256.specs.Hash.{StandsFor, StandsFor-prop, absorbed_bytes};
 ghost use Rattle.sha256_lanes.specs.Sha256.{sha256};
@@ -27,7 +28,7 @@ pub struct SmallKeyed<N: ArraySize> {
     started: Hash,
     ghost stands: { StandsFor started (seed_block 64 N.USIZE pk_seed) } by { StandsFor-prop started (seed_block 64 N.USIZE pk_seed) },
     ghost one_block: { absorbed_bytes started ≡ 64 },
-    ghost small: { N.USIZE ≤ 32 },
+    ghost small: { N.USIZE ≤ MAX_N },
 }
 
 /// The state for a public seed.

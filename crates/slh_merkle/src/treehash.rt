@@ -11,7 +11,7 @@ use crate::subtree::{index_below, subtree};
 use hybrid_array::ArraySize;
 use slh_core::equal_parts::put_part;
 use slh_core::nbytes::NBytes;
-use slh_core::params::{WotsSizes, chain_sizes};
+use slh_core::params::{MAX_N, WotsSizes, chain_sizes};
 use slh_core::steps::Steps;
 use std::sync::ledger::Ledger;
 
@@ -34,7 +34,7 @@ fn store_node<N: ArraySize>(store: &mut [u8], h: usize, node: &NBytes<N>)
 /// The node in the place of a height.
 #[tactic(auto, unfolding(crate::specs::Treehash::stored_node))]
 fn node_of<N: ArraySize>(store: &[u8], h: usize) -> NBytes<N>
-    requires few { N.USIZE ≤ 32 }
+    requires few { N.USIZE ≤ MAX_N }
     requires fits { 32 * h + 32 ≤ length store.now }
     ensures { result ≡ stored_node N.USIZE store.now h }
 {

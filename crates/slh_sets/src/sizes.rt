@@ -1,13 +1,14 @@
 //! How many bytes keys and signatures of a set have.
 ghost use Rattle.std.specs.Prelude.{◌≡◌, ◌*◌, ◌≤◌};
 ghost use Rattle.slh_core.specs.Parameters.{Scheme};
+ghost use Rattle.slh_core.specs.declared.params.TheConstants.{MAX_N};
 ghost use Rattle.slh_sets.specs.Sets.{scheme_for};
 ghost use Rattle.slh_trees.specs.Checking.{signature_size};
 
 use crate::dispatch::{OnSet, SetSuite};
 use crate::set::Set;
 use hybrid_array::ArraySize;
-use slh_core::params::forest_sizes;
+use slh_core::params::{MAX_N, forest_sizes};
 
 #[derive(Drop)]
 struct N;
@@ -15,7 +16,7 @@ struct N;
 impl OnSet for N {
     type Out = usize;
 
-    ghost gives = { λ _ Z _ result. (result ≡ Z.n) × (result ≤ 32) };
+    ghost gives = { λ _ Z _ result. (result ≡ Z.n) × (result ≤ MAX_N) };
 
     fn on<P: SetSuite>(self) -> usize {
         forest_sizes::<P>();
@@ -40,7 +41,7 @@ impl Set {
     /// n, the bytes of a seed, a hash and a randomizer.
     pub fn n(self) -> usize
         ensures value { result ≡ (scheme_for self).n }
-        ensures most { result ≤ 32 }
+        ensures most { result ≤ MAX_N }
     {
         self.run(N)
     }

@@ -1,5 +1,5 @@
 -- What a verifier stands for that is put aside between two pieces.
-use Rattle.std.specs.Prelude.{◌≡◌, ℕ, ◌≤◌, ◌^◌, List, [], ◌++◌, length, replicate, take}
+use Rattle.std.specs.Prelude.{◌≡◌, ℕ, ◌≤◌, List, [], ◌++◌, length, replicate, take}
 use Rattle.hmac_sha256.specs.Hash.{StandsFor}
 use Rattle.sha512_lanes.specs.Hash.{StandsFor as StandsFor512}
 use Rattle.slh_core.specs.Bytes.{part}
@@ -12,6 +12,7 @@ use Rattle.slh_hash.specs.declared.resumable.Hashes.{Hashes}
 use Rattle.slh_frames.specs.Tails.{StandsAfter}
 use Rattle.slh_stream.specs.Verifying.{EndsIn}
 use Rattle.slh_frames.specs.declared.pieces.Tail.{Tail}
+use Rattle.slh_frames.specs.declared.message.TheConstants.{MAX_CONTEXT, MAX_MESSAGE}
 use Rattle.slh_stream.specs.declared.suspended.SuspendedVerifier.{SuspendedVerifier}
 use Rattle.slh_stream.specs.declared.suspended.VerifierNumbers.{VerifierNumbers}
 
@@ -41,9 +42,9 @@ pub record IsSuspended (n : ℕ) (state : SuspendedVerifier) (mode : Mode)
   pub seed_is : take n state.numbers.seed ≡ part n key 0
   pub root_is : take n state.numbers.root ≡ part n key 1
   pub rand_is : take n state.numbers.rand ≡ rand
-  pub context_fits : length context ≤ 255
+  pub context_fits : length context ≤ MAX_CONTEXT
   pub taken_is : state.numbers.taken ≡ length message
-  pub short : length message ≤ 2 ^ 60
+  pub short : length message ≤ MAX_MESSAGE
   pub tail_is : HasTail mode state.numbers.tail message
   pub stands : HasHashed (is_category_1 n) state.numbers.front
       (rand ++ part n key 0 ++ part n key 1
@@ -55,7 +56,7 @@ pub record IsSuspended (n : ℕ) (state : SuspendedVerifier) (mode : Mode)
 pub record IsAccepted (Z : Scheme) (n : ℕ) (state : SuspendedVerifier) (mode : Mode) (sig : List ℕ)
     : Type 0 where
   pub mode_is : state.mode ≡ mode_number mode
-  pub short : state.numbers.taken ≤ 2 ^ 60
+  pub short : state.numbers.taken ≤ MAX_MESSAGE
   pub rand_is : take n sig ≡ take n state.numbers.rand
   pub ends : EndsIn Z (take n state.numbers.seed) (take n state.numbers.root) sig
 
@@ -74,5 +75,5 @@ pub record IsResumed (n : ℕ) (digests : List ℕ → List ℕ → List ℕ →
   pub seed_is : seed ≡ part n key 0
   pub root_is : root ≡ part n key 1
   pub rand_is : held ≡ rand
-  pub context_fits : length context ≤ 255
+  pub context_fits : length context ≤ MAX_CONTEXT
   pub stands : StandsAfter (digests rand seed root) tail (head_of mode context ++ context) message

@@ -1,18 +1,21 @@
 -- What a pass stands for that is put aside between two pieces.
-use Rattle.std.specs.Prelude.{◌≡◌, ℕ, ◌+◌, ◌-◌, ◌≤◌, ◌^◌, List, ◌++◌, Option, drop, length}
+use Rattle.std.specs.Prelude.{◌≡◌, ℕ, ◌+◌, ◌-◌, ◌≤◌, List, ◌++◌, Option, drop, length}
 use Rattle.std.specs.Prelude.{replicate, take}
 use Rattle.std.specs.Prelude.{unwrap_or}
 use Rattle.slh_core.specs.Bytes.{part}
 use Rattle.slh_core.specs.Parameters.{Scheme}
 use Rattle.slh_frames.specs.Frames.{frame}
-use Rattle.slh_hash.specs.Suspended.{HasHashed, is_category_1, mac_block, new_hashes}
+use Rattle.slh_frames.specs.declared.message.TheConstants.{MAX_CONTEXT, MAX_MESSAGE}
+use Rattle.slh_hash.specs.Suspended.{HasClearRest, HasHashed, is_category_1, mac_block, new_hashes}
+use Rattle.slh_hash.specs.Suspended.{other_hash}
 use Rattle.slh_trees.specs.Signing.{digest_signature}
 use Rattle.slh_stream.specs.declared.suspended_pass.PassNumbers.{PassNumbers}
 use Rattle.slh_stream.specs.declared.suspended_pass.SuspendedPass.{SuspendedPass}
 
 -- The numbers stand for the bytes of a signing key of values of n bytes, but for its secret seed, a
 -- randomizer, or none, a context and a message: PRF_msg has absorbed the frame of the message.
--- Behind each value there are zeros.
+-- Behind each value, and behind the bytes that the hash of PRF_msg holds, there are zeros, and the
+-- hash of the other function is a new one.
 pub record IsPassing (n : ℕ) (numbers : PassNumbers) (key : List ℕ) (opt_rand : Option (List ℕ))
     (context message : List ℕ) : Type 0 where
   pub prf_is : take n numbers.prf ≡ part n key 1
@@ -23,11 +26,14 @@ pub record IsPassing (n : ℕ) (numbers : PassNumbers) (key : List ℕ) (opt_ran
   pub seed_rest : drop n numbers.seed ≡ replicate (32 - n) 0
   pub root_rest : drop n numbers.root ≡ replicate (32 - n) 0
   pub randomizer_rest : drop n numbers.opt_rand ≡ replicate (32 - n) 0
-  pub context_fits : length context ≤ 255
+  pub context_fits : length context ≤ MAX_CONTEXT
   pub taken_is : numbers.taken ≡ length message
-  pub short : length message ≤ 2 ^ 60
+  pub short : length message ≤ MAX_MESSAGE
   pub stands : HasHashed (is_category_1 n) numbers.mac (mac_block (is_category_1 n) (part n key 1)
       ++ unwrap_or opt_rand (part n key 2) ++ frame context message)
+  pub mac_rest : HasClearRest (is_category_1 n) numbers.mac
+  pub mac_other : other_hash (is_category_1 n) numbers.mac
+      ≡ other_hash (is_category_1 n) new_hashes
 
 -- A first pass, which has no R and no H_msg yet.
 pub record IsFirstAside (n : ℕ) (state : SuspendedPass) (key : List ℕ)
@@ -46,6 +52,9 @@ pub record IsSecondAside (n : ℕ) (state : SuspendedPass) (key : List ℕ)
   pub rand_rest : drop n state.numbers.rand ≡ replicate (32 - n) 0
   pub hashed : HasHashed (is_category_1 n) state.numbers.digest
       (rand ++ part n key 2 ++ part n key 3 ++ frame context message)
+  pub digest_rest : HasClearRest (is_category_1 n) state.numbers.digest
+  pub digest_other : other_hash (is_category_1 n) state.numbers.digest
+      ≡ other_hash (is_category_1 n) new_hashes
 
 -- What holds of each state that ends in a signature, whatever its numbers are: it is a second pass
 -- that has counted at most 2^60 bytes, PRF_msg of what it has absorbed is the R that stands there,
@@ -53,7 +62,7 @@ pub record IsSecondAside (n : ℕ) (state : SuspendedPass) (key : List ℕ)
 pub record IsEnded (Z : Scheme) (n : ℕ) (state : SuspendedPass) (key sig : List ℕ)
     : Type 0 where
   pub pass_is : state.pass ≡ 2
-  pub short : state.numbers.taken ≤ 2 ^ 60
+  pub short : state.numbers.taken ≤ MAX_MESSAGE
   pub made : (m : List ℕ) → length m ≤ state.numbers.taken + 257
       → HasHashed (is_category_1 n) state.numbers.mac
       (mac_block (is_category_1 n) (take n state.numbers.prf) ++ take n state.numbers.opt_rand ++ m)

@@ -7,6 +7,7 @@ use Rattle.slh_frames.specs.declared.frame.Mode.{Mode}
 use Rattle.slh_trees.specs.Checking.{digest_root}
 use Rattle.slh_frames.specs.Tails.{StandsAfter, mode_of}
 use Rattle.slh_frames.specs.declared.pieces.Tail.{Tail}
+use Rattle.slh_frames.specs.declared.message.TheConstants.{MAX_CONTEXT}
 
 -- The verifier's state stands for a mode, the bytes of a verifying key, a context, a signature and
 -- a message: H_msg was begun for the signature's randomizer, of n bytes, and the parts of the key,
@@ -18,7 +19,7 @@ pub record IsVerifying (n : ℕ) (digests : List ℕ → List ℕ → List ℕ �
   pub seed_is : seed ≡ part n key 0
   pub root_is : root ≡ part n key 1
   pub sig_is : view ≡ sig
-  pub context_fits : length context ≤ 255
+  pub context_fits : length context ≤ MAX_CONTEXT
   pub taken_is : taken ≡ length message
   pub stands :
       StandsAfter (digests (take n sig) seed root) tail (head_of mode context ++ context) message

@@ -1,5 +1,5 @@
 //! Signing the digest of a message that comes in pieces, once.
-ghost use Rattle.std.specs.Prelude.{◌≡◌, ℕ, ◌+◌, ◌≤◌, ◌^◌, List, [], ◌∷◌, ◌++◌, length, Option};
+ghost use Rattle.std.specs.Prelude.{◌≡◌, ℕ, ◌+◌, ◌≤◌, List, [], ◌∷◌, ◌++◌, length, Option};
 ghost use Rattle.std.specs.Prelude.{IfOk, OnOk, OnErr};
 ghost use Rattle.std.specs.Option.{option_copied};
 ghost use Rattle.slh_core.specs.Costs.{slh_sign_cost};
@@ -13,6 +13,7 @@ ghost use Rattle.slh_stream.specs.Digests.{begin_digest_refusal};
 ghost use Rattle.slh_frames.specs.Tails.{hashed_count};
 ghost use Rattle.slh_trees.specs.Signing.{signature_of};
 ghost use Rattle.slh_core.specs.Refusals.{RefusedExactly, message_refusal};
+ghost use Rattle.slh_frames.specs.declared.message.TheConstants.{MAX_MESSAGE};
 
 use crate::context::Context;
 use slh_core::nbytes::NBytes;
@@ -31,7 +32,7 @@ pub struct DigestSigner<'a, P: SetSizes> {
     opt_rand: NBytes<P::N>,
     tail: Tail,
     taken: u64,
-    ghost short: { taken ≤ 2 ^ 60 },
+    ghost short: { taken ≤ MAX_MESSAGE },
     ghost hashed: { hashed_count tail ≤ taken },
 }
 

@@ -1,5 +1,5 @@
 //! What the calls on pieces and on digests have to do with the calls in one piece.
-ghost use Rattle.std.specs.Prelude.{◌≡◌, ℕ, ◌*◌, ◌^◌, ◌≤◌, List, ◌++◌, drop, length, Option, None};
+ghost use Rattle.std.specs.Prelude.{◌≡◌, ℕ, ◌*◌, ◌≤◌, List, ◌++◌, drop, length, Option, None};
 ghost use Rattle.std.specs.Prelude.{◌↔◌, IfOk, IsOk, IsTrue};
 ghost use Rattle.sha256_lanes.specs.Sha256.{sha256};
 ghost use Rattle.sha2.specs.Sha512.{sha512};
@@ -18,6 +18,7 @@ use crate::passes::{Passing, SecondPass};
 use slh_core::pieces::MessageSuite;
 use slh_dsa::laws::signed_is_accepted;
 use slh_dsa::{Error, Mode, SetSizes, VerifyingKey};
+use slh_frames::{MAX_CONTEXT, MAX_MESSAGE};
 
 /// A second pass over the bytes of the first is never refused as changed.
 pub fn same_is_unchanged<P: SetSizes>()
@@ -33,10 +34,10 @@ pub fn digests_agree<P: SetSizes>()
         → digest_frame Sha256 context (sha256 m) ≡ mode_frame Sha256 context m }
     ensures frame_512 { (context m : List ℕ)
         → digest_frame Sha512 context (sha512 m) ≡ mode_frame Sha512 context m }
-    ensures answer_256 { (key context m sig : List ℕ) → length m ≤ 2 ^ 60
+    ensures answer_256 { (key context m sig : List ℕ) → length m ≤ MAX_MESSAGE
         → verify_digest_error P.scheme Sha256 key context (sha256 m) sig
         ≡ hash_verify_error P.scheme Sha256 key context m sig }
-    ensures answer_512 { (key context m sig : List ℕ) → length m ≤ 2 ^ 60
+    ensures answer_512 { (key context m sig : List ℕ) → length m ≤ MAX_MESSAGE
         → verify_digest_error P.scheme Sha512 key context (sha512 m) sig
         ≡ hash_verify_error P.scheme Sha512 key context m sig }
 {}
@@ -57,8 +58,8 @@ pub fn finished_is_accepted<'a, P: SetSizes + MessageSuite>(
         → IsTrueKey P.scheme signing
         → length signing ≡ 4 * P.N.USIZE
         → key.now ≡ drop (2 * P.N.USIZE) signing
-        → length ctx.now ≤ 255
-        → length (first.now ++ second.now) ≤ 2 ^ 60
+        → length ctx.now ≤ MAX_CONTEXT
+        → length (first.now ++ second.now) ≤ MAX_MESSAGE
         → IfOk result (λ answer. IsOk answer) }
 {
     signed_is_accepted::<P>();
@@ -83,8 +84,8 @@ pub fn digested_is_accepted<'a, P: SetSizes + MessageSuite>(
         → IsTrueKey P.scheme signing
         → length signing ≡ 4 * P.N.USIZE
         → key.now ≡ drop (2 * P.N.USIZE) signing
-        → length ctx.now ≤ 255
-        → length (first.now ++ second.now) ≤ 2 ^ 60
+        → length ctx.now ≤ MAX_CONTEXT
+        → length (first.now ++ second.now) ≤ MAX_MESSAGE
         → IfOk result (λ answer. IsOk answer) }
 {
     signed_is_accepted::<P>();

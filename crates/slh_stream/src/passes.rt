@@ -1,5 +1,5 @@
 //! Signing a message that comes in pieces, twice.
-ghost use Rattle.std.specs.Prelude.{◌≡◌, ℕ, ◌+◌, ◌≤◌, ◌^◌, List, [], ◌++◌, length, Option};
+ghost use Rattle.std.specs.Prelude.{◌≡◌, ℕ, ◌+◌, ◌≤◌, List, [], ◌++◌, length, Option};
 ghost use Rattle.std.specs.Prelude.{◌≢◌, ◌↔◌, IfOk, IfErr, OnOk, OnErr, unwrap_or};
 ghost use Rattle.std.specs.Option.{option_copied, ForSome};
 ghost use Rattle.slh_core.specs.Bytes.{part};
@@ -13,6 +13,7 @@ ghost use Rattle.slh_trees.specs.Checking.{signature_size};
 ghost use Rattle.slh_frames.specs.Frames.{frame, frame_head};
 ghost use Rattle.slh_trees.specs.Signing.{signature_of};
 ghost use Rattle.slh_core.specs.Refusals.{RefusedExactly, message_refusal};
+ghost use Rattle.slh_frames.specs.declared.message.TheConstants.{MAX_MESSAGE};
 
 use crate::context::Context;
 use crate::pass_error::PassError;
@@ -53,7 +54,7 @@ pub struct FirstPass<'a, P: SetSizes + MessageSuite> {
     pub(crate) opt_rand: NBytes<P::N>,
     pub(crate) mac: P::Mac,
     pub(crate) taken: u64,
-    ghost short: { taken ≤ 2 ^ 60 },
+    ghost short: { taken ≤ MAX_MESSAGE },
     ghost room: { P.mac_count mac ≤ taken + 257 },
 }
 
@@ -177,7 +178,7 @@ pub struct SecondPass<'a, P: SetSizes + MessageSuite> {
     pub(crate) mac: P::Mac,
     pub(crate) digest: P::Digest,
     pub(crate) taken: u64,
-    ghost short: { taken ≤ 2 ^ 60 },
+    ghost short: { taken ≤ MAX_MESSAGE },
     ghost room: { P.mac_count mac ≤ taken + 257 },
     ghost space: { P.digest_count digest ≤ taken + 257 },
 }

@@ -1,5 +1,5 @@
 //! A verifier that is put aside between two pieces.
-ghost use Rattle.std.specs.Prelude.{◌≡◌, ◌≢◌, ◌↔◌, ℕ, ◌+◌, ◌≤◌, ◌^◌, List, ◌++◌};
+ghost use Rattle.std.specs.Prelude.{◌≡◌, ◌≢◌, ◌↔◌, ℕ, ◌+◌, ◌≤◌, List, ◌++◌};
 ghost use Rattle.std.specs.Prelude.{IfSome, IsTrue, MatchOption, OnOk, OnErr, None, Some, Err};
 ghost use Rattle.std.specs.Prelude.{◌-◌, ◌<◌, drop, length, replicate, take};
 ghost use Rattle.slh_dsa.specs.Calls.{hash_verify_error};
@@ -107,7 +107,7 @@ struct Resumed<P: SetSizes + ResumableSuite> {
 // `None`: no verifier of the mode was put aside as these numbers.
 fn resume<P: SetSizes + ResumableSuite>(state: &SuspendedVerifier, mode: Mode) -> Option<Resumed<P>>
     ensures own { IfSome result (λ _. state.now.mode ≡ mode_number mode) }
-    ensures short { IfSome result (λ _. state.now.numbers.taken ≤ 2 ^ 60) }
+    ensures short { IfSome result (λ _. state.now.numbers.taken ≤ MAX_MESSAGE) }
     ensures room { IfSome result (λ r. P.digest_count r.digest ≤ state.now.numbers.taken + 257) }
     ensures hashed { IfSome result (λ r. hashed_count r.tail ≤ state.now.numbers.taken) }
     ensures rand { IfSome result (λ r. r.rand ≡ take P.N.USIZE state.now.numbers.rand) }
@@ -162,7 +162,7 @@ fn resume_for<'a, P: SetSizes + ResumableSuite>(
         → IsSuspended P.N.USIZE state.now mode key context rand m
         → take P.N.USIZE sig.now ≢ rand → result ≡ None }
     ensures own { IfSome result (λ _. state.now.mode ≡ mode_number mode) }
-    ensures short { IfSome result (λ _. state.now.numbers.taken ≤ 2 ^ 60) }
+    ensures short { IfSome result (λ _. state.now.numbers.taken ≤ MAX_MESSAGE) }
     ensures rand { IfSome result (λ _.
         take P.N.USIZE sig.now ≡ take P.N.USIZE state.now.numbers.rand) }
     ensures seed { IfSome result (λ v. v.pk_seed ≡ take P.N.USIZE state.now.numbers.seed) }
@@ -288,7 +288,7 @@ impl SuspendedVerifier {
             → MatchOption result ⊥ (λ r. OnOk r
             (IsSuspended P.N.USIZE self.new mode key context rand (m ++ piece.now))) }
         ensures own { self.old.mode ≢ mode_number mode → result ≡ None }
-        ensures counted { 2 ^ 60 < self.old.numbers.taken → result ≡ None }
+        ensures counted { MAX_MESSAGE < self.old.numbers.taken → result ≡ None }
         ensures kept { self.new.mode ≡ self.old.mode }
         ensures same { MatchOption result (self.new ≡ self.old) (λ r.
             OnErr r (self.new ≡ self.old)) }

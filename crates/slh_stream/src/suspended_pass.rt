@@ -1,11 +1,12 @@
 //! A pass over a message that is signed, put aside between two pieces.
-ghost use Rattle.std.specs.Prelude.{◌≡◌, ◌≢◌, ◌↔◌, ℕ, ◌+◌, ◌<◌, ◌≤◌, ◌^◌, List, [], ◌++◌};
+ghost use Rattle.std.specs.Prelude.{◌≡◌, ◌≢◌, ◌↔◌, ℕ, ◌+◌, ◌<◌, ◌≤◌, List, [], ◌++◌};
 ghost use Rattle.std.specs.Prelude.{IfSome, IsTrue, MatchOption, OnOk, OnErr, None, Option};
 ghost use Rattle.std.specs.Prelude.{length, take};
 ghost use Rattle.slh_core.specs.Bytes.{part};
 ghost use Rattle.slh_dsa.specs.declared.error.Error.TheVariants.{MessageTooLong, ContextTooLong};
 ghost use Rattle.slh_frames.specs.Frames.{frame};
-ghost use Rattle.slh_hash.specs.Suspended.{HasHashed, is_category_1, mac_block};
+ghost use Rattle.slh_hash.specs.Suspended.{HasClearRest, HasHashed, is_category_1, mac_block};
+ghost use Rattle.slh_hash.specs.Suspended.{other_hash};
 ghost use Rattle.slh_stream.specs.Passes.{pass_refusal, randomizer_for};
 ghost use Rattle.slh_stream.specs.SuspendedPass.{IsBlank, IsEnded, IsFirstAside, IsPassing};
 ghost use Rattle.slh_stream.specs.SuspendedPass.{IsSecondAside};
@@ -56,7 +57,7 @@ const SECOND: u32 = 2;
 
 // PRF_msg of what was absorbed. `None`: no pass was put aside as these numbers.
 fn resume_made<P: SetSizes + ResumableSuite>(numbers: &PassNumbers) -> Option<P::Mac>
-    ensures short { IfSome result (λ _. numbers.now.taken ≤ 2 ^ 60) }
+    ensures short { IfSome result (λ _. numbers.now.taken ≤ MAX_MESSAGE) }
     ensures room { IfSome result (λ mac. P.mac_count mac ≤ numbers.now.taken + 257) }
     ensures resumed { IfSome result (λ mac. (m : List ℕ) → length m ≤ numbers.now.taken + 257
         → HasHashed (is_category_1 P.N.USIZE) numbers.now.mac
@@ -79,7 +80,7 @@ fn resume_made<P: SetSizes + ResumableSuite>(numbers: &PassNumbers) -> Option<P:
 
 // H_msg of the same. `None`: no second pass was put aside as these numbers.
 fn resume_front<P: SetSizes + ResumableSuite>(state: &SuspendedPass) -> Option<P::Digest>
-    requires { state.now.numbers.taken ≤ 2 ^ 60 }
+    requires { state.now.numbers.taken ≤ MAX_MESSAGE }
     ensures room { IfSome result (λ digest.
         P.digest_count digest ≤ state.now.numbers.taken + 257) }
     ensures resumed { IfSome result (λ digest. (m : List ℕ)
@@ -106,9 +107,12 @@ fn resume_front<P: SetSizes + ResumableSuite>(state: &SuspendedPass) -> Option<P
 // Absorbs a piece in PRF_msg, and puts it aside.
 fn absorb_made<P: ResumableSuite>(mac: P::Mac, piece: &[u8], hashes: &mut Hashes)
     requires { P.mac_count mac + length piece.now ≤ MAX_MESSAGE_LEN }
-    ensures { (key opt_rand m : List ℕ) → P.authenticates mac key opt_rand m
+    ensures hashed { (key opt_rand m : List ℕ) → P.authenticates mac key opt_rand m
         → HasHashed (is_category_1 P.N.USIZE) hashes.new
         (mac_block (is_category_1 P.N.USIZE) key ++ opt_rand ++ m ++ piece.now) }
+    ensures clear { HasClearRest (is_category_1 P.N.USIZE) hashes.new }
+    ensures other { other_hash (is_category_1 P.N.USIZE) hashes.new
+        ≡ other_hash (is_category_1 P.N.USIZE) hashes.old }
 {
     let mut mac = mac;
     P::update_mac(&mut mac, piece);
@@ -118,9 +122,12 @@ fn absorb_made<P: ResumableSuite>(mac: P::Mac, piece: &[u8], hashes: &mut Hashes
 // The same in H_msg.
 fn absorb_front<P: ResumableSuite>(digest: P::Digest, piece: &[u8], hashes: &mut Hashes)
     requires { P.digest_count digest + length piece.now ≤ MAX_MESSAGE_LEN }
-    ensures { (r s root m : List ℕ) → P.digests digest r s root m
+    ensures hashed { (r s root m : List ℕ) → P.digests digest r s root m
         → HasHashed (is_category_1 P.N.USIZE) hashes.new
         (r ++ s ++ root ++ m ++ piece.now) }
+    ensures clear { HasClearRest (is_category_1 P.N.USIZE) hashes.new }
+    ensures other { other_hash (is_category_1 P.N.USIZE) hashes.new
+        ≡ other_hash (is_category_1 P.N.USIZE) hashes.old }
 {
     let mut digest = digest;
     P::update_digest(&mut digest, piece);
@@ -228,7 +235,7 @@ impl SuspendedPass {
             → MatchOption result ⊥ (λ r. OnOk r
             (IsFirstAside P.N.USIZE self.new key opt_rand context (m ++ piece.now))) }
         ensures own { self.old.pass ≢ 1 → result ≡ None }
-        ensures counted { 2 ^ 60 < self.old.numbers.taken → result ≡ None }
+        ensures counted { MAX_MESSAGE < self.old.numbers.taken → result ≡ None }
         ensures kept { self.new.pass ≡ self.old.pass }
         ensures same { MatchOption result (self.new ≡ self.old) (λ r.
             OnErr r (self.new ≡ self.old)) }
@@ -259,7 +266,7 @@ impl SuspendedPass {
             (IsSecondAside P.N.USIZE self.new key opt_rand ctx.now
             (randomizer_for P.scheme key opt_rand (frame context m)) [])) }
         ensures own { self.old.pass ≢ 1 → result ≡ None }
-        ensures counted { 2 ^ 60 < self.old.numbers.taken → result ≡ None }
+        ensures counted { MAX_MESSAGE < self.old.numbers.taken → result ≡ None }
         ensures second { IfSome result (λ r. OnOk r (self.new.pass ≡ 2)) }
         ensures same { MatchOption result (self.new ≡ self.old) (λ r.
             OnErr r (self.new ≡ self.old)) }
@@ -303,7 +310,7 @@ impl SuspendedPass {
             → MatchOption result ⊥ (λ r. OnOk r
             (IsSecondAside P.N.USIZE self.new key opt_rand context rand (m ++ piece.now))) }
         ensures own { self.old.pass ≢ 2 → result ≡ None }
-        ensures counted { 2 ^ 60 < self.old.numbers.taken → result ≡ None }
+        ensures counted { MAX_MESSAGE < self.old.numbers.taken → result ≡ None }
         ensures kept { self.new.pass ≡ self.old.pass }
         ensures same { MatchOption result (self.new ≡ self.old) (λ r.
             OnErr r (self.new ≡ self.old)) }

@@ -1,5 +1,5 @@
 //! Verifying a message that comes in pieces.
-ghost use Rattle.std.specs.Prelude.{◌≡◌, ◌≢◌, ℕ, ◌+◌, ◌≤◌, ◌^◌, List, [], ◌++◌, length};
+ghost use Rattle.std.specs.Prelude.{◌≡◌, ◌≢◌, ℕ, ◌+◌, ◌≤◌, List, [], ◌++◌, length};
 ghost use Rattle.std.specs.Prelude.{IfOk, IfErr, OnOk, OnErr};
 ghost use Rattle.slh_core.specs.Costs.{slh_verify_bound};
 ghost use Rattle.slh_core.specs.Steps.{IsFresh};
@@ -10,6 +10,7 @@ ghost use Rattle.slh_frames.specs.Tails.{hashed_count};
 ghost use Rattle.slh_stream.specs.Verifying.{EndsIn, IsVerifying, message_digest};
 ghost use Rattle.slh_trees.specs.Checking.{digest_root};
 ghost use Rattle.slh_core.specs.Refusals.{RefusedExactly, message_refusal};
+ghost use Rattle.slh_frames.specs.declared.message.TheConstants.{MAX_MESSAGE};
 
 use hybrid_array::ArraySize;
 use slh_core::nbytes::NBytes;
@@ -33,7 +34,7 @@ pub struct MessageVerifier<'a, P: SetSizes + MessageSuite> {
     pub(crate) digest: P::Digest,
     pub(crate) tail: Tail,
     pub(crate) taken: u64,
-    ghost short: { taken ≤ 2 ^ 60 },
+    ghost short: { taken ≤ MAX_MESSAGE },
     ghost room: { P.digest_count digest ≤ taken + 257 },
     ghost hashed: { hashed_count tail ≤ taken },
 }
