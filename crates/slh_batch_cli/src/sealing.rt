@@ -1,5 +1,5 @@
 //! `SET seal KEY RAND MSG ..` gives a receipt for each message.
-ghost use Rattle.std.specs.Prelude.{◌≡◌, ◌⊎◌, ◌<◌, ◌≤◌, [], length, map, slice_index_or};
+ghost use Rattle.std.specs.Prelude.{◌≡◌, ◌⊎◌, ◌≤◌, length, map};
 ghost use Rattle.std.specs.Prelude.{true, false, Ok, Err, IfOk, IfErr};
 ghost use Rattle.std.specs.List.{list_any};
 ghost use Rattle.std.specs.Option.{option_copied, ForSome};
@@ -17,6 +17,7 @@ use slh_batch::{Batch, BatchError, Sealed};
 use slh_dsa::{SetSizes, SigningKey};
 use slh_line::{
     LineError, all_bytes_at, as_bytes, bytes_at, checked_randomizer, randomizer_at, signing_key,
+    word_at,
 };
 use std::alloc::Global;
 
@@ -24,17 +25,6 @@ use std::alloc::Global;
 const FIRST_MESSAGE: usize = 4;
 
 const MAX_FIELDS: usize = FIRST_MESSAGE + 64;
-
-// The message at an index.
-fn message_at(messages: &Words, i: usize) -> &[u8]
-    requires { i < length messages.now }
-    ensures { result.now ≡ slice_index_or messages.now i [] }
-{
-    match messages.get(i) {
-        Some(message) => message,
-        None => unreachable!(),
-    }
-}
 
 // The batch of these messages, of which there are few enough. `Message`: one of them is too long.
 fn batch_of(alloc: Global, messages: &Words) -> Result<Batch, BatchError>
@@ -46,7 +36,7 @@ fn batch_of(alloc: Global, messages: &Words) -> Result<Batch, BatchError>
 {
     let mut batch = Batch::new(alloc);
     'each_message: for i in 0..messages.len() {
-        batch.push(message_at(messages, i))?;
+        batch.push(word_at(messages, i))?;
     }
     Ok(batch)
 }

@@ -35,6 +35,7 @@
 mod checks;
 pub mod clones;
 mod error;
+mod halves;
 pub mod laws;
 mod parameter_set;
 mod sets;
@@ -45,6 +46,7 @@ mod verifying_key;
 
 pub use checks::check_opt_rand;
 pub use error::Error;
+pub use halves::verifying_half;
 pub use parameter_set::{ParameterSet, SetSizes};
 pub use signature::Signature;
 pub use signing_key::SigningKey;

@@ -1,6 +1,6 @@
 //! Keys of random bytes (FIPS 205, algorithm 21), and keys and signatures by the traits of
 //! `signature_core`.
-ghost use Rattle.std.specs.Prelude.{◌≡◌, ◌*◌, ◌^◌, ◌≤◌, [], None, Some, length, drop, unwrap_or};
+ghost use Rattle.std.specs.Prelude.{◌≡◌, ◌*◌, ◌≤◌, [], None, Some, length, drop, unwrap_or};
 ghost use Rattle.rand_core.specs.Stream.{fill_bytes};
 ghost use Rattle.slh_core.specs.Steps.{IsFresh};
 ghost use Rattle.slh_frames.specs.Frames.{frame};
@@ -9,6 +9,7 @@ ghost use Rattle.slh_trees.specs.Signing.{signature_of};
 ghost use Rattle.slh_core.specs.Refusals.{message_refusal};
 ghost use Rattle.slh_dsa.specs.Calls.{verify_error};
 ghost use Rattle.slh_dsa.specs.declared.error.Error.TheVariants.{Memory, MessageTooLong};
+ghost use Rattle.slh_frames.specs.declared.message.TheConstants.{MAX_MESSAGE};
 
 use crate::checks::zeros;
 use crate::error::Error;
@@ -22,7 +23,7 @@ use signature_core::{KeypairRef, RandomizedSigner, SignatureEncoding, Signer, Ve
 use slh_core::nbytes::NBytes;
 use slh_core::params::{MAX_N, chain_sizes};
 use slh_core::steps::Steps;
-use slh_frames::{Message, Mode, check_message};
+use slh_frames::{MAX_MESSAGE, Message, Mode, check_message};
 use std::alloc::{AllocError, Global};
 use std::marker::Brand;
 use std::sync::ledger::{Blank, Ledger};
@@ -76,7 +77,7 @@ impl<P: ParameterSet> SigningKey<P> {
         mut bytes: Array<u8, P::SigLen>,
         blank: Blank,
     ) -> Signature<P>
-        requires message { length msg.now ≤ 2 ^ 60 }
+        requires message { length msg.now ≤ MAX_MESSAGE }
         requires fresh { IsFresh blank L.name L.parts }
         ensures value { let drawn = fill_bytes P.N.USIZE (R.stream rng.old) in
             result ≡ signature_of P.scheme self.now (Some drawn.0) (frame [] msg.now) }
@@ -95,7 +96,7 @@ impl<P: ParameterSet> SigningKey<P> {
 impl<P: ParameterSet> Signer<Signature<P>> for SigningKey<P> {
     type Error = Error;
 
-    ghost signs = { λ _ msg. length msg ≤ 2 ^ 60 };
+    ghost signs = { λ _ msg. length msg ≤ MAX_MESSAGE };
 
     ghost signature = { λ key msg. signature_of P.scheme key None (frame [] msg) };
 
@@ -110,7 +111,7 @@ impl<P: ParameterSet> Signer<Signature<P>> for SigningKey<P> {
 impl<P: ParameterSet> RandomizedSigner<Signature<P>> for SigningKey<P> {
     type Error = Error;
 
-    ghost signs = { λ _ msg. length msg ≤ 2 ^ 60 };
+    ghost signs = { λ _ msg. length msg ≤ MAX_MESSAGE };
 
     ghost draws = { λ _ _ stream. fill_bytes P.N.USIZE stream };
 

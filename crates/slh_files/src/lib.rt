@@ -46,6 +46,7 @@ pub use key::{Key, Kind};
 pub use lines::has_line;
 pub use making::{has_own_root, made_key, verifying_key};
 pub use outcome::Outcome;
+pub use places::place_of;
 pub use readers::gather;
 pub use reading::{read_key, read_signing_key};
 pub use signatures::{digits_of, read_signature, set_of_signature};

@@ -9,29 +9,12 @@ ghost use Rattle.slh_jobs.specs.declared.job.Error.TheVariants.{Length, Memory};
 use crate::key::Key;
 use hybrid_array::ArraySize;
 use slh_core::params::chain_sizes;
-use slh_dsa::{SetSizes, SigningKey};
+use slh_dsa::{SigningKey, verifying_half};
 use slh_jobs::{ByteString, Error};
 use slh_sets::{OnSet, Set, SetSuite};
 use std::alloc::{AllocError, Global};
 
-// The signing key of the first 3n bytes. `Length`: there are fewer.
-fn key_by<P: SetSizes>(alloc: Global, seeds: &[u8]) -> Result<ByteString, Error>
-    ensures value { IfOk result (λ key. key ≡ made_by P.scheme seeds.now) }
-    ensures error { 3 * P.N.USIZE ≤ length seeds.now → IfErr result (λ e. e ≡ Memory) }
-{
-    chain_sizes::<P>();
-    let n = P::N::USIZE;
-    if seeds.len() < 3 * n {
-        return Err(Error::Length);
-    }
-    let (sk_seed, sk_prf, pk_seed) = (&seeds[..n], &seeds[n..2 * n], &seeds[2 * n..3 * n]);
-    let key = SigningKey::<P>::slh_keygen_internal(sk_seed, sk_prf, pk_seed).unwrap();
-    let mut bytes = ByteString::zeroed(alloc, 4 * n)?;
-    key.write_to(bytes.as_mut_slice());
-    Ok(bytes)
-}
-
-// A key that is made.
+// The signing key of the first 3n bytes of seeds. `Length`: there are fewer.
 #[derive(Drop)]
 struct Making<'a> {
     alloc: Global,
@@ -45,7 +28,16 @@ impl<'a> OnSet for Making<'a> {
         × (3 * Z.n ≤ length c.seeds.now → IfErr result (λ e. e ≡ Memory)) };
 
     fn on<P: SetSuite>(self) -> Result<ByteString, Error> {
-        key_by::<P>(self.alloc, self.seeds)
+        chain_sizes::<P>();
+        let (n, seeds) = (P::N::USIZE, self.seeds);
+        if seeds.len() < 3 * n {
+            return Err(Error::Length);
+        }
+        let (sk_seed, sk_prf, pk_seed) = (&seeds[..n], &seeds[n..2 * n], &seeds[2 * n..3 * n]);
+        let key = SigningKey::<P>::slh_keygen_internal(sk_seed, sk_prf, pk_seed).unwrap();
+        let mut bytes = ByteString::zeroed(self.alloc, 4 * n)?;
+        key.write_to(bytes.as_mut_slice());
+        Ok(bytes)
     }
 }
 
@@ -75,8 +67,7 @@ pub fn verifying_key(alloc: Global, key: &Key) -> Result<Key, AllocError>
     ensures bytes { IfOk result (λ half. half.bytes
         ≡ drop (length key.now.bytes / 2) key.now.bytes) }
 {
-    let bytes = key.bytes.as_slice();
-    let half = ByteString::from_slice(alloc, &bytes[bytes.len() / 2..])?;
+    let half = ByteString::from_slice(alloc, verifying_half(key.bytes.as_slice()))?;
     Ok(Key {
         set: key.set,
         bytes: half,

@@ -3,7 +3,7 @@ ghost use Rattle.std.specs.Prelude.{◌≡◌, ◌+◌, ◌≤◌, None, Some, I
 ghost use Rattle.slh_files.specs.Places.{cut_at, first_place};
 
 /// The first place of a mark.
-pub(crate) fn place_of(text: &[u8], mark: &[u8]) -> Option<usize>
+pub fn place_of(text: &[u8], mark: &[u8]) -> Option<usize>
     ensures value { result ≡ first_place mark.now text.now }
     ensures within { IfSome result (λ at. at + length mark.now ≤ length text.now) }
 {

@@ -1,5 +1,5 @@
 //! What the fields of a line stand for.
-ghost use Rattle.std.specs.Prelude.{◌≡◌, ◌-◌, ◌⊎◌, Err, IfOk, length};
+ghost use Rattle.std.specs.Prelude.{◌≡◌, ◌-◌, ◌<◌, ◌⊎◌, Err, IfOk, [], length, slice_index_or};
 ghost use Rattle.std.specs.Option.{option_copied};
 ghost use Rattle.line_serve.specs.Fields.{contents, field_at as spec_field_at};
 ghost use Rattle.slh_line.specs.Readings.{all_bytes, all_bytes_at, bytes_at, bytes_of};
@@ -110,5 +110,16 @@ pub fn as_bytes(string: &Option<ByteString>) -> Option<&[u8]>
     match string {
         Some(string) => Some(string.as_slice()),
         None => None,
+    }
+}
+
+/// The word at an index, which there has to be.
+pub fn word_at(words: &Words, i: usize) -> &[u8]
+    requires { i < length words.now }
+    ensures { result.now ≡ slice_index_or words.now i [] }
+{
+    match words.get(i) {
+        Some(word) => word,
+        None => unreachable!(),
     }
 }

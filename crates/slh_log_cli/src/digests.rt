@@ -1,12 +1,11 @@
 //! Sizes, roots and proofs in the fields of a line.
-ghost use Rattle.std.specs.Prelude.{◌≡◌, ◌≤◌, ◌<◌, ◌⊎◌, ◌++◌, ◌∷◌, [], Err, Ok, IfErr, IfOk, OnOk};
-ghost use Rattle.std.specs.Prelude.{length, slice_index_or};
+ghost use Rattle.std.specs.Prelude.{◌≡◌, ◌≤◌, ◌⊎◌, ◌++◌, ◌∷◌, [], Err, Ok, IfErr, IfOk, OnOk};
 ghost use Rattle.line_serve.specs.Fields.{contents};
 ghost use Rattle.slh_line.specs.declared.line_error.LineError.TheVariants.{Memory};
 ghost use Rattle.slh_log_cli.specs.Proofs.{digest_of, digests_of, has_proof, size_at};
 
 use line_serve::{Words, field_at};
-use slh_line::LineError;
+use slh_line::{LineError, word_at};
 use slh_log::decimal_size;
 use std::alloc::Global;
 
@@ -44,17 +43,6 @@ pub(crate) fn digest_of(bytes: &[u8]) -> Result<[u8; DIGEST_LEN], LineError>
     let mut digest = [0u8; DIGEST_LEN];
     digest.copy_from_slice(bytes);
     Ok(digest)
-}
-
-// The word at an index.
-fn word_at(words: &Words, i: usize) -> &[u8]
-    requires { i < length words.now }
-    ensures { result.now ≡ slice_index_or words.now i [] }
-{
-    match words.get(i) {
-        Some(word) => word,
-        None => unreachable!(),
-    }
 }
 
 // Puts a digest at the end.

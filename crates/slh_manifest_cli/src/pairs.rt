@@ -1,5 +1,5 @@
 //! Pairs of a name and its bytes, and a store of them.
-ghost use Rattle.std.specs.Prelude.{◌≡◌, ◌<◌, [], Some, length, slice_index_or, IfOk, OnOk, OnErr};
+ghost use Rattle.std.specs.Prelude.{◌≡◌, Some, IfOk, OnOk};
 ghost use Rattle.std.specs.FinMap as map;
 ghost use Rattle.line_serve.specs.Causes.{HasCause};
 ghost use Rattle.line_serve.specs.Fields.{contents};
@@ -8,6 +8,7 @@ ghost use Rattle.slh_manifest.specs.Memory.{store_files, store_fails};
 ghost use Rattle.slh_manifest_cli.specs.Replies.{files_with, has_pairs as spec_has_pairs};
 
 use line_serve::Words;
+use slh_line::word_at;
 use slh_manifest::{Failed, MemStore, Store};
 use std::alloc::{AllocError, Global};
 
@@ -22,17 +23,6 @@ pub(crate) fn has_pairs(fields: &[&[u8]], least: usize) -> bool
     ensures { result ≡ spec_has_pairs least (contents fields.now) }
 {
     least <= fields.len() && fields.len() <= MAX_FIELDS && fields.len() % 2 == 0
-}
-
-/// The name or the bytes at an index.
-pub(crate) fn word_at(words: &Words, i: usize) -> &[u8]
-    requires { i < length words.now }
-    ensures { result.now ≡ slice_index_or words.now i [] }
-{
-    match words.get(i) {
-        Some(word) => word,
-        None => unreachable!(),
-    }
 }
 
 /// A store in memory of which no read fails.

@@ -11,11 +11,12 @@ ghost use Rattle.slh_manifest_cli.specs.Replies.{seal_request as spec_seal_reque
 ghost use Rattle.slh_manifest_cli.specs.Replies.{seal_text as spec_seal_text};
 ghost use Rattle.slh_line.specs.declared.line_error.LineError.TheVariants.{Memory};
 
-use crate::pairs::{FIRST_NAME, PairStore, has_pairs, word_at};
+use crate::pairs::{FIRST_NAME, PairStore, has_pairs};
 use line_serve::{ByteString, Words, push_hex_line};
 use slh_dsa::{SetSizes, SigningKey};
 use slh_line::{
     LineError, all_bytes_at, as_bytes, bytes_at, checked_randomizer, randomizer_at, signing_key,
+    word_at,
 };
 use slh_manifest::{BuildError, Builder};
 use std::alloc::Global;

@@ -1,10 +1,9 @@
 //! Files that are never replaced, since they hold a secret.
-ghost use Rattle.std.specs.Prelude.{◌≡◌, IfOk, is_some};
-ghost use Rattle.slh_files.specs.Places.{first_place};
+ghost use Rattle.std.specs.Prelude.{◌≡◌, IfOk};
 ghost use Rattle.slh_paths.specs.Secrets.{is_key as spec_is_key, is_master as spec_is_master};
 ghost use Rattle.slh_paths.specs.Secrets.{is_secret};
 
-use slh_files::{KeyFileError, Kind, digits_of, has_line, read_key};
+use slh_files::{KeyFileError, Kind, digits_of, has_line, place_of, read_key};
 use std::alloc::{AllocError, Global};
 
 /// How many of a file's first bytes are looked into.
@@ -22,7 +21,7 @@ const LABEL: &[u8] = b"PRIVATE KEY";
 pub(crate) fn holds_secret(alloc: Global, bytes: &[u8]) -> Result<bool, AllocError>
     ensures { IfOk result (λ is. is ≡ is_secret bytes.now) }
 {
-    if stands_in(bytes, LABEL) {
+    if place_of(bytes, LABEL).is_some() {
         return Ok(true);
     }
     if is_key(alloc, bytes)? {
@@ -32,18 +31,6 @@ pub(crate) fn holds_secret(alloc: Global, bytes: &[u8]) -> Result<bool, AllocErr
         return Ok(true);
     }
     is_master(alloc, bytes)
-}
-
-// Whether a mark stands in a text.
-fn stands_in(text: &[u8], mark: &[u8]) -> bool
-    ensures { result ≡ is_some (first_place mark.now text.now) }
-{
-    for at in 0..text.len() {
-        if text[at..].starts_with(mark) {
-            return true;
-        }
-    }
-    false
 }
 
 fn is_key(alloc: Global, bytes: &[u8]) -> Result<bool, AllocError>

@@ -1,5 +1,5 @@
 //! The keys that a master secret and a path give, by HKDF (RFC 5869).
-ghost use Rattle.std.specs.Prelude.{◌≡◌, ◌+◌, ◌*◌, ◌^◌, ◌≤◌, drop, length, take};
+ghost use Rattle.std.specs.Prelude.{◌≡◌, ◌+◌, ◌*◌, ◌≤◌, drop, length, take};
 ghost use Rattle.sha256_lanes.specs.Sha256.{sha256};
 ghost use Rattle.slh_core.specs.Costs.{slh_keygen_cost};
 ghost use Rattle.slh_core.specs.Steps.{IsFresh};
@@ -16,6 +16,9 @@ use slh_core::steps::Steps;
 use slh_dsa::{SetSizes, SigningKey};
 use std::marker::{Brand, Model};
 use std::sync::ledger::{Blank, Ledger};
+
+/// The most bytes of a master.
+pub const MAX_MASTER: usize = 1 << 60;
 
 /// The most bytes of a path: how many numbers it has, and 4 bytes for each.
 pub(crate) const MAX_PATH_LEN: usize = 1 + 4 * MAX_NUMBERS;
@@ -81,7 +84,7 @@ impl<'a> Master<'a> {
     /// The master of these bytes.
     #[tactic(auto, unfolding(crate::specs::Keys::ring_prk))]
     pub(crate) fn new(bytes: &'a [u8]) -> Self
-        requires { length bytes.now ≤ 2 ^ 60 }
+        requires { length bytes.now ≤ MAX_MASTER }
         ensures { result ≡ bytes.now }
     {
         Master {
@@ -105,10 +108,10 @@ fn write_seeds(name: &[u8], master: &Master<'_>, path: &Path, n: usize, out: &mu
     HKDF::expand(out, &master.prk, info);
 }
 
-/// The key at a path under a master secret of at most 2^60 bytes, whose root is that of its own
+/// The key at a path under a master secret of at most [`MAX_MASTER`] bytes, whose root is that of its own
 /// seeds. Takes no memory.
 pub fn derive<P: SetSizes>(master: &[u8], path: &Path) -> SigningKey<P>
-    requires { length master.now ≤ 2 ^ 60 }
+    requires { length master.now ≤ MAX_MASTER }
     ensures key { result ≡ ring_key P.scheme P.set_name master.now path.now }
     ensures true_key { IsTrueKey P.scheme result }
 {
@@ -117,7 +120,7 @@ pub fn derive<P: SetSizes>(master: &[u8], path: &Path) -> SigningKey<P>
 
 // The same, on a counter that is made here.
 fn derive_on<P: SetSizes, L: Ledger>(master: &[u8], path: &Path, blank: Blank) -> SigningKey<P>
-    requires master { length master.now ≤ 2 ^ 60 }
+    requires master { length master.now ≤ MAX_MASTER }
     requires fresh { IsFresh blank L.name L.parts }
     ensures key { result ≡ ring_key P.scheme P.set_name master.now path.now }
     ensures true_key { IsTrueKey P.scheme result }
@@ -132,7 +135,7 @@ pub fn derive_counted<P: SetSizes, L: Ledger>(
     path: &Path,
     steps: &mut Steps<L>,
 ) -> SigningKey<P>
-    requires { length master.now ≤ 2 ^ 60 }
+    requires { length master.now ≤ MAX_MASTER }
     ensures key { result ≡ ring_key P.scheme P.set_name master.now path.now }
     ensures true_key { IsTrueKey P.scheme result }
     ensures cost { steps.new ≡ steps.old + slh_keygen_cost P.scheme }

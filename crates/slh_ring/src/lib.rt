@@ -47,7 +47,7 @@
 //! [`Ring::to_record`] and [`Ring::restore`] make the key of each path once, which is what they
 //! cost, and `restore` stops at the first that isn't the recorded one. [`derive`] takes no memory.
 //! The 8 bytes are there to notice a mistake: who may write a record can leave paths out of it, or
-//! put paths in whose verifying keys are known. A master has at most 2^60 bytes, and should have at
+//! put paths in whose verifying keys are known. A master has at most [`MAX_MASTER`] bytes, and should have at
 //! least n that nobody can guess.
 #![tactic(auto)]
 
@@ -62,7 +62,7 @@ mod records;
 mod ring;
 mod text;
 
-pub use derived::{derive, derive_counted};
+pub use derived::{MAX_MASTER, derive, derive_counted};
 pub use entry::TAG_LEN;
 pub use error::{RestoreError, RingError};
 pub use path::{MAX_NUMBERS, Path};

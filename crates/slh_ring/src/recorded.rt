@@ -1,5 +1,5 @@
 //! Records that are read without a master.
-ghost use Rattle.std.specs.Prelude.{◌≡◌, ◌<◌, ◌≤◌, ◌^◌, ◌*◌, None, Some, true, IsTrue, IfSome};
+ghost use Rattle.std.specs.Prelude.{◌≡◌, ◌<◌, ◌≤◌, ◌*◌, None, Some, true, IsTrue, IfSome};
 ghost use Rattle.std.specs.Prelude.{is_some, length, slice_get};
 ghost use Rattle.std.specs.Option.{option_copied};
 ghost use Rattle.std.specs.Str.{bytes_eq};
@@ -8,7 +8,7 @@ ghost use Rattle.slh_ring.specs.Keys.{key_tag, ring_key};
 ghost use Rattle.slh_ring.specs.Records.{are_entries, entries_in, entry_in, has_entry, has_form};
 ghost use Rattle.slh_ring.specs.Records.{recorded, set_in};
 
-use crate::derived::{derive, tag_of};
+use crate::derived::{MAX_MASTER, derive, tag_of};
 use crate::entry::entry_of;
 use crate::path::Path;
 use crate::records::{MARK, read_record};
@@ -137,12 +137,12 @@ impl<P: SetSizes> RecordEntry<'_, P> {
         self.tag
     }
 
-    /// The key at the path under a master of at most 2^60 bytes, which is made once. `None`: it
+    /// The key at the path under a master of at most [`MAX_MASTER`] bytes, which is made once. `None`: it
     /// isn't the recorded one. Takes no memory. One after another these are the keys that
     /// [`Ring::restore`](crate::Ring::restore) makes and doesn't hand out.
     #[tactic(auto, unfolding(crate::specs::Keys::key_tag))]
     pub fn key(&self, master: &[u8]) -> Option<SigningKey<P>>
-        requires { length master.now ≤ 2 ^ 60 }
+        requires { length master.now ≤ MAX_MASTER }
         ensures own { is_some result ≡ bytes_eq self.now.tag
             (key_tag P.scheme P.set_name master.now self.now.path) }
         ensures key { IfSome result

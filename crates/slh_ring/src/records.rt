@@ -1,5 +1,5 @@
 //! Records of rings.
-ghost use Rattle.std.specs.Prelude.{◌≡◌, ◌↔◌, ◌+◌, ◌*◌, ◌^◌, ◌≤◌, ◌++◌, length, None, true};
+ghost use Rattle.std.specs.Prelude.{◌≡◌, ◌↔◌, ◌+◌, ◌*◌, ◌≤◌, ◌++◌, length, None, true};
 ghost use Rattle.std.specs.Prelude.{IfOk, IfSome, IsSome, IsTrue, OnOk};
 ghost use Rattle.std.specs.Str.{bytes_eq};
 ghost use Rattle.slh_core.specs.Bytes.{big_endian};
@@ -12,7 +12,7 @@ ghost use Rattle.slh_ring.specs.Records.{record_head, rises as spec_rises};
 ghost use Rattle.slh_ring.specs.Restores.{AnswersOrNoMemory, restore_answer, restored_keys};
 ghost use Rattle.slh_ring.specs.Restores.{first_mismatch as spec_first_mismatch, keys_made};
 
-use crate::derived::{MAX_PATH_LEN, Master, key_tag, write_path};
+use crate::derived::{MAX_MASTER, MAX_PATH_LEN, Master, key_tag, write_path};
 use crate::entry::{Entry, entry_of, read_entry};
 use crate::error::RestoreError;
 use crate::path::Path;
@@ -209,9 +209,9 @@ impl<P: SetSizes> Ring<P> {
     }
 
     /// The ring's record: the paths in order, each with 8 bytes that tell its key under a master of
-    /// at most 2^60 bytes. Makes each key once.
+    /// at most [`MAX_MASTER`] bytes. Makes each key once.
     pub fn to_record(&self, alloc: Global, master: &[u8]) -> Result<Vec<u8>, AllocError>
-        requires { length master.now ≤ 2 ^ 60 }
+        requires { length master.now ≤ MAX_MASTER }
         ensures { IfOk result (λ bytes. bytes.items
             ≡ ring_bytes P.scheme P.set_name master.now self.now) }
     {
@@ -225,7 +225,7 @@ impl<P: SetSizes> Ring<P> {
         master: &[u8],
         blank: Blank,
     ) -> Result<Vec<u8>, AllocError>
-        requires master { length master.now ≤ 2 ^ 60 }
+        requires master { length master.now ≤ MAX_MASTER }
         requires fresh { IsFresh blank L.name L.parts }
         ensures { IfOk result (λ bytes. bytes.items
             ≡ ring_bytes P.scheme P.set_name master.now self.now) }
@@ -241,7 +241,7 @@ impl<P: SetSizes> Ring<P> {
         master: &[u8],
         steps: &mut Steps<L>,
     ) -> Result<Vec<u8>, AllocError>
-        requires { length master.now ≤ 2 ^ 60 }
+        requires { length master.now ≤ MAX_MASTER }
         ensures record { IfOk result (λ bytes. bytes.items
             ≡ ring_bytes P.scheme P.set_name master.now self.now) }
         ensures cost { OnOk result
@@ -256,11 +256,11 @@ impl<P: SetSizes> Ring<P> {
         Ok(bytes)
     }
 
-    /// The ring whose record under a master of at most 2^60 bytes this is. Makes each key once, and
+    /// The ring whose record under a master of at most [`MAX_MASTER`] bytes this is. Makes each key once, and
     /// none after the first that isn't the recorded one. `Form`: the bytes aren't the record of any
     /// paths of this set; `Mismatch`: the first path whose key isn't the recorded one; `Memory`.
     pub fn restore(alloc: Global, master: &[u8], bytes: &[u8]) -> Result<Self, RestoreError>
-        requires { length master.now ≤ 2 ^ 60 }
+        requires { length master.now ≤ MAX_MASTER }
         ensures { AnswersOrNoMemory result
             (restore_answer P.scheme P.set_name master.now bytes.now) }
     {
@@ -274,7 +274,7 @@ impl<P: SetSizes> Ring<P> {
         bytes: &[u8],
         blank: Blank,
     ) -> Result<Self, RestoreError>
-        requires master { length master.now ≤ 2 ^ 60 }
+        requires master { length master.now ≤ MAX_MASTER }
         requires fresh { IsFresh blank L.name L.parts }
         ensures { AnswersOrNoMemory result
             (restore_answer P.scheme P.set_name master.now bytes.now) }
@@ -291,7 +291,7 @@ impl<P: SetSizes> Ring<P> {
         bytes: &[u8],
         steps: &mut Steps<L>,
     ) -> Result<Self, RestoreError>
-        requires { length master.now ≤ 2 ^ 60 }
+        requires { length master.now ≤ MAX_MASTER }
         ensures answer { AnswersOrNoMemory result
             (restore_answer P.scheme P.set_name master.now bytes.now) }
         ensures cost { let keys = restored_keys P.scheme P.set_name master.now bytes.now in

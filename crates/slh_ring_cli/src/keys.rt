@@ -1,5 +1,5 @@
 //! `SET derive MASTER PATH` gives the key at a path. `master_of` reads the master of any line.
-ghost use Rattle.std.specs.Prelude.{◌≡◌, ◌⊎◌, ◌^◌, ◌≤◌, length, Ok, Err, IfOk};
+ghost use Rattle.std.specs.Prelude.{◌≡◌, ◌⊎◌, ◌≤◌, length, Ok, Err, IfOk};
 ghost use Rattle.line_serve.specs.Fields.{contents};
 ghost use Rattle.slh_line.specs.Readings.{bytes_at as spec_bytes_at};
 ghost use Rattle.slh_line.specs.declared.line_error.LineError.TheVariants.{Memory};
@@ -10,16 +10,14 @@ use crate::path_fields::path_of;
 use line_serve::{ByteString, field_at, push_hex};
 use slh_dsa::{SetSizes, SigningKey};
 use slh_line::{LineError, bytes_at};
-use slh_ring::{Path, derive};
+use slh_ring::{MAX_MASTER, Path, derive};
 use std::alloc::Global;
 
-/// The most bytes of a master. No line holds so many, so more are as good as want of memory.
-const MAX_MASTER: usize = 1 << 60;
-
-/// The master of a line: the bytes of its third field.
+/// The master of a line: the bytes of its third field. No line holds more than a master may have, so
+/// more are as good as want of memory.
 pub(crate) fn master_of(alloc: Global, fields: &[&[u8]]) -> Result<ByteString, LineError>
     ensures value { (result ≡ spec_bytes_at (contents fields.now) 2) ⊎ (result ≡ Err Memory) }
-    ensures few { IfOk result (λ master. length master ≤ 2 ^ 60) }
+    ensures few { IfOk result (λ master. length master ≤ MAX_MASTER) }
 {
     let master = bytes_at(alloc, fields, 2)?;
     if master.len() > MAX_MASTER {
@@ -46,7 +44,7 @@ fn derive_text<P: SetSizes>(
     master: &[u8],
     path: &Path,
 ) -> Result<ByteString, LineError>
-    requires { length master.now ≤ 2 ^ 60 }
+    requires { length master.now ≤ MAX_MASTER }
     ensures { let key = ring_key P.scheme P.set_name master.now path.now in
         (result ≡ Ok (spec_key_text P.scheme key)) ⊎ (result ≡ Err Memory) }
 {

@@ -1,5 +1,5 @@
 //! `SET record MASTER PATH ..` gives the record of a ring of paths.
-ghost use Rattle.std.specs.Prelude.{◌≡◌, ◌⊎◌, ◌^◌, ◌≤◌, [], length, None, Some, Ok, Err};
+ghost use Rattle.std.specs.Prelude.{◌≡◌, ◌⊎◌, ◌≤◌, [], length, None, Some, Ok, Err};
 ghost use Rattle.std.specs.Prelude.{IfOk, IfErr};
 ghost use Rattle.line_serve.specs.Fields.{contents};
 ghost use Rattle.slh_line.specs.declared.line_error.LineError.TheVariants.{Memory};
@@ -12,7 +12,7 @@ use crate::path_fields::all_paths;
 use line_serve::{ByteString, push_hex_line};
 use slh_dsa::SetSizes;
 use slh_line::LineError;
-use slh_ring::{Path, Ring, RingError};
+use slh_ring::{MAX_MASTER, Path, Ring, RingError};
 use std::alloc::Global;
 
 // A line has a set, the command, a master, and 0 to 64 paths.
@@ -40,7 +40,7 @@ fn ring_record<P: SetSizes>(
     master: &[u8],
     ring: &Ring<P>,
 ) -> Result<ByteString, LineError>
-    requires { length master.now ≤ 2 ^ 60 }
+    requires { length master.now ≤ MAX_MASTER }
     ensures { (result ≡ Ok (spec_record_text P.scheme P.set_name master.now (Some ring.now)))
         ⊎ (result ≡ Err Memory) }
 {
@@ -55,7 +55,7 @@ fn record_text<P: SetSizes>(
     master: &[u8],
     paths: &[Path],
 ) -> Result<ByteString, LineError>
-    requires master { length master.now ≤ 2 ^ 60 }
+    requires master { length master.now ≤ MAX_MASTER }
     requires few { length paths.now ≤ 64 }
     ensures { (result ≡ Ok (spec_record_text P.scheme P.set_name master.now
         (all_added [] paths.now))) ⊎ (result ≡ Err Memory) }

@@ -1,5 +1,5 @@
 //! `SET restore MASTER RECORD` gives the paths of a record, or tells why it has none.
-ghost use Rattle.std.specs.Prelude.{◌≡◌, ◌⊎◌, ◌^◌, ◌≤◌, length, Ok, Err};
+ghost use Rattle.std.specs.Prelude.{◌≡◌, ◌⊎◌, ◌≤◌, length, Ok, Err};
 ghost use Rattle.line_serve.specs.Fields.{contents};
 ghost use Rattle.slh_line.specs.declared.line_error.LineError.TheVariants.{Memory};
 ghost use Rattle.slh_ring.specs.Restores.{restore_answer};
@@ -12,7 +12,7 @@ use crate::keys::master_of;
 use line_serve::{ByteString, push_number_line};
 use slh_dsa::SetSizes;
 use slh_line::{LineError, bytes_at};
-use slh_ring::{RestoreError, Ring};
+use slh_ring::{MAX_MASTER, RestoreError, Ring};
 use std::alloc::Global;
 
 // The line for the paths of a ring.
@@ -46,7 +46,7 @@ fn restore_text<P: SetSizes>(
     master: &[u8],
     bytes: &[u8],
 ) -> Result<ByteString, LineError>
-    requires { length master.now ≤ 2 ^ 60 }
+    requires { length master.now ≤ MAX_MASTER }
     ensures { let answer = restore_answer P.scheme P.set_name master.now bytes.now in
         (result ≡ Ok (spec_restore_text answer)) ⊎ (result ≡ Err Memory) }
 {

@@ -9,7 +9,7 @@ ghost use Rattle.slh_audit.specs.declared.evidence.Verdict.TheVariants.{Foreign}
 use crate::request::read_job;
 use line_serve::{ByteString, push_hex, push_hex_line};
 use slh_audit::{Evidence, Verdict};
-use slh_dsa::SetSizes;
+use slh_dsa::{SetSizes, verifying_half};
 use slh_jobs::{Answer, Error, Job, push_evidence, run_set};
 use slh_line::{Commands, LineError};
 use std::alloc::{AllocError, Global};
@@ -25,7 +25,7 @@ fn key_line(alloc: Global, key: &[u8]) -> Result<ByteString, AllocError>
     text.reserve(key.len().saturating_mul(3).saturating_add(7))?;
     text.push_slice(b"key ")?;
     push_hex(&mut text, key)?;
-    push_hex_line(&mut text, b" ", &key[key.len() / 2..])?;
+    push_hex_line(&mut text, b" ", verifying_half(key))?;
     Ok(text)
 }
 

@@ -10,7 +10,7 @@ returns-in_err-push-clause-long c = λ is.
     let messages = c.args.messages.now in
     let i = c.each_message.i in
     let same : c.in_err-push.field-0.0 ≡ Message = search rules in
-    let long : is_long (get_or messages i []) ≡ true = rw (← c.message_at.ensures) (refused_long c.each_message.batch c.message_at.result.now (sym c.in_err-push.ensures.refusal ∙ same)) in
+    let long : is_long (get_or messages i []) ≡ true = rw (← c.word_at.ensures) (refused_long c.each_message.batch c.word_at.result.now (sym c.in_err-push.ensures.refusal ∙ same)) in
     list_any_at is_long messages i [] (omega arith) long
 
 pub each_message-preserved : goal.each_message-preserved
@@ -18,7 +18,7 @@ each_message-preserved c =
     let messages = c.args.messages.now in
     let i = c.each_message.i in
     record {
-      batch = rw (c.in_ok-push.ensures.value, c.each_message.invariant.batch, c.message_at.ensures) (leaves_more messages i (omega arith));
+      batch = rw (c.in_ok-push.ensures.value, c.each_message.invariant.batch, c.word_at.ensures) (leaves_more messages i (omega arith));
       short = short_more messages i (omega arith) c.each_message.invariant.short
-          (rw (← c.message_at.ensures) (unrefused_short c.each_message.batch c.message_at.result.now c.in_ok-push.ensures.refusal));
+          (rw (← c.word_at.ensures) (unrefused_short c.each_message.batch c.word_at.result.now c.in_ok-push.ensures.refusal));
     }
