@@ -1,6 +1,5 @@
 -- What is answered by the bytes of a key, where they are one of the set.
 use Rattle.std.proofs.Common.{◌≡◌, Bool, true, false, ◌&&◌, Option, None, Some, if◌then◌else◌, refl}
-use Rattle.slh_dsa.specs.declared.error.Error.{Error}
 use Rattle.slh_dsa.specs.declared.error.Error.TheVariants.{Length}
 
 pub one_key : {E : Type 0} (fits : Bool) (refusal other : Option E)

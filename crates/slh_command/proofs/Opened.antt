@@ -3,7 +3,6 @@ use Rattle.std.proofs.Common.{◌≡◌, [], ◌∷◌, Option, None, Some, refl
 use Rattle.std.specs.Option.{option_map}
 use Rattle.slh_batch.specs.declared.error.HeadError.{HeadError}
 use Rattle.slh_batch.specs.declared.error.ReceiptError.{ReceiptError}
-use Rattle.slh_command.specs.declared.receipts.UnderHeadError.{UnderHeadError}
 use Rattle.slh_command.specs.declared.receipts.UnderHeadError.TheVariants.{Head, Receipt}
 use Rattle.slh_core.specs.Refusals.{first_refusal}
 

@@ -42,23 +42,6 @@ struct Walking<'a> {
     chain: &'a [u8],
 }
 
-// The key at the end of a chain from the bytes of a root key.
-fn last_key_by<P: SetSizes>(
-    alloc: Global,
-    root: &[u8],
-    chain: &[u8],
-) -> Result<ByteString, WalkError>
-    ensures { (result ≡ end_key P.scheme root.now chain.now) ⊎ (result ≡ Err Memory) }
-{
-    let Ok(root) = VerifyingKey::<P>::try_from(root) else {
-        return Err(WalkError::Link(ChainError::Form(0)));
-    };
-    match walk(&root, chain) {
-        Ok(end) => Ok(ByteString::from_slice(alloc, &end.key.to_vec(alloc)?)?),
-        Err(fault) => Err(WalkError::Link(fault)),
-    }
-}
-
 impl<'a> OnSet for Walking<'a> {
     type Out = Result<ByteString, WalkError>;
 
@@ -66,7 +49,13 @@ impl<'a> OnSet for Walking<'a> {
         ⊎ (result ≡ Err Memory) };
 
     fn on<P: SetSuite>(self) -> Result<ByteString, WalkError> {
-        last_key_by::<P>(self.alloc, self.root, self.chain)
+        let Ok(root) = VerifyingKey::<P>::try_from(self.root) else {
+            return Err(WalkError::Link(ChainError::Form(0)));
+        };
+        match walk(&root, self.chain) {
+            Ok(end) => Ok(ByteString::from_slice(self.alloc, &end.key.to_vec(self.alloc)?)?),
+            Err(fault) => Err(WalkError::Link(fault)),
+        }
     }
 }
 
@@ -117,26 +106,6 @@ fn texts_of<'a, P: SetSizes>(
     Ok(texts)
 }
 
-// The links of a chain from the bytes of a root key.
-fn links_by<'a, P: SetSizes>(
-    alloc: Global,
-    root: &[u8],
-    chain: &'a [u8],
-) -> Result<Vec<LinkText<'a>>, WalkError>
-    ensures links { IfOk result (λ texts. chain_links P.scheme root.now chain.now
-        ≡ Ok (map parts_of texts.items)) }
-    ensures error { IfErr result (λ e. (chain_links P.scheme root.now chain.now ≡ Err e)
-        ⊎ (e ≡ Memory)) }
-{
-    let Ok(root) = VerifyingKey::<P>::try_from(root) else {
-        return Err(WalkError::Link(ChainError::Form(0)));
-    };
-    match Chain::open(&root, chain) {
-        Ok(walked) => Ok(texts_of(alloc, walked.links())?),
-        Err(fault) => Err(WalkError::Link(fault)),
-    }
-}
-
 // A chain whose links are to be told.
 #[derive(Drop)]
 struct Showing<'a>(Walking<'a>);
@@ -150,7 +119,13 @@ impl<'a> OnSet for Showing<'a> {
 
     fn on<P: SetSuite>(self) -> Result<Vec<LinkText<'a>>, WalkError> {
         let Showing(Walking { alloc, root, chain }) = self;
-        links_by::<P>(alloc, root, chain)
+        let Ok(root) = VerifyingKey::<P>::try_from(root) else {
+            return Err(WalkError::Link(ChainError::Form(0)));
+        };
+        match Chain::open(&root, chain) {
+            Ok(walked) => Ok(texts_of(alloc, walked.links())?),
+            Err(fault) => Err(WalkError::Link(fault)),
+        }
     }
 }
 
@@ -181,31 +156,6 @@ struct Delegating<'a> {
     opt_rand: Option<&'a [u8]>,
 }
 
-// Makes a link by the bytes of two keys.
-fn link_by<P: SetSizes>(
-    alloc: Global,
-    key: &[u8],
-    name: &[u8],
-    depth: u8,
-    subject: &[u8],
-    opt_rand: Option<&[u8]>,
-) -> Result<Vec<u8>, LinkError>
-    ensures refusal { let opt_rand = option_copied opt_rand.entry in
-        RefusedOrNoMemory NoMemory result
-        (link_refusal P.scheme key.now name.now depth subject.now opt_rand) }
-    ensures link { let opt_rand = option_copied opt_rand.entry in
-        let body = link_body depth name.now subject.now in
-        IfOk result (λ link. link.items ≡ signed_link P.scheme key.now opt_rand body) }
-{
-    let Ok(key) = SigningKey::<P>::try_from(key) else {
-        return Err(LinkError::Memory);
-    };
-    let Ok(subject) = VerifyingKey::<P>::try_from(subject) else {
-        return Err(LinkError::Memory);
-    };
-    delegate(alloc, &key, name, depth, &subject, opt_rand)
-}
-
 impl<'a> OnSet for Delegating<'a> {
     type Out = Result<Vec<u8>, LinkError>;
 
@@ -216,15 +166,20 @@ impl<'a> OnSet for Delegating<'a> {
         ≡ signed_link Z c.key.now opt_rand (link_body c.depth c.name.now c.subject.now)) };
 
     fn on<P: SetSuite>(self) -> Result<Vec<u8>, LinkError> {
-        let Delegating {
-            alloc,
-            key,
-            name,
-            depth,
-            subject,
-            opt_rand,
-        } = self;
-        link_by::<P>(alloc, key, name, depth, subject, opt_rand)
+        let Ok(key) = SigningKey::<P>::try_from(self.key) else {
+            return Err(LinkError::Memory);
+        };
+        let Ok(subject) = VerifyingKey::<P>::try_from(self.subject) else {
+            return Err(LinkError::Memory);
+        };
+        delegate(
+            self.alloc,
+            &key,
+            self.name,
+            self.depth,
+            &subject,
+            self.opt_rand,
+        )
     }
 }
 

@@ -33,5 +33,6 @@ pub use batches::{Receipts, SealError, seal_batch};
 pub use chains::{LinkText, WalkError, last_key, links_of, new_link};
 pub use manifests::{Checked, check_manifest, entry_name, first_unnamed, seal_manifest};
 pub use receipts::{UnderHeadError, accept_receipt, accept_receipt_under_head};
-pub use rings::{MAX_MASTER, RecordError, key_at, record_of, restored_paths};
+pub use rings::{RecordError, key_at, record_of, restored_paths};
+pub use slh_ring::MAX_MASTER;
 pub use verdicts::{Detail, verdict_json};

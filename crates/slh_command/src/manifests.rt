@@ -11,7 +11,7 @@ ghost use Rattle.slh_manifest.specs.declared.error.BuildError.TheVariants.{Memor
 ghost use Rattle.slh_sets.specs.Sets.{scheme_for};
 ghost use Rattle.slh_core.specs.Refusals.{RefusedOrNoMemory};
 
-use slh_dsa::{SetSizes, SigningKey, VerifyingKey};
+use slh_dsa::{SigningKey, VerifyingKey};
 use slh_manifest::{BuildError, Builder, CheckError, EntryRef, Manifest, Store, check};
 use slh_sets::{OnSet, Set, SetSuite};
 use std::alloc::Global;
@@ -25,25 +25,6 @@ struct Sealing<'a> {
     opt_rand: Option<&'a [u8]>,
 }
 
-// Signs entries by the bytes of a key.
-fn seal_by<P: SetSizes>(
-    alloc: Global,
-    key: &[u8],
-    entries: Builder,
-    opt_rand: Option<&[u8]>,
-) -> Result<Vec<u8>, BuildError>
-    ensures refusal { let opt_rand = option_copied opt_rand.entry in
-        RefusedOrNoMemory Memory result (sealing_refusal P.scheme key.now entries opt_rand) }
-    ensures value { let opt_rand = option_copied opt_rand.entry in
-        IfOk result (λ manifest. manifest.items
-        ≡ manifest_of P.scheme key.now opt_rand entries) }
-{
-    let Ok(key) = SigningKey::<P>::try_from(key) else {
-        return Err(BuildError::Memory);
-    };
-    entries.seal(alloc, &key, opt_rand)
-}
-
 impl<'a> OnSet for Sealing<'a> {
     type Out = Result<Vec<u8>, BuildError>;
 
@@ -53,13 +34,10 @@ impl<'a> OnSet for Sealing<'a> {
         ≡ manifest_of Z c.key.now opt_rand c.entries) };
 
     fn on<P: SetSuite>(self) -> Result<Vec<u8>, BuildError> {
-        let Sealing {
-            alloc,
-            key,
-            entries,
-            opt_rand,
-        } = self;
-        seal_by::<P>(alloc, key, entries, opt_rand)
+        let Ok(key) = SigningKey::<P>::try_from(self.key) else {
+            return Err(BuildError::Memory);
+        };
+        self.entries.seal(self.alloc, &key, self.opt_rand)
     }
 }
 
@@ -102,22 +80,6 @@ struct Checking<'a, T> {
     store: T,
 }
 
-// Checks a manifest over a store by the bytes of a key.
-fn check_by<P: SetSizes, T: Store>(key: &[u8], manifest: &[u8], store: T) -> Checked<T>
-    ensures { IsChecked P.scheme key.now manifest.now (T.files store) (T.faults store)
-        (T.faults result.store) result.answer }
-{
-    let Ok(key) = VerifyingKey::<P>::try_from(key) else {
-        return Checked {
-            answer: Err(CheckError::Form),
-            store,
-        };
-    };
-    let mut store = store;
-    let answer = check(&key, manifest, &mut store);
-    Checked { answer, store }
-}
-
 impl<'a, T: Store + Drop> OnSet for Checking<'a, T> {
     type Out = Checked<T>;
 
@@ -128,9 +90,16 @@ impl<'a, T: Store + Drop> OnSet for Checking<'a, T> {
         let Checking {
             key,
             manifest,
-            store,
+            mut store,
         } = self;
-        check_by::<P, T>(key, manifest, store)
+        let Ok(key) = VerifyingKey::<P>::try_from(key) else {
+            return Checked {
+                answer: Err(CheckError::Form),
+                store,
+            };
+        };
+        let answer = check(&key, manifest, &mut store);
+        Checked { answer, store }
     }
 }
 

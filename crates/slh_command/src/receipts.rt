@@ -5,7 +5,7 @@ ghost use Rattle.slh_sets.specs.Sets.{scheme_for};
 ghost use Rattle.slh_core.specs.Refusals.{RefusedExactly};
 
 use slh_batch::{Head, HeadError, Place, ReceiptError, accept_receipt_under, accepted_place};
-use slh_dsa::{SetSizes, VerifyingKey};
+use slh_dsa::VerifyingKey;
 use slh_sets::{OnSet, Set, SetSuite};
 
 // The receipt of a message.
@@ -16,18 +16,6 @@ struct Accepting<'a> {
     receipt: &'a [u8],
 }
 
-// Checks a receipt by the bytes of a key.
-fn accept_by<P: SetSizes>(key: &[u8], message: &[u8], receipt: &[u8]) -> Result<Place, ReceiptError>
-    ensures refusal { RefusedExactly result
-        (receipt_refusal P.scheme key.now message.now receipt.now) }
-    ensures place { IfOk result (IsPlaceOf receipt.now) }
-{
-    let Ok(key) = VerifyingKey::<P>::try_from(key) else {
-        return Err(ReceiptError::Form);
-    };
-    accepted_place(&key, message, receipt)
-}
-
 impl<'a> OnSet for Accepting<'a> {
     type Out = Result<Place, ReceiptError>;
 
@@ -36,7 +24,10 @@ impl<'a> OnSet for Accepting<'a> {
         × IfOk result (IsPlaceOf c.receipt.now) };
 
     fn on<P: SetSuite>(self) -> Result<Place, ReceiptError> {
-        accept_by::<P>(self.key, self.message, self.receipt)
+        let Ok(key) = VerifyingKey::<P>::try_from(self.key) else {
+            return Err(ReceiptError::Form);
+        };
+        accepted_place(&key, self.message, self.receipt)
     }
 }
 
@@ -79,30 +70,6 @@ struct AcceptingUnder<'a> {
     receipt: &'a [u8],
 }
 
-// Checks a receipt by the bytes of a key and of a head.
-fn accept_under_by<P: SetSizes>(
-    key: &[u8],
-    head: &[u8],
-    message: &[u8],
-    receipt: &[u8],
-) -> Result<Place, UnderHeadError>
-    ensures refusal { RefusedExactly result
-        (under_head_refusal P.scheme key.now head.now message.now receipt.now) }
-    ensures place { IfOk result (IsPlaceOf receipt.now) }
-{
-    let Ok(key) = VerifyingKey::<P>::try_from(key) else {
-        return Err(UnderHeadError::Head(HeadError::Form));
-    };
-    let head = match Head::open(&key, head) {
-        Ok(head) => head,
-        Err(error) => return Err(UnderHeadError::Head(error)),
-    };
-    match accept_receipt_under::<P>(&head, message, receipt) {
-        Ok(place) => Ok(place),
-        Err(error) => Err(UnderHeadError::Receipt(error)),
-    }
-}
-
 impl<'a> OnSet for AcceptingUnder<'a> {
     type Out = Result<Place, UnderHeadError>;
 
@@ -111,7 +78,17 @@ impl<'a> OnSet for AcceptingUnder<'a> {
         × IfOk result (IsPlaceOf c.receipt.now) };
 
     fn on<P: SetSuite>(self) -> Result<Place, UnderHeadError> {
-        accept_under_by::<P>(self.key, self.head, self.message, self.receipt)
+        let Ok(key) = VerifyingKey::<P>::try_from(self.key) else {
+            return Err(UnderHeadError::Head(HeadError::Form));
+        };
+        let head = match Head::open(&key, self.head) {
+            Ok(head) => head,
+            Err(error) => return Err(UnderHeadError::Head(error)),
+        };
+        match accept_receipt_under::<P>(&head, self.message, self.receipt) {
+            Ok(place) => Ok(place),
+            Err(error) => Err(UnderHeadError::Receipt(error)),
+        }
     }
 }
 

@@ -1,5 +1,5 @@
 //! Rings of the keys of a master secret.
-ghost use Rattle.std.specs.Prelude.{◌≡◌, ◌⊎◌, ◌+◌, ◌^◌, ◌≤◌, [], length, Ok, Err, IfOk, IfErr};
+ghost use Rattle.std.specs.Prelude.{◌≡◌, ◌⊎◌, ◌+◌, ◌≤◌, [], length, Ok, Err, IfOk, IfErr};
 ghost use Rattle.std.specs.Prelude.{OnOk};
 ghost use Rattle.line_serve.specs.Fields.{contents};
 ghost use Rattle.slh_command.specs.Rings.{paths_text as spec_paths_text, record_by, restored_text};
@@ -11,12 +11,9 @@ ghost use Rattle.slh_sets.specs.Sets.{name_of, scheme_for};
 
 use line_serve::ByteString;
 use slh_dsa::SetSizes;
-use slh_ring::{Path, RestoreError, Ring, RingError, derive};
+use slh_ring::{MAX_MASTER, Path, RestoreError, Ring, RingError, derive};
 use slh_sets::{OnSet, Set, SetSuite};
 use std::alloc::{AllocError, Global};
-
-/// The most bytes of a master.
-pub const MAX_MASTER: usize = 1 << 60;
 
 // The key at a path.
 #[derive(Drop)]
@@ -26,18 +23,6 @@ struct Deriving<'a> {
     path: &'a Path,
 }
 
-// Makes a key.
-fn key_by<P: SetSizes>(alloc: Global, master: &[u8], path: &Path) -> Result<ByteString, AllocError>
-    ensures { IfOk result
-        (λ key. key ≡ ring_key P.scheme P.set_name master.now path.now) }
-{
-    if master.len() > MAX_MASTER {
-        return Err(AllocError);
-    }
-    let key = derive::<P>(master, path);
-    ByteString::from_slice(alloc, &key.to_vec(alloc)?)
-}
-
 impl<'a> OnSet for Deriving<'a> {
     type Out = Result<ByteString, AllocError>;
 
@@ -45,7 +30,11 @@ impl<'a> OnSet for Deriving<'a> {
         (λ key. key ≡ ring_key Z name c.master.now c.path.now) };
 
     fn on<P: SetSuite>(self) -> Result<ByteString, AllocError> {
-        key_by::<P>(self.alloc, self.master, self.path)
+        if self.master.len() > MAX_MASTER {
+            return Err(AllocError);
+        }
+        let key = derive::<P>(self.master, self.path);
+        ByteString::from_slice(self.alloc, &key.to_vec(self.alloc)?)
     }
 }
 
@@ -123,25 +112,6 @@ fn ring_of<P: SetSizes>(alloc: Global, texts: &[&str]) -> Result<Ring<P>, Record
     Ok(ring)
 }
 
-// The record of the ring of some paths, of a set that is known.
-fn record_in<P: SetSizes>(
-    alloc: Global,
-    master: &[u8],
-    texts: &[&str],
-) -> Result<Vec<u8>, RecordError>
-    ensures record { IfOk result (λ record_bytes. record_by P.scheme P.set_name master.now
-        (ring_from 0 [] (contents texts.now)) ≡ Ok record_bytes.items) }
-    ensures error { IfErr result (λ e. (record_by P.scheme P.set_name master.now
-        (ring_from 0 [] (contents texts.now)) ≡ Err e) ⊎ (e ≡ NoMemory)) }
-    ensures named { IfErr result (NamesText (length texts.now)) }
-{
-    if master.len() > MAX_MASTER {
-        return Err(RecordError::Memory);
-    }
-    let ring = ring_of::<P>(alloc, texts)?;
-    Ok(ring.to_record(alloc, master)?)
-}
-
 impl<'a, 't> OnSet for Recording<'a, 't> {
     type Out = Result<Vec<u8>, RecordError>;
 
@@ -152,7 +122,11 @@ impl<'a, 't> OnSet for Recording<'a, 't> {
         × IfErr result (NamesText (length c.texts.now)) };
 
     fn on<P: SetSuite>(self) -> Result<Vec<u8>, RecordError> {
-        record_in::<P>(self.alloc, self.master, self.texts)
+        if self.master.len() > MAX_MASTER {
+            return Err(RecordError::Memory);
+        }
+        let ring = ring_of::<P>(self.alloc, self.texts)?;
+        Ok(ring.to_record(self.alloc, self.master)?)
     }
 }
 
@@ -203,22 +177,6 @@ fn paths_text<P: SetSizes>(alloc: Global, ring: &Ring<P>) -> Result<ByteString, 
     Ok(text)
 }
 
-// The paths of a record of a set that is known.
-fn restored_in<P: SetSizes>(
-    alloc: Global,
-    master: &[u8],
-    recorded: &[u8],
-) -> Result<ByteString, RestoreError>
-    ensures { (result ≡ restored_text P.scheme P.set_name master.now recorded.now)
-        ⊎ (result ≡ Err Memory) }
-{
-    if master.len() > MAX_MASTER {
-        return Err(RestoreError::Memory);
-    }
-    let ring = Ring::<P>::restore(alloc, master, recorded)?;
-    Ok(paths_text(alloc, &ring)?)
-}
-
 impl<'a> OnSet for Restoring<'a> {
     type Out = Result<ByteString, RestoreError>;
 
@@ -226,7 +184,11 @@ impl<'a> OnSet for Restoring<'a> {
         (result ≡ restored_text Z name c.master.now c.recorded.now) ⊎ (result ≡ Err Memory) };
 
     fn on<P: SetSuite>(self) -> Result<ByteString, RestoreError> {
-        restored_in::<P>(self.alloc, self.master, self.recorded)
+        if self.master.len() > MAX_MASTER {
+            return Err(RestoreError::Memory);
+        }
+        let ring = Ring::<P>::restore(self.alloc, self.master, self.recorded)?;
+        Ok(paths_text(self.alloc, &ring)?)
     }
 }
 

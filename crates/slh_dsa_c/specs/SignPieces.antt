@@ -1,10 +1,11 @@
 -- What signing in pieces stands for as C keeps it, and what its calls answer.
-use Rattle.std.specs.Prelude.{◌≡◌, ◌≢◌, ◌==◌, ℕ, ◌*◌, ◌^◌, ◌<◌, List, [], ◌∷◌, length}
+use Rattle.std.specs.Prelude.{◌≡◌, ◌≢◌, ◌==◌, ℕ, ◌*◌, ◌<◌, List, [], ◌∷◌, length}
 use Rattle.std.specs.Prelude.{Option, None, Some, MatchOption, if◌then◌else◌}
 use Rattle.slh_core.specs.Bytes.{part}
 use Rattle.slh_core.specs.Parameters.{Scheme}
 use Rattle.slh_dsa.specs.Calls.{sign_input_refusal, signing_key_refusal}
 use Rattle.slh_dsa.specs.declared.error.Error.{Error}
+use Rattle.slh_frames.specs.declared.message.TheConstants.{MAX_MESSAGE}
 use Rattle.slh_dsa_c.specs.declared.sign_pieces.CSigner.{CSigner}
 use Rattle.slh_dsa_c.specs.declared.sign_pieces.Pass.{Pass}
 use Rattle.slh_dsa_c.specs.declared.sign_pieces.Pass.TheVariants.{First, Second}
@@ -57,7 +58,7 @@ IsNone signer = MatchOption (scheme_numbered signer.set) (Unit {0}) (λ _.
 
 -- more bytes of a message were counted than there may be
 abbrev pub IsOverfull : CSigner → Type 0
-IsOverfull signer = 2 ^ 60 < signer.state.numbers.taken
+IsOverfull signer = MAX_MESSAGE < signer.state.numbers.taken
 
 -- What holds of each signer that ends in a signature, whatever its numbers are: it has a set and is
 -- in the second pass, and PRF_msg of what it has absorbed is its R.

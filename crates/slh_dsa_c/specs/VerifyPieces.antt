@@ -1,9 +1,10 @@
 -- What a verification in pieces stands for as C keeps it, and what its calls answer.
-use Rattle.std.specs.Prelude.{◌≡◌, ◌≢◌, ℕ, ◌*◌, ◌^◌, ◌<◌, List, [], ◌∷◌, length, take, nat_lt}
+use Rattle.std.specs.Prelude.{◌≡◌, ◌≢◌, ℕ, ◌*◌, ◌<◌, List, [], ◌∷◌, length, take, nat_lt}
 use Rattle.std.specs.Prelude.{Option, None, MatchOption, if◌then◌else◌}
 use Rattle.slh_core.specs.Parameters.{Scheme}
 use Rattle.slh_dsa.specs.Calls.{verify_refusal, verifying_key_refusal}
 use Rattle.slh_dsa.specs.declared.error.Error.{Error}
+use Rattle.slh_frames.specs.declared.message.TheConstants.{MAX_MESSAGE}
 use Rattle.slh_dsa_c.specs.declared.verify_pieces.CVerifier.{CVerifier}
 use Rattle.slh_dsa_c.specs.Numbers.{mode_numbered}
 use Rattle.slh_dsa_c.specs.Status.{in_mode, in_set, number_of_refusal}
@@ -29,7 +30,7 @@ begin_status set mode key context sig = in_set (scheme_numbered set) (λ Z.
 
 -- what absorbing a piece answers where a message comes of it: 8 where it is too long
 abbrev pub update_number : List ℕ → ℕ
-update_number message = if nat_lt (2 ^ 60) (length message) then 8 else 0
+update_number message = if nat_lt MAX_MESSAGE (length message) then 8 else 0
 
 -- in a set and the mode of a number, the state stands for the bytes of a verifying key, a context,
 -- a signature by its randomizer, and a message
@@ -49,7 +50,7 @@ IsNone verifier = MatchOption (scheme_numbered verifier.set) (Unit {0}) (λ _.
 
 -- more bytes of a message were counted than there may be
 abbrev pub IsOverfull : CVerifier → Type 0
-IsOverfull verifier = 2 ^ 60 < verifier.state.numbers.taken
+IsOverfull verifier = MAX_MESSAGE < verifier.state.numbers.taken
 
 -- What holds of each verifier by which a signature is accepted, whatever its numbers are: it has a
 -- set and a mode, and in them the signature leads to its root.

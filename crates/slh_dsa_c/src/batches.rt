@@ -7,7 +7,7 @@ ghost use Rattle.slh_dsa_c.specs.Batches.{head_status, receipt_number, under_sta
 use crate::set::read_in_set;
 use crate::status::{FORM, INVALID, LENGTH, MESSAGE_TOO_LONG, OK, UNKNOWN_SET};
 use slh_batch::{Head, HeadError, ReceiptError, accept, accept_under};
-use slh_dsa::{SetSizes, VerifyingKey};
+use slh_dsa::VerifyingKey;
 use slh_sets::{OnSet, SetSuite};
 
 // The number of a refusal.
@@ -29,19 +29,6 @@ struct Accept<'a> {
     receipt: &'a [u8],
 }
 
-// Checks a receipt by a key of bytes.
-fn accept_by<P: SetSizes>(public: &[u8], msg: &[u8], receipt: &[u8]) -> u32
-    ensures { result ≡ accept_number P.scheme public.now msg.now receipt.now }
-{
-    let Ok(key) = VerifyingKey::<P>::try_from(public) else {
-        return LENGTH;
-    };
-    match accept(&key, msg, receipt) {
-        Ok(()) => OK,
-        Err(error) => number_of_receipt(error),
-    }
-}
-
 impl<'a> OnSet for Accept<'a> {
     type Out = u32;
 
@@ -49,7 +36,13 @@ impl<'a> OnSet for Accept<'a> {
         ≡ accept_number Z c.public.now c.msg.now c.receipt.now };
 
     fn on<P: SetSuite>(self) -> u32 {
-        accept_by::<P>(self.public, self.msg, self.receipt)
+        let Ok(key) = VerifyingKey::<P>::try_from(self.public) else {
+            return LENGTH;
+        };
+        match accept(&key, self.msg, self.receipt) {
+            Ok(()) => OK,
+            Err(error) => number_of_receipt(error),
+        }
     }
 }
 
@@ -94,29 +87,22 @@ struct Open<'a> {
     head: &'a [u8],
 }
 
-// Opens a head by a key of bytes.
-fn head_by<P: SetSizes>(public: &[u8], head: &[u8]) -> Result<CBatchHead, u32>
-    ensures { result ≡ head_answer P.scheme public.now head.now }
-{
-    let Ok(key) = VerifyingKey::<P>::try_from(public) else {
-        return Err(LENGTH);
-    };
-    match Head::open(&key, head) {
-        Ok(opened) => Ok(CBatchHead {
-            count: opened.count(),
-            root: *opened.root(),
-        }),
-        Err(error) => Err(number_of_head(error)),
-    }
-}
-
 impl<'a> OnSet for Open<'a> {
     type Out = Result<CBatchHead, u32>;
 
     ghost gives = { λ c Z _ result. result ≡ head_answer Z c.public.now c.head.now };
 
     fn on<P: SetSuite>(self) -> Result<CBatchHead, u32> {
-        head_by::<P>(self.public, self.head)
+        let Ok(key) = VerifyingKey::<P>::try_from(self.public) else {
+            return Err(LENGTH);
+        };
+        match Head::open(&key, self.head) {
+            Ok(opened) => Ok(CBatchHead {
+                count: opened.count(),
+                root: *opened.root(),
+            }),
+            Err(error) => Err(number_of_head(error)),
+        }
     }
 }
 

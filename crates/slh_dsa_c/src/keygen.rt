@@ -9,7 +9,7 @@ use crate::set::write_in_set;
 use crate::status::{LENGTH, OK, UNKNOWN_SET, number_of};
 use hybrid_array::ArraySize;
 use slh_core::params::chain_sizes;
-use slh_dsa::SigningKey;
+use slh_dsa::{SigningKey, verifying_half};
 use slh_sets::{SetSuite, WriteOnSet};
 
 // The seeds of a signing key, whose verifying key is to have so many bytes.
@@ -74,8 +74,7 @@ pub extern "C" fn slh_dsa_sha2_keygen(
     };
     let status = write_in_set(set, call, key, UNKNOWN_SET);
     if status == OK {
-        // The verifying key is the signing key's last half.
-        public.copy_from_slice(&key[public_bytes..]);
+        public.copy_from_slice(verifying_half(key));
     }
     status
 }

@@ -10,6 +10,7 @@ use crate::status::{KEY_MISMATCH, LENGTH, OK, UNKNOWN_SET};
 use hybrid_array::ArraySize;
 use slh_core::equal_parts::part_of;
 use slh_core::params::chain_sizes;
+use slh_dsa::verifying_half;
 use slh_sets::{OnSet, SetSuite, WriteOnSet};
 use slh_trees::uncounted::top_root;
 
@@ -34,7 +35,7 @@ impl<'a> WriteOnSet for Public<'a> {
         if self.key.len() != 2 * public_bytes || out.len() != public_bytes {
             return LENGTH;
         }
-        out.copy_from_slice(&self.key[public_bytes..]);
+        out.copy_from_slice(verifying_half(self.key));
         OK
     }
 }

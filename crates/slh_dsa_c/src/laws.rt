@@ -1,10 +1,11 @@
 //! What signing and verifying have to do with one another, as the contract of a function that does
 //! nothing but make the calls that it speaks of.
-ghost use Rattle.std.specs.Prelude.{◌≡◌, ℕ, ◌*◌, ◌^◌, ◌≤◌, List, length, drop, Option, None};
+ghost use Rattle.std.specs.Prelude.{◌≡◌, ℕ, ◌*◌, ◌≤◌, List, length, drop, Option, None};
 ghost use Rattle.std.specs.Prelude.{IfSome};
 ghost use Rattle.slh_dsa.specs.Calls.{hash_verify_error};
 ghost use Rattle.slh_frames.specs.Frames.{mode_frame};
 ghost use Rattle.slh_frames.specs.declared.frame.Mode.{Mode as SigningMode};
+ghost use Rattle.slh_frames.specs.declared.message.TheConstants.{MAX_CONTEXT, MAX_MESSAGE};
 ghost use Rattle.slh_dsa_c.specs.Numbers.{mode_numbered};
 ghost use Rattle.slh_dsa_c.specs.Status.{sign_status, verify_status};
 ghost use Rattle.slh_sets.specs.Sets.{scheme_numbered};
@@ -24,7 +25,7 @@ impl OnSet for Accepts {
 
     ghost gives = { λ _ Z _ _.
         (mode : SigningMode) (key context message : List ℕ) (opt_rand : Option (List ℕ))
-        → IsTrueKey Z key → length key ≡ 4 * Z.n → length context ≤ 255 → length message ≤ 2 ^ 60
+        → IsTrueKey Z key → length key ≡ 4 * Z.n → length context ≤ MAX_CONTEXT → length message ≤ MAX_MESSAGE
         → hash_verify_error Z mode (drop (2 * Z.n) key) context message
         (signature_of Z key opt_rand (mode_frame mode context message)) ≡ None };
 

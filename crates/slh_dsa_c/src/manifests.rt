@@ -7,7 +7,7 @@ ghost use Rattle.slh_manifest.specs.Checking.{count_of, entries_of, has_entries}
 
 use crate::set::read_in_set;
 use crate::status::{FORM, INVALID, LENGTH, NO_ENTRY, OK, UNKNOWN_SET};
-use slh_dsa::{SetSizes, VerifyingKey};
+use slh_dsa::VerifyingKey;
 use slh_manifest::{CheckError, Manifest};
 use slh_sets::{OnSet, SetSuite};
 
@@ -42,26 +42,19 @@ struct Open<'a> {
     manifest: &'a [u8],
 }
 
-// The number of entries, or the number of the refusal.
-fn count_in<P: SetSizes>(public: &[u8], manifest: &[u8]) -> Result<u32, u32>
-    ensures { result ≡ open_answer P.scheme public.now manifest.now }
-{
-    let Ok(key) = VerifyingKey::<P>::try_from(public) else {
-        return Err(LENGTH);
-    };
-    match Manifest::open(&key, manifest) {
-        Ok(opened) => Ok(opened.len() as u32),
-        Err(error) => Err(number_of_manifest(error)),
-    }
-}
-
 impl<'a> OnSet for Open<'a> {
     type Out = Result<u32, u32>;
 
     ghost gives = { λ c Z _ result. result ≡ open_answer Z c.public.now c.manifest.now };
 
     fn on<P: SetSuite>(self) -> Result<u32, u32> {
-        count_in::<P>(self.public, self.manifest)
+        let Ok(key) = VerifyingKey::<P>::try_from(self.public) else {
+            return Err(LENGTH);
+        };
+        match Manifest::open(&key, self.manifest) {
+            Ok(opened) => Ok(opened.len() as u32),
+            Err(error) => Err(number_of_manifest(error)),
+        }
     }
 }
 

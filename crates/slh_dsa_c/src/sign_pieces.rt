@@ -1,5 +1,5 @@
 //! Signing a message that comes in pieces, twice.
-ghost use Rattle.std.specs.Prelude.{◌≡◌, ◌≢◌, ◌*◌, ◌^◌, ◌<◌, ℕ, List, [], ◌++◌, Option, length};
+ghost use Rattle.std.specs.Prelude.{◌≡◌, ◌≢◌, ◌*◌, ◌<◌, ℕ, List, [], ◌++◌, Option, length};
 ghost use Rattle.std.specs.Prelude.{IfOk, IfSome, MatchOption, MatchResult, OnOk, OnErr};
 ghost use Rattle.std.specs.Prelude.{None, Some, Err};
 ghost use Rattle.std.specs.Option.{option_copied};
@@ -12,6 +12,7 @@ ghost use Rattle.slh_dsa_c.specs.Status.{number_of_refusal};
 ghost use Rattle.slh_dsa_c.specs.VerifyPieces.{update_number};
 ghost use Rattle.slh_dsa.specs.declared.error.Error.TheVariants.{ContextTooLong, MessageTooLong};
 ghost use Rattle.slh_frames.specs.Frames.{frame};
+ghost use Rattle.slh_frames.specs.declared.message.TheConstants.{MAX_MESSAGE};
 ghost use Rattle.slh_sets.specs.Sets.{scheme_numbered};
 ghost use Rattle.slh_stream.specs.Passes.{randomizer_for};
 ghost use Rattle.slh_stream.specs.SuspendedPass.{IsBlank, IsEnded, IsFirstAside, IsSecondAside};
@@ -174,7 +175,7 @@ fn update_in<P: SetSuite>(
         → IsAside P.N.USIZE pass state.old key opt_rand context rand m
         → MatchOption result ⊥ (λ r. OnOk r
         (IsAside P.N.USIZE pass state.new key opt_rand context rand (m ++ piece.now))) }
-    ensures overfull { 2 ^ 60 < state.old.numbers.taken → result ≡ None }
+    ensures overfull { MAX_MESSAGE < state.old.numbers.taken → result ≡ None }
 {
     match pass {
         Pass::First => state.update::<P>(piece),
@@ -201,7 +202,7 @@ impl<'a> OnSet for Update<'a> {
         × StandsIn Z c.pass state key opt_rand context rand (m ++ c.piece.now))
         (λ e. e ≡ update_number (m ++ c.piece.now)))
         × (pass_numbered c.pass ≡ None → result ≡ Err 13)
-        × (2 ^ 60 < c.state.numbers.taken → result ≡ Err 13)
+        × (MAX_MESSAGE < c.state.numbers.taken → result ≡ Err 13)
         × MatchResult result (λ _. Unit {0}) (λ e. e ≢ 0) };
 
     fn on<P: SetSuite>(self) -> Result<SuspendedPass, u32> {
@@ -265,7 +266,7 @@ impl<'a> OnSet for Again<'a> {
         (randomizer_for Z key opt_rand (frame context m)) [])
         (λ e. e ≡ number))
         × (c.pass ≢ 1 → result ≡ Err 13)
-        × (2 ^ 60 < c.state.numbers.taken → result ≡ Err 13)
+        × (MAX_MESSAGE < c.state.numbers.taken → result ≡ Err 13)
         × MatchResult result (λ _. Unit {0}) (λ e. e ≢ 0) };
 
     fn on<P: SetSuite>(self) -> Result<SuspendedPass, u32> {

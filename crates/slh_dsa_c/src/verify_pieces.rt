@@ -1,5 +1,5 @@
 //! Verifying a message that comes in pieces.
-ghost use Rattle.std.specs.Prelude.{◌≡◌, ◌≢◌, ◌*◌, ◌^◌, ◌<◌, ℕ, List, [], ◌++◌, length, take};
+ghost use Rattle.std.specs.Prelude.{◌≡◌, ◌≢◌, ◌*◌, ◌<◌, ℕ, List, [], ◌++◌, length, take};
 ghost use Rattle.std.specs.Prelude.{IfOk, MatchOption, MatchResult, None, Err};
 ghost use Rattle.slh_dsa_c.specs.Numbers.{mode_numbered};
 ghost use Rattle.slh_dsa_c.specs.VerifyPieces.{HasOtherLength, HasOtherRandomizer, IsNone, StandsIn, Verifies};
@@ -10,6 +10,7 @@ ghost use Rattle.slh_dsa_c.specs.Status.{verify_status};
 ghost use Rattle.slh_stream.specs.Suspended.{IsAccepted, IsBlank, IsSuspended};
 ghost use Rattle.slh_trees.specs.Checking.{signature_size};
 ghost use Rattle.slh_core.specs.Refusals.{RefusedExactly};
+ghost use Rattle.slh_frames.specs.declared.message.TheConstants.{MAX_MESSAGE};
 
 use crate::mode::mode_of;
 use crate::set::read_in_set;
@@ -132,7 +133,7 @@ impl<'a> OnSet for Update<'a> {
         × StandsIn Z c.mode state key context sig (m ++ c.piece.now))
         (λ e. e ≡ update_number (m ++ c.piece.now)))
         × (mode_numbered c.mode ≡ None → result ≡ Err 13)
-        × (2 ^ 60 < c.state.numbers.taken → result ≡ Err 13)
+        × (MAX_MESSAGE < c.state.numbers.taken → result ≡ Err 13)
         × MatchResult result (λ _. Unit {0}) (λ e. e ≢ 0) };
 
     fn on<P: SetSuite>(self) -> Result<SuspendedVerifier, u32> {
