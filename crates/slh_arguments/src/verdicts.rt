@@ -12,7 +12,7 @@ use slh_jobs::ByteString;
 use slh_paths::files::Reader;
 use slh_paths::shown::shown;
 use slh_paths::{Cause, Failure};
-use slh_readers::ReadError;
+use slh_readers::{Fallible, ReadError};
 use slh_words::names;
 use std::alloc::{AllocError, Global};
 use std::io::{self, Write};
@@ -122,7 +122,7 @@ pub fn tell_verdict<'a>(
     let mode = mode(words)?;
     let path = required(words, names::FILE)?;
     let reader = Reader::open(rt, path)?;
-    match slh_readers::verify(key, mode, context, signature.as_slice(), reader) {
+    match slh_readers::verify(key, mode, context, signature.as_slice(), Fallible(reader)) {
         Ok(true) => report(rt, words, Outcome::Accepted, Detail::Nothing),
         Ok(false) => report(rt, words, Outcome::Invalid, Detail::Nothing),
         Err(error) => Err(read_failure(path, error)),

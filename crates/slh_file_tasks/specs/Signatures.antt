@@ -22,29 +22,29 @@ use Rattle.slh_file_tasks.specs.declared.signatures.Doubt.TheVariants.{Foreign}
 use Rattle.slh_file_tasks.specs.declared.signatures.Doubt.TheVariants.{Invalid as InvalidSignature}
 use Rattle.slh_file_tasks.specs.declared.signatures.Doubt.TheVariants.{Unread}
 
--- It is the signature of what two readers have, which has to be the same; of its digest, what the first
+-- It is the signature of what two inputs have, which has to be the same; of its digest, what the first
 -- one has.
 abbrev pub IsSignatureOf : Scheme → Mode → List ℕ → List ℕ → Option (List ℕ) → Option (List ℕ)
     → Option (List ℕ) → List ℕ → Type 0
 IsSignatureOf Z Pure key context opt_rand left again signature =
-    IsSignedTwice Z key context opt_rand left again (Ok signature)
+    IsSignedTwice Z key context opt_rand ⊥ left again (Ok signature)
 IsSignatureOf Z Sha256 key context opt_rand left again signature =
-    IsSigned left (digest_answer Z Sha256 key context opt_rand) (Ok signature)
+    IsSigned ⊥ left (digest_answer Z Sha256 key context opt_rand) (Ok signature)
 IsSignatureOf Z Sha512 key context opt_rand left again signature =
-    IsSigned left (digest_answer Z Sha512 key context opt_rand) (Ok signature)
+    IsSigned ⊥ left (digest_answer Z Sha512 key context opt_rand) (Ok signature)
 
--- The signature is handed out where it is genuine, and else the verdict is told on what a reader had
--- left, or why there is none.
-abbrev pub IsAudited : Option (List ℕ) → (List ℕ → Result Verdict Error) → List ℕ
+-- The signature is handed out where it is genuine, and else the verdict is told on what an input had
+-- left, or why there is none. `Fault` is that a read of it may fail.
+abbrev pub IsAudited : Type 0 → Option (List ℕ) → (List ℕ → Result Verdict Error) → List ℕ
     → Result (List ℕ) Doubt → Type 0
-IsAudited left verdict signature (Ok given) =
-    (given ≡ signature) × IsAnswer left verdict (Ok Genuine)
-IsAudited left verdict signature (Err Foreign) =
-    (evidence : Evidence) × IsAnswer left verdict (Ok (ForeignVerdict evidence))
-IsAudited left verdict signature (Err (InvalidSignature given)) =
-    (given ≡ signature) × IsAnswer left verdict (Err (Refused Invalid))
-IsAudited left verdict signature (Err (Unread error)) =
-    (error ≢ Refused Invalid) × IsAnswer left verdict (Err error)
+IsAudited Fault left verdict signature (Ok given) =
+    (given ≡ signature) × IsAnswer Fault left verdict (Ok Genuine)
+IsAudited Fault left verdict signature (Err Foreign) =
+    (evidence : Evidence) × IsAnswer Fault left verdict (Ok (ForeignVerdict evidence))
+IsAudited Fault left verdict signature (Err (InvalidSignature given)) =
+    (given ≡ signature) × IsAnswer Fault left verdict (Err (Refused Invalid))
+IsAudited Fault left verdict signature (Err (Unread error)) =
+    (error ≢ Refused Invalid) × IsAnswer Fault left verdict (Err error)
 
 -- an audit is told so, with its evidence; why there is none is handed on
 abbrev pub IsAuditTold : Result Verdict ReadError → Result (Outcome × Option Evidence) ReadError

@@ -8,7 +8,7 @@ use slh_command::Detail;
 use slh_files::{Outcome, evidence_of};
 use slh_jobs::{ByteString, Error, Evidence, Verdict, push_evidence};
 use slh_paths::{Cause, Failure};
-use slh_readers::{ReadError, check_evidence};
+use slh_readers::{Fallible, ReadError, check_evidence};
 use slh_words::names;
 
 /// Tells whether the holder of a key made a signature that the key accepts.
@@ -23,7 +23,7 @@ pub fn audit<'a>(rt: &HostRuntime, words: &ArgMatches<'a>) -> Result<Outcome, Fa
         reader,
     } = own_claim(rt, words)?;
     let (context, signature) = (context.as_slice(), signature.as_slice());
-    match told_of_audit(slh_readers::audit(&key, mode, context, signature, reader)) {
+    match told_of_audit(slh_readers::audit(&key, mode, context, signature, Fallible(reader))) {
         Ok((outcome, None)) => report(rt, words, outcome, Detail::Nothing),
         Ok((outcome, Some(evidence))) => tell_with(rt, words, outcome, evidence),
         Err(error) => Err(read_failure(path, error)),
@@ -72,7 +72,7 @@ pub fn evidence<'a>(rt: &HostRuntime, words: &ArgMatches<'a>) -> Result<Outcome,
         reader,
     } = own_claim(rt, words)?;
     let (context, signature) = (context.as_slice(), signature.as_slice());
-    match check_evidence(&key, mode, context, signature, evidence, reader) {
+    match check_evidence(&key, mode, context, signature, evidence, Fallible(reader)) {
         Ok(is_shown) => report(rt, words, told_of_evidence(is_shown), Detail::Nothing),
         Err(error) => Err(read_failure(path, error)),
     }

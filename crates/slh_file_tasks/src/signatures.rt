@@ -1,5 +1,5 @@
 //! `slh sign` and `slh verify`.
-ghost use Rattle.std.specs.Prelude.{IfOk};
+ghost use Rattle.std.specs.Prelude.{IfOk, IsTrue};
 ghost use Rattle.std.specs.Option.{option_copied};
 ghost use Rattle.slh_file_tasks.specs.Signatures.{IsAudited, IsSignatureOf};
 ghost use Rattle.slh_files.specs.Jobs.{verdict_by};
@@ -16,11 +16,10 @@ use slh_files::{Key, Outcome};
 use slh_jobs::{ByteString, Error, Mode, Verdict};
 use slh_paths::files::{self, FromStart, Reader};
 use slh_paths::{Cause, Failure, outputs};
-use slh_readers::{ReadError, sign_digest, sign_twice};
+use slh_readers::{Fallible, Input, ReadError, sign_digest, sign_twice};
 use slh_words::names;
 use std::alloc::Global;
 use std::fs::File;
-use std::io::Read;
 
 /// Signs a file. The signature goes to `--output`, else to FILE.sig, or from standard input to
 /// standard output.
@@ -88,6 +87,11 @@ struct Terms<'s, 'r> {
     opt_rand: Option<&'r [u8]>,
 }
 
+// A regular file, from its start.
+fn from_start<'f>(rt: &HostRuntime, file: &'f File) -> Fallible<FromStart<'f>> {
+    Fallible(FromStart::new(rt, file))
+}
+
 // The signature of a regular file. For an audit the file is read once more.
 fn of_file<'a>(
     rt: &HostRuntime,
@@ -96,12 +100,12 @@ fn of_file<'a>(
     terms: &Terms<'_, '_>,
     file: &File,
 ) -> Result<ByteString, Failure<'a>> {
-    let (first, second) = (FromStart::new(rt, file), FromStart::new(rt, file));
+    let (first, second) = (from_start(rt, file), from_start(rt, file));
     let signature = signed(rt.alloc(), path, terms, first, second)?;
     if !words.get_flag(names::AUDIT) {
         return Ok(signature);
     }
-    match audited(terms, FromStart::new(rt, file), signature) {
+    match audited(terms, from_start(rt, file), signature) {
         Ok(signature) => Ok(signature),
         Err(Doubt::Foreign) => Err(Failure::Told(path, Cause::Fault)),
         Err(Doubt::Invalid(made)) => Err(why_invalid(rt, path, terms, file, made.as_slice())),
@@ -109,8 +113,8 @@ fn of_file<'a>(
     }
 }
 
-// The signature of what two readers give, which has to be the same. By its digest it is read once.
-fn signed<'a, R: Read + Drop, S: Read + Drop>(
+// The signature of what two inputs give, which has to be the same. By its digest it is read once.
+fn signed<'a, R: Input + Drop, S: Input + Drop>(
     alloc: Global,
     path: &'a str,
     terms: &Terms<'_, '_>,
@@ -143,14 +147,14 @@ enum Doubt {
     Unread(ReadError),
 }
 
-// A signature, where it is the one that the key makes with its own randomizer of what a reader
+// A signature, where it is the one that the key makes with its own randomizer of what an input
 // gives.
-fn audited<R: Read + Drop>(
+fn audited<R: Input + Drop>(
     terms: &Terms<'_, '_>,
     reader: R,
     signature: ByteString,
 ) -> Result<ByteString, Doubt>
-    ensures { let t = terms.now in IsAudited (R.remaining reader) (λ m. verdict_by
+    ensures { let t = terms.now in IsAudited (IsTrue R.may_fail) (R.remaining reader) (λ m. verdict_by
         (judgement (scheme_for t.key.now.set) (Audit t.mode t.key.now.bytes t.context.now m
         signature))) signature result }
 {
@@ -172,7 +176,7 @@ fn why_invalid<'a>(
     file: &File,
     signature: &[u8],
 ) -> Failure<'a> {
-    let (first, second) = (FromStart::new(rt, file), FromStart::new(rt, file));
+    let (first, second) = (from_start(rt, file), from_start(rt, file));
     match signed(rt.alloc(), path, terms, first, second) {
         Ok(again) if is_same_front(signature, again.as_slice(), terms.key.set.n()) => {
             Failure::Told(path, Cause::Fault)
@@ -197,7 +201,7 @@ fn of_stream<'a>(
 ) -> Result<ByteString, Failure<'a>> {
     let is_audited = words.get_flag(names::AUDIT);
     if terms.mode != Mode::Pure && !is_audited {
-        return signed(rt.alloc(), path, terms, reader, NOTHING);
+        return signed(rt.alloc(), path, terms, Fallible(reader), NOTHING);
     }
     let message = reader.whole(rt, path)?;
     let message = message.as_slice();

@@ -2,7 +2,7 @@
 use crate::readers::{Broken, is_broken, is_refused, public, signing};
 use crate::shown::shows;
 use slh_jobs::{Error, Mode};
-use slh_readers::{sign_digest, sign_twice, verify};
+use slh_readers::{Fallible, sign_digest, sign_twice, verify};
 use std::alloc::Global;
 use std::io::Read;
 
@@ -12,11 +12,11 @@ const LONG: [u8; 256] = [b'a'; 256];
 fn are_refused(alloc: Global) -> Result<bool, Error> {
     let (key, public) = (signing(alloc)?, public(alloc)?);
     let short = Some(&LONG[..15]);
-    let pure = sign_digest(alloc, &key, Mode::Pure, b"", None, Broken);
-    let other = sign_digest(alloc, &public, Mode::Sha256, b"", None, Broken);
-    let context = sign_twice(alloc, &key, &LONG, None, Broken, Broken);
-    let rand = sign_twice(alloc, &key, b"", short, Broken, Broken);
-    let cut = verify(&public, Mode::Pure, b"", &LONG, Broken);
+    let pure = sign_digest(alloc, &key, Mode::Pure, b"", None, Fallible(Broken));
+    let other = sign_digest(alloc, &public, Mode::Sha256, b"", None, Fallible(Broken));
+    let context = sign_twice(alloc, &key, &LONG, None, Fallible(Broken), Fallible(Broken));
+    let rand = sign_twice(alloc, &key, b"", short, Fallible(Broken), Fallible(Broken));
+    let cut = verify(&public, Mode::Pure, b"", &LONG, Fallible(Broken));
     Ok(
         is_refused(pure, Error::Length)
             && is_refused(other, Error::Length)
@@ -35,10 +35,23 @@ fn are_told(alloc: Global) -> Result<bool, Error> {
     let (key, public) = (signing(alloc)?, public(alloc)?);
     let signature = [0; 17_088];
     let text = b"Hello".as_slice();
-    let digest = sign_digest(alloc, &key, Mode::Sha512, b"", None, text.chain(Broken));
-    let first = sign_twice(alloc, &key, b"", None, text.chain(Broken), text);
-    let second = sign_twice(alloc, &key, b"", None, text, text.chain(Broken));
-    let verified = verify(&public, Mode::Pure, b"", &signature, text.chain(Broken));
+    let digest = sign_digest(
+        alloc,
+        &key,
+        Mode::Sha512,
+        b"",
+        None,
+        Fallible(text.chain(Broken)),
+    );
+    let first = sign_twice(alloc, &key, b"", None, Fallible(text.chain(Broken)), text);
+    let second = sign_twice(alloc, &key, b"", None, text, Fallible(text.chain(Broken)));
+    let verified = verify(
+        &public,
+        Mode::Pure,
+        b"",
+        &signature,
+        Fallible(text.chain(Broken)),
+    );
     Ok(is_broken(digest) && is_broken(first) && is_broken(second) && is_broken(verified))
 }
 

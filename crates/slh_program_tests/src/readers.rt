@@ -1,7 +1,7 @@
 //! Readers in memory, and a key.
 use slh_files::{Key, made_key, verifying_key};
 use slh_jobs::Error;
-use slh_readers::ReadError;
+use slh_readers::{Fallible, ReadError};
 use slh_sets::Set;
 use std::alloc::Global;
 use std::io::{self, ErrorKind, Read};
@@ -15,12 +15,12 @@ pub(crate) struct Slow<'a> {
 }
 
 /// The bytes, slowly.
-pub(crate) fn slowly(bytes: &[u8]) -> Slow<'_> {
-    Slow {
+pub(crate) fn slowly(bytes: &[u8]) -> Fallible<Slow<'_>> {
+    Fallible(Slow {
         rest: bytes,
         most: 0,
         interrupted: false,
-    }
+    })
 }
 
 impl<'a> Read for Slow<'a> {

@@ -114,9 +114,9 @@ module _ (Z : Scheme) (secret context signature : List ℕ) where
       let of_signature = no_cause (length signature == signature_size Z) audit.Length (passed (length signature == signature_size Z) key.Length signed) in
       none_first _ _ of_key (none_first _ _ of_signature refl)
 
-  module _ (mode : Mode) (left : Option (List ℕ)) (out : List ℕ) where
+  module _ (mode : Mode) (Fault : Type 0) (left : Option (List ℕ)) (out : List ℕ) where
     abbrev Digested : Result (Unit {0}) ReadError → Type 0
-    Digested result = IsDigested Z mode secret context signature left out result
+    Digested result = IsDigested Z mode secret context signature Fault left out result
 
     pub digested_before : (result : Result (Unit {0}) ReadError) (e : KeyError) → ((m : List ℕ) → refusal m ≡ Some e)
         → IsErrAnd result (λ f. f ≡ Refused (error_of e)) → Digested result
@@ -126,10 +126,10 @@ module _ (Z : Scheme) (secret context signature : List ℕ) where
     pub digested_within : {T : Type 0} (stands : T → Terms → List ℕ → Type 0) (old new : T) (terms : Terms)
         (result : Result (Unit {0}) ReadError) (f : ReadError) → stands old terms []
         → ((m : List ℕ) (e : Error) → message_refusal job.MessageTooLong m ≡ Some e → (k : KeyError) × (refusal m ≡ Some k) × (e ≡ error_of k))
-        → AbsorbsAll stands old new left (Err f) → IsErrAnd result (λ x. x ≡ f) → Digested result
+        → AbsorbsAll stands old new Fault left (Err f) → IsErrAnd result (λ x. x ≡ f) → Digested result
     unfolding AbsorbsAll
     digested_within stands old new terms (Ok x) f start long ends never = absurd never
-    digested_within stands old new terms (Err x) (Read fault) start long ends is = rw is tt
+    digested_within stands old new terms (Err x) (Read fault) start long failed is = rw is failed
     digested_within stands old new terms (Err x) (Refused e) start long (all, whole, refused) is =
         let (k, first, same) = long all e (refused terms start) in rw is (all, whole, k, first, same)
     digested_within stands old new terms (Err x) Changed start long never is = absurd never
@@ -137,9 +137,9 @@ module _ (Z : Scheme) (secret context signature : List ℕ) where
     -- what isn't digested isn't answered
     pub undigested : {U : Type 0} (by : Result Answer Error → Result U Error) → ((e : Error) → by (Err e) ≡ Err e)
         → (answer : List ℕ → Result Answer Error) (result : Result U ReadError) (f : ReadError)
-        → Digested (Err f) → IsErrAnd result (λ x. x ≡ f) → IsAnswer left (λ m. by (refused_or (refusal m) (answer m))) result
+        → Digested (Err f) → IsErrAnd result (λ x. x ≡ f) → IsAnswer Fault left (λ m. by (refused_or (refusal m) (answer m))) result
     undigested by errs answer (Ok x) f told never = absurd never
-    undigested by errs answer (Err x) (Read fault) told is = rw is tt
+    undigested by errs answer (Err x) (Read fault) failed is = rw is failed
     undigested by errs answer (Err x) (Refused e) (m, whole, k, refused, same) is = rw is (m, whole, rw (refused, same) (errs (error_of k)))
     undigested by errs answer (Err x) Changed never is = absurd never
 
@@ -161,12 +161,12 @@ module _ (Z : Scheme) (secret context signature : List ℕ) where
         rw (none, ← whole) (as_told answer)
 
     pub audited : (done : Unit {0}) (verdict : Verdict) → Digested (Ok done) → Ok verdict ≡ digest_audit_answer Z secret out signature
-        → IsAnswer left (λ m. verdict_by (judgement Z (Audit mode secret context m signature))) (Ok verdict)
+        → IsAnswer Fault left (λ m. verdict_by (judgement Z (Audit mode secret context m signature))) (Ok verdict)
     audited done verdict (m, whole, none, digest) is = (m, whole, judged m (Ok verdict) none digest is)
 
     pub refused : (done : Unit {0}) (e : AuditError) (result : Result Verdict ReadError) → Digested (Ok done)
         → Err e ≡ digest_audit_answer Z secret out signature → IsErrAnd result (λ x. x ≡ Refused (audit_error_of e))
-        → IsAnswer left (λ m. verdict_by (judgement Z (Audit mode secret context m signature))) result
+        → IsAnswer Fault left (λ m. verdict_by (judgement Z (Audit mode secret context m signature))) result
     refused done e (Ok x) told_so is never = absurd never
     refused done e (Err x) (m, whole, none, digest) is same = rw same (m, whole, judged m (Err e) none digest is)
 
@@ -174,7 +174,7 @@ module _ (Z : Scheme) (secret context signature : List ℕ) where
 
     pub checked : (evidence : Evidence) (done : Unit {0}) (shown : Bool) → Digested (Ok done)
         → Ok shown ≡ digest_check_answer Z secret out signature evidence
-        → IsAnswer left (λ m. shown_by (judgement Z (Check mode secret context m signature evidence))) (Ok shown)
+        → IsAnswer Fault left (λ m. shown_by (judgement Z (Check mode secret context m signature evidence))) (Ok shown)
     checked evidence done shown (m, whole, none, digest) is =
         let short = rw (no_length m none, digest) at is in
         let value : shown ≡ shows (dispute_of Z secret (mode_frame mode context m) signature) evidence = cc short in

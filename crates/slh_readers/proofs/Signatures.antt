@@ -94,36 +94,36 @@ module _ (Z : Scheme) (secret context : List ℕ) (opt_rand : Option (List ℕ))
   digest_signed Sha256 m signature none right short is = ended Sha256 m signature none (sym inputs ∙ right) short is
   digest_signed Sha512 m signature none right short is = ended Sha512 m signature none (sym inputs ∙ right) short is
 
-  pub digest_ended : (mode : Mode) (left : Option (List ℕ)) (m : List ℕ) (result : Result (List ℕ) ReadError) → IsAll left m
+  pub digest_ended : (mode : Mode) (Fault : Type 0) (left : Option (List ℕ)) (m : List ℕ) (result : Result (List ℕ) ReadError) → IsAll left m
       → signing_key_refusal Z secret ≡ None → begin_digest_refusal Z mode context opt_rand ≡ None → message_refusal job.MessageTooLong m ≡ None
       → IfOk result (λ signature. signature ≡ signature_of Z secret opt_rand (mode_frame mode context m))
       → IfErr result (λ e. e ≡ Refused job.Memory)
-      → IsSigned left (digest_answer Z mode secret context opt_rand) result
-  digest_ended mode left m (Ok signature) whole none right short value memory =
+      → IsSigned Fault left (digest_answer Z mode secret context opt_rand) result
+  digest_ended mode Fault left m (Ok signature) whole none right short value memory =
       inl (m, whole, digest_signed mode m signature none right short value)
-  digest_ended mode left m (Err e) whole none right short value memory = inr (ap (λ (x : ReadError). Err x) memory)
+  digest_ended mode Fault left m (Err e) whole none right short value memory = inr (ap (λ (x : ReadError). Err x) memory)
 
   -- by two passes
-  module _ (left again : Option (List ℕ)) where
+  module _ (Fault : Type 0) (left again : Option (List ℕ)) where
     abbrev Twice : Result (List ℕ) ReadError → Type 0
-    Twice result = IsSignedTwice Z secret context opt_rand left again result
+    Twice result = IsSignedTwice Z secret context opt_rand Fault left again result
 
     pub twice_refused : (result : Result (List ℕ) ReadError) (e : Error) → ((m : List ℕ) → signing_answer Z Pure secret context opt_rand m ≡ Err e)
         → IsErrAnd result (λ f. f ≡ Refused e) → Twice result
     twice_refused (Ok x) e refused never = absurd never
     twice_refused (Err f) e refused is = rw is (inr (unwrap_or left [], inl (left_is_all left), refused (unwrap_or left [])))
 
-    pub pass_refused : {T : Type 0} (stands : T → Terms → List ℕ → Type 0) (old new : T) (terms : Terms) (part : Option (List ℕ))
+    pub pass_refused : {T : Type 0} (stands : T → Terms → List ℕ → Type 0) (old new : T) (terms : Terms) (Own : Type 0) (part : Option (List ℕ))
         (result : Result (List ℕ) ReadError) (f : ReadError) → stands old terms []
         → ((m : List ℕ) (e : Error) → message_refusal job.MessageTooLong m ≡ Some e → signing_answer Z Pure secret context opt_rand m ≡ Err e)
-        → ((m : List ℕ) → IsAll part m → IsAll left m ⊎ IsAll again m)
-        → AbsorbsAll stands old new part (Err f) → IsErrAnd result (λ x. x ≡ f) → Twice result
+        → ((m : List ℕ) → IsAll part m → IsAll left m ⊎ IsAll again m) → (Own → Fault)
+        → AbsorbsAll stands old new Own part (Err f) → IsErrAnd result (λ x. x ≡ f) → Twice result
     unfolding AbsorbsAll
-    pass_refused stands old new terms part (Ok x) f begun long side ends never = absurd never
-    pass_refused stands old new terms part (Err x) (Read fault) begun long side ends is = rw is tt
-    pass_refused stands old new terms part (Err x) (Refused e) begun long side (all, whole, refused) is =
+    pass_refused stands old new terms Own part (Ok x) f begun long side fault ends never = absurd never
+    pass_refused stands old new terms Own part (Err x) (Read error) begun long side fault failed is = rw is (fault failed)
+    pass_refused stands old new terms Own part (Err x) (Refused e) begun long side fault (all, whole, refused) is =
         rw is (inr (all, side all whole, long all e (refused terms begun)))
-    pass_refused stands old new terms part (Err x) Changed begun long side never is = absurd never
+    pass_refused stands old new terms Own part (Err x) Changed begun long side fault never is = absurd never
 
     pub pass_ended : (passes : List ℕ → Option (List ℕ) → List ℕ → List ℕ → Type 0) (rand first second : List ℕ) (result : Result (List ℕ) ReadError)
         → IsAll left first → IsAll again second → rand ≡ randomizer_for Z secret opt_rand (frame context first)

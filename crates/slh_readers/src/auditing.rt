@@ -1,5 +1,5 @@
-//! Auditing a signature of what a reader gives.
-ghost use Rattle.std.specs.Prelude.{◌≡◌, length};
+//! Auditing a signature of what an input gives.
+ghost use Rattle.std.specs.Prelude.{◌≡◌, IsTrue, length};
 ghost use Rattle.slh_files.specs.Jobs.{shown_by, verdict_by};
 ghost use Rattle.slh_readers.specs.Answers.{IsAnswer};
 ghost use Rattle.slh_readers.specs.Digested.{IsDigested};
@@ -8,6 +8,7 @@ ghost use Rattle.slh_jobs.specs.declared.job.Job.TheVariants.{Audit, Check};
 ghost use Rattle.slh_sets.specs.Sets.{scheme_for};
 
 use crate::error::ReadError;
+use crate::input::Input;
 use crate::reading::absorb_all;
 use hybrid_array::ArraySize;
 use slh_audit::{Evidence, Verdict, audit_for_digest, check_evidence_for_digest};
@@ -16,9 +17,8 @@ use slh_dsa::{Mode, SigningKey};
 use slh_files::Key;
 use slh_sets::{OnSet, SetSuite};
 use slh_stream::MessageVerifier;
-use std::io::Read;
 
-// A signature of what a reader gives, and the key whose holder is said to have made it.
+// A signature of what an input gives, and the key whose holder is said to have made it.
 #[derive(Drop)]
 struct Doubted<'a, R> {
     mode: Mode,
@@ -28,15 +28,15 @@ struct Doubted<'a, R> {
     reader: R,
 }
 
-// Writes the digest of what the reader gives, with the signature's randomizer under the key.
-fn digest_read<P: SetSuite, R: Read + Drop>(
+// Writes the digest of what the input gives, with the signature's randomizer under the key.
+fn digest_read<P: SetSuite, R: Input + Drop>(
     doubted: Doubted<'_, R>,
     out: &mut [u8],
 ) -> Result<(), ReadError>
     requires { length out.old ≡ P.M.USIZE }
     ensures { let d = doubted.entry in
         IsDigested P.scheme d.mode d.key.now d.context.now d.signature.now
-        (R.remaining d.reader) out.new result }
+        (IsTrue R.may_fail) (R.remaining d.reader) out.new result }
 {
     let Doubted {
         mode,
@@ -57,11 +57,11 @@ struct Auditing<'a, R> {
     doubted: Doubted<'a, R>,
 }
 
-impl<'a, R: Read + Drop> OnSet for Auditing<'a, R> {
+impl<'a, R: Input + Drop> OnSet for Auditing<'a, R> {
     type Out = Result<Verdict, ReadError>;
 
     ghost gives = { λ c Z _ result. let d = c.doubted in
-        IsAnswer (R.remaining d.reader) (λ m. verdict_by
+        IsAnswer (IsTrue R.may_fail) (R.remaining d.reader) (λ m. verdict_by
         (judgement Z (Audit d.mode d.key.now d.context.now m d.signature.now))) result };
 
     fn on<P: SetSuite>(self) -> Result<Verdict, ReadError> {
@@ -81,11 +81,11 @@ struct Checking<'a, R> {
     evidence: Evidence,
 }
 
-impl<'a, R: Read + Drop> OnSet for Checking<'a, R> {
+impl<'a, R: Input + Drop> OnSet for Checking<'a, R> {
     type Out = Result<bool, ReadError>;
 
     ghost gives = { λ c Z _ result. let d = c.doubted in
-        IsAnswer (R.remaining d.reader) (λ m. shown_by
+        IsAnswer (IsTrue R.may_fail) (R.remaining d.reader) (λ m. shown_by
         (judgement Z (Check d.mode d.key.now d.context.now m d.signature.now c.evidence))) result };
 
     fn on<P: SetSuite>(self) -> Result<bool, ReadError> {
@@ -99,15 +99,15 @@ impl<'a, R: Read + Drop> OnSet for Checking<'a, R> {
     }
 }
 
-/// Whether a signing key made a signature of what a reader gives, which it accepts. Reads once.
-pub fn audit<R: Read + Drop>(
+/// Whether a signing key made a signature of what an input gives, which it accepts. Reads once.
+pub fn audit<R: Input + Drop>(
     key: &Key,
     mode: Mode,
     context: &[u8],
     signature: &[u8],
     reader: R,
 ) -> Result<Verdict, ReadError>
-    ensures { IsAnswer (R.remaining reader) (λ m. verdict_by (judgement (scheme_for key.now.set)
+    ensures { IsAnswer (IsTrue R.may_fail) (R.remaining reader) (λ m. verdict_by (judgement (scheme_for key.now.set)
         (Audit mode key.now.bytes context.now m signature.now))) result }
 {
     let doubted = Doubted {
@@ -120,8 +120,8 @@ pub fn audit<R: Read + Drop>(
     key.set.run(Auditing { doubted })
 }
 
-/// Whether evidence shows against a signature of what a reader gives. Reads once.
-pub fn check_evidence<R: Read + Drop>(
+/// Whether evidence shows against a signature of what an input gives. Reads once.
+pub fn check_evidence<R: Input + Drop>(
     key: &Key,
     mode: Mode,
     context: &[u8],
@@ -129,7 +129,7 @@ pub fn check_evidence<R: Read + Drop>(
     evidence: Evidence,
     reader: R,
 ) -> Result<bool, ReadError>
-    ensures { IsAnswer (R.remaining reader) (λ m. shown_by (judgement (scheme_for key.now.set)
+    ensures { IsAnswer (IsTrue R.may_fail) (R.remaining reader) (λ m. shown_by (judgement (scheme_for key.now.set)
         (Check mode key.now.bytes context.now m signature.now evidence))) result }
 {
     let doubted = Doubted {

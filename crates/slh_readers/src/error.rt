@@ -1,4 +1,4 @@
-//! Why what a reader gives isn't signed, verified or audited.
+//! Why what an input gives isn't signed, verified or audited.
 ghost use Rattle.std.specs.Prelude.{◌≡◌};
 ghost use Rattle.slh_readers.specs.declared.error.ReadError.TheVariants.{Read, Refused};
 ghost use Rattle.slh_jobs.specs.Errors.{audit_error_of, error_of};
@@ -9,14 +9,14 @@ use slh_jobs::Error;
 use std::alloc::AllocError;
 use std::io;
 
-/// Why what a reader gives isn't signed, verified or audited.
+/// Why what an input gives isn't signed, verified or audited.
 #[derive(Drop)]
 pub enum ReadError {
     /// The reader failed.
     Read(io::Error),
     /// The job was refused, for the first cause in the order of `slh_jobs::Error`.
     Refused(Error),
-    /// The second reader gave other bytes than the first.
+    /// The second input gave other bytes than the first.
     Changed,
 }
 

@@ -1,10 +1,11 @@
-//! Signing, verifying and auditing what a reader gives, of any size, in pieces of 64 KiB.
+//! Signing, verifying and auditing what is read, of any size, in pieces of 64 KiB.
 //!
 //! The bytes of a file are never whole in memory: [`verify`], [`sign_digest`], [`audit`] and
 //! [`check_evidence`] read them once.
-//! [`sign_twice`], for the mode in which the message itself is signed, reads them twice, by two
-//! readers, and signs what the second one gives; where that isn't what the first one gave, it is
-//! refused as changed. What is answered is what `slh_jobs` answers to the job with these bytes:
+//! [`sign_twice`], for the mode in which the message itself is signed, reads them twice, from two
+//! inputs, and signs what the second one gives; where that isn't what the first one gave, it is
+//! refused as changed. An [`Input`] is bytes in memory, or a reader, which may fail ([`Fallible`]).
+//! What is answered is what `slh_jobs` answers to the job with these bytes:
 //!
 //! ```
 //! use slh_files::Key;
@@ -25,6 +26,7 @@
 mod absorber;
 mod auditing;
 mod error;
+mod input;
 pub mod laws;
 mod reading;
 mod signing;
@@ -32,5 +34,6 @@ mod verifying;
 
 pub use auditing::{audit, check_evidence};
 pub use error::ReadError;
+pub use input::{Fallible, Input};
 pub use signing::{sign_digest, sign_twice};
 pub use verifying::verify;

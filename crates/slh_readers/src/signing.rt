@@ -1,5 +1,5 @@
-//! Signing what a reader gives, once or twice.
-ghost use Rattle.std.specs.Prelude.{◌≡◌, ℕ, List, Option, IfOk, IfErr};
+//! Signing what an input gives, once or twice.
+ghost use Rattle.std.specs.Prelude.{◌≡◌, ◌⊎◌, ℕ, List, Option, IfOk, IfErr, IsTrue};
 ghost use Rattle.std.specs.Option.{option_copied};
 ghost use Rattle.slh_frames.specs.Frames.{mode_frame};
 ghost use Rattle.slh_frames.specs.declared.frame.Mode.{Mode as SigningMode};
@@ -10,6 +10,7 @@ ghost use Rattle.slh_sets.specs.Sets.{scheme_for};
 ghost use Rattle.slh_trees.specs.Signing.{signature_of};
 
 use crate::error::ReadError;
+use crate::input::Input;
 use crate::reading::absorb_all;
 use slh_dsa::{Mode, SigningKey};
 use slh_files::Key;
@@ -17,7 +18,6 @@ use slh_jobs::ByteString;
 use slh_sets::{OnSet, SetSuite};
 use slh_stream::{DigestSigner, Digesting, FirstPass, PassError, Passing, SecondPass};
 use std::alloc::Global;
-use std::io::Read;
 
 // The signature of what a signer of a digest absorbed.
 fn end_digest<'a, P: SetSuite>(
@@ -54,7 +54,7 @@ fn end_pass<'a, P: SetSuite>(
     }
 }
 
-// What a reader gives, to be signed by its digest.
+// What an input gives, to be signed by its digest.
 #[derive(Drop)]
 struct ByDigest<'a, R> {
     alloc: Global,
@@ -65,11 +65,11 @@ struct ByDigest<'a, R> {
     reader: R,
 }
 
-impl<'a, R: Read + Drop> OnSet for ByDigest<'a, R> {
+impl<'a, R: Input + Drop> OnSet for ByDigest<'a, R> {
     type Out = Result<ByteString, ReadError>;
 
     ghost gives = { λ c Z _ result. let opt_rand = option_copied c.opt_rand in
-        IsSigned (R.remaining c.reader)
+        IsSigned (IsTrue R.may_fail) (R.remaining c.reader)
         (digest_answer Z c.mode c.key.now c.context.now opt_rand) result };
 
     fn on<P: SetSuite>(self) -> Result<ByteString, ReadError> {
@@ -80,9 +80,9 @@ impl<'a, R: Read + Drop> OnSet for ByDigest<'a, R> {
     }
 }
 
-/// The signature of what a reader gives, by its digest, with these random bytes or without any.
+/// The signature of what an input gives, by its digest, with these random bytes or without any.
 /// `Length`: also where the mode is `Pure`, which reads a message twice.
-pub fn sign_digest<R: Read + Drop>(
+pub fn sign_digest<R: Input + Drop>(
     alloc: Global,
     key: &Key,
     mode: Mode,
@@ -91,7 +91,7 @@ pub fn sign_digest<R: Read + Drop>(
     reader: R,
 ) -> Result<ByteString, ReadError>
     ensures { let opt_rand = option_copied opt_rand.entry in
-        IsSigned (R.remaining reader) (digest_answer (scheme_for key.now.set) mode
+        IsSigned (IsTrue R.may_fail) (R.remaining reader) (digest_answer (scheme_for key.now.set) mode
         key.now.bytes context.now opt_rand) result }
 {
     key.set.run(ByDigest {
@@ -104,7 +104,7 @@ pub fn sign_digest<R: Read + Drop>(
     })
 }
 
-// What two readers give, to be signed as it is.
+// What two inputs give, to be signed as it is.
 #[derive(Drop)]
 struct ByPasses<'a, R, S> {
     alloc: Global,
@@ -115,12 +115,12 @@ struct ByPasses<'a, R, S> {
     second: S,
 }
 
-impl<'a, R: Read + Drop, S: Read + Drop> OnSet for ByPasses<'a, R, S> {
+impl<'a, R: Input + Drop, S: Input + Drop> OnSet for ByPasses<'a, R, S> {
     type Out = Result<ByteString, ReadError>;
 
     ghost gives = { λ c Z _ result. let opt_rand = option_copied c.opt_rand in
         IsSignedTwice Z c.key.now c.context.now opt_rand
-        (R.remaining c.first) (S.remaining c.second) result };
+        (IsTrue R.may_fail ⊎ IsTrue S.may_fail) (R.remaining c.first) (S.remaining c.second) result };
 
     fn on<P: SetSuite>(self) -> Result<ByteString, ReadError> {
         let key = SigningKey::<P>::try_from(self.key)?;
@@ -132,9 +132,9 @@ impl<'a, R: Read + Drop, S: Read + Drop> OnSet for ByPasses<'a, R, S> {
     }
 }
 
-/// The signature of what two readers give, which has to be the same, with these random bytes or
+/// The signature of what two inputs give, which has to be the same, with these random bytes or
 /// without any. What is signed is what the second one gives.
-pub fn sign_twice<R: Read + Drop, S: Read + Drop>(
+pub fn sign_twice<R: Input + Drop, S: Input + Drop>(
     alloc: Global,
     key: &Key,
     context: &[u8],
@@ -144,7 +144,7 @@ pub fn sign_twice<R: Read + Drop, S: Read + Drop>(
 ) -> Result<ByteString, ReadError>
     ensures { let opt_rand = option_copied opt_rand.entry in
         IsSignedTwice (scheme_for key.now.set) key.now.bytes context.now opt_rand
-        (R.remaining first) (S.remaining second) result }
+        (IsTrue R.may_fail ⊎ IsTrue S.may_fail) (R.remaining first) (S.remaining second) result }
 {
     key.set.run(ByPasses {
         alloc,

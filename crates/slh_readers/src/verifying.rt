@@ -1,5 +1,5 @@
-//! Verifying what a reader gives.
-ghost use Rattle.std.specs.Prelude.{◌≡◌};
+//! Verifying what an input gives.
+ghost use Rattle.std.specs.Prelude.{◌≡◌, IsTrue};
 ghost use Rattle.slh_files.specs.Jobs.{accepted_by};
 ghost use Rattle.slh_readers.specs.Answers.{IsAnswer};
 ghost use Rattle.slh_jobs.specs.Judgement.{judgement};
@@ -7,14 +7,14 @@ ghost use Rattle.slh_jobs.specs.declared.job.Job.TheVariants.{Verify};
 ghost use Rattle.slh_sets.specs.Sets.{scheme_for};
 
 use crate::error::ReadError;
+use crate::input::Input;
 use crate::reading::absorb_all;
 use slh_dsa::{Mode, VerifyingKey};
 use slh_files::Key;
 use slh_sets::{OnSet, SetSuite};
 use slh_stream::MessageVerifier;
-use std::io::Read;
 
-// A signature of what a reader gives.
+// A signature of what an input gives.
 #[derive(Drop)]
 struct Claim<'a, R> {
     mode: Mode,
@@ -24,10 +24,10 @@ struct Claim<'a, R> {
     reader: R,
 }
 
-impl<'a, R: Read + Drop> OnSet for Claim<'a, R> {
+impl<'a, R: Input + Drop> OnSet for Claim<'a, R> {
     type Out = Result<bool, ReadError>;
 
-    ghost gives = { λ c Z _ result. IsAnswer (R.remaining c.reader) (λ m. accepted_by
+    ghost gives = { λ c Z _ result. IsAnswer (IsTrue R.may_fail) (R.remaining c.reader) (λ m. accepted_by
         (judgement Z (Verify c.mode c.key.now c.context.now m c.signature.now))) result };
 
     fn on<P: SetSuite>(self) -> Result<bool, ReadError> {
@@ -43,15 +43,15 @@ impl<'a, R: Read + Drop> OnSet for Claim<'a, R> {
     }
 }
 
-/// Whether a signature of what a reader gives is accepted under a verifying key.
-pub fn verify<R: Read + Drop>(
+/// Whether a signature of what an input gives is accepted under a verifying key.
+pub fn verify<R: Input + Drop>(
     key: &Key,
     mode: Mode,
     context: &[u8],
     signature: &[u8],
     reader: R,
 ) -> Result<bool, ReadError>
-    ensures { IsAnswer (R.remaining reader) (λ m. accepted_by (judgement (scheme_for key.now.set)
+    ensures { IsAnswer (IsTrue R.may_fail) (R.remaining reader) (λ m. accepted_by (judgement (scheme_for key.now.set)
         (Verify mode key.now.bytes context.now m signature.now))) result }
 {
     key.set.run(Claim {

@@ -5,5 +5,5 @@ use Rattle.slh_readers.proofs.reading.read_some.Given as goal
 abbrev pub invariant-loop : goal.invariant-loop
 invariant-loop g l = record {
   long : length l.buf ≡ length l.initial.buf;
-  kept : Keeps (g.R.Read.remaining l.initial.reader) (g.R.Read.remaining l.reader);
+  kept : Keeps (g.R.Input.remaining l.initial.reader) (g.R.Input.remaining l.reader);
 }

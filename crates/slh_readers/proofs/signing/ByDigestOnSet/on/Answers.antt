@@ -13,7 +13,7 @@ pub returns-in_err-key : goal.returns-in_err-key
 returns-in_err-key g c =
     let s = c.args.self in
     let e = c.in_err-key.field-0.0 in
-    inl (refused_before _ _ c.from_residual.result (error_of e)
+    inl (refused_before _ _ _ c.from_residual.result (error_of e)
     (no_digest_key g.P.ForsSizes.scheme s.key.now s.context.now (option_copied s.opt_rand) s.mode e c.in_err-key.ensures.refusal)
     c.from_residual.ensures.1)
 
@@ -21,7 +21,7 @@ pub returns-in_err-signer : goal.returns-in_err-signer
 returns-in_err-signer g c =
     let s = c.args.self in
     let e = c.in_err-signer.field-0.0 in
-    inl (refused_before _ _ c.from_residual-in_err-signer.result (error_of e)
+    inl (refused_before _ _ _ c.from_residual-in_err-signer.result (error_of e)
     (no_digest g.P.ForsSizes.scheme s.key.now s.context.now (option_copied s.opt_rand) s.mode e c.in_ok-key.ensures.refusal
     c.in_err-signer.ensures.refusal)
     c.from_residual-in_err-signer.ensures.1)
@@ -31,7 +31,7 @@ returns-in_err-absorb_all g c =
     let s = c.args.self in
     let opt_rand = option_copied s.opt_rand in
     let terms : Terms = record { mode = s.mode; key = c.in_ok-key.key; context = s.context.now; opt_rand = opt_rand; signature = []; rand = [] } in
-    inl (refused_within _ _ _ terms _ _ c.from_residual-in_err-absorb_all.result c.in_err-absorb_all.field-0.0 c.in_ok-signer.ensures.empty
+    inl (refused_within _ _ _ terms _ _ _ c.from_residual-in_err-absorb_all.result c.in_err-absorb_all.field-0.0 c.in_ok-signer.ensures.empty
     (long_digest g.P.ForsSizes.scheme s.key.now s.context.now opt_rand s.mode c.in_ok-key.ensures.refusal c.in_ok-signer.ensures.refusal)
     c.in_err-absorb_all.ensures c.from_residual-in_err-absorb_all.ensures.1)
 
@@ -41,9 +41,9 @@ returns g c =
     let s = c.args.self in
     let opt_rand = option_copied s.opt_rand in
     let terms : Terms = record { mode = s.mode; key = c.in_ok-key.key; context = s.context.now; opt_rand = opt_rand; signature = []; rand = [] } in
-    let (all, whole, goes) = absorbed _ _ _ _ _ c.in_ok-absorb_all.ensures in
+    let (all, whole, goes) = absorbed _ _ _ _ _ _ c.in_ok-absorb_all.ensures in
     let (stood, short) = goes terms c.in_ok-signer.ensures.empty in
-    digest_ended Z s.key.now s.context.now opt_rand s.mode _ all c.end_digest.result whole c.in_ok-key.ensures.refusal c.in_ok-signer.ensures.refusal short
+    digest_ended Z s.key.now s.context.now opt_rand s.mode _ _ all c.end_digest.result whole c.in_ok-key.ensures.refusal c.in_ok-signer.ensures.refusal short
     (if_ok c.end_digest.result (λ signature told. told s.mode c.in_ok-key.key opt_rand s.context.now all stood
     ∙ ap (λ (k : List ℕ). signature_of Z k opt_rand (mode_frame s.mode s.context.now all)) c.in_ok-key.ensures.value) c.end_digest.ensures.value)
     c.end_digest.ensures.memory
