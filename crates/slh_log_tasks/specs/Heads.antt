@@ -1,5 +1,5 @@
 -- What is opened and signed by the bytes of a key. Z is the scheme; a set is seen as its name.
-use Rattle.std.specs.Prelude.{◌≡◌, ℕ, ◌*◌, ◌==◌, List, length, Option, Some, Result, IfOk}
+use Rattle.std.specs.Prelude.{◌≡◌, ℕ, ◌*◌, ◌/◌, ◌==◌, List, drop, length, Option, Some, Result, IfOk}
 use Rattle.std.specs.Prelude.{if◌then◌else◌}
 use Rattle.std.specs.Option.{option_map}
 use Rattle.slh_core.specs.Parameters.{Scheme}
@@ -24,6 +24,10 @@ pub record IsHeadBy (Z : Scheme) (set key origin bytes : List ℕ)
   pub refusal : RefusedExactly result (head_refusal Z set key origin bytes)
   pub size : IfOk result (λ head. read_size bytes ≡ Some head.size)
   pub root : IfOk result (λ head. read_root bytes ≡ Some head.root)
+
+-- the bytes of a signing key's verifying key
+abbrev pub public_half : List ℕ → List ℕ
+public_half key = drop (length key / 2) key
 
 -- why a head isn't signed by the bytes of a signing key
 abbrev pub sign_refusal : Scheme → List ℕ → List ℕ → Option (List ℕ) → Option SignHeadError

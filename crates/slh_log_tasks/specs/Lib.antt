@@ -1,3 +1,4 @@
 pub mod Heads
 pub mod ProofFiles
 pub mod Verdicts
+pub mod Told

@@ -1,4 +1,10 @@
 //! `slh log init` and `slh log append`.
+ghost use Rattle.std.specs.Prelude.{◌≡◌, IfOk, Ok, string_bytes};
+ghost use Rattle.slh_arguments.specs.Randomness.{random_of};
+ghost use Rattle.slh_log.specs.Texts.{signed_checkpoint};
+ghost use Rattle.slh_log_tasks.specs.Heads.{IsHeadBy, public_half};
+ghost use Rattle.slh_sets.specs.Sets.{name_of, scheme_for};
+
 use crate::heads::{SignHeadError, open_head, sign_head};
 use crate::lock;
 use crate::log_folder::{Head, LogFolder};
@@ -9,6 +15,7 @@ use clap::ArgMatches;
 use log_files::{AppendError, Appending};
 use merkle_tree::{Sha256, TreeHash};
 use slh_arguments::{Randomness, required, required_all, signing_key};
+use slh_dsa::verifying_half;
 use slh_files::{Key, KeyFileError, Outcome};
 use slh_jobs::ByteString;
 use slh_log::{Checkpoint, CheckpointError};
@@ -30,7 +37,11 @@ fn signed<'a>(
     origin: &str,
     head: Checkpoint,
     randomness: &Randomness,
-) -> Result<Vec<u8>, Failure<'a>> {
+) -> Result<Vec<u8>, Failure<'a>>
+    ensures { let set = key.now.set in let Z = scheme_for set in
+        IfOk result (λ note. note.items ≡ signed_checkpoint Z (name_of set) key.now.bytes
+        (random_of Z.n randomness.now) origin.now head.size head.root) }
+{
     let (bytes, random) = (key.bytes.as_slice(), randomness.of_set(key.set));
     match sign_head(folder.rt.alloc(), key.set, bytes, origin, head, random) {
         Ok(checkpoint) => Ok(checkpoint),
@@ -108,20 +119,19 @@ fn push_file<'a>(
     push(log, path, bytes.as_slice())
 }
 
-// The verifying key of a signing key: the second half of its bytes.
-fn own_public(key: &Key) -> &[u8] {
-    let bytes = key.bytes.as_slice();
-    &bytes[bytes.len() / 2..]
-}
-
 // What a log's head says, where the key signed it.
 fn own_checkpoint<'a>(
     folder: LogFolder<'_, 'a>,
     key: &Key,
     head: &Head,
-) -> Result<Checkpoint, Failure<'a>> {
+) -> Result<Checkpoint, Failure<'a>>
+    ensures { let set = key.now.set in
+        IfOk result (λ checkpoint. IsHeadBy (scheme_for set) (name_of set)
+        (public_half key.now.bytes) (string_bytes head.now.origin) head.now.bytes
+        (Ok checkpoint)) }
+{
     let (origin, bytes) = (head.origin.as_str(), head.bytes.as_slice());
-    match open_head(key.set, own_public(key), origin, bytes) {
+    match open_head(key.set, verifying_half(key.bytes.as_slice()), origin, bytes) {
         Ok(checkpoint) => Ok(checkpoint),
         Err(error) => Err(refused_head(folder.path, error)),
     }

@@ -2,15 +2,15 @@
 ghost use Rattle.std.specs.Prelude.{◌<◌};
 
 use crate::entries::leaves_of;
-use crate::heads::open_head;
 use crate::log_folder::{Head, LogFolder};
-use crate::watching::refused_head;
+use crate::verdicts::{Signer, check_head, open_for};
+use crate::watching::{outcome_of_check, refused_head, signer_of};
 use clap::ArgMatches;
 use log_tiles::{Bundle, FULL, GrowingTiles, LEVELS, last_tile};
 use merkle_tree::{DIGEST_LEN, Sha256};
 use slh_arguments::{report, verifying_key};
 use slh_command::Detail;
-use slh_files::Outcome;
+use slh_files::{Key, Outcome};
 use slh_log::OpenError;
 use slh_paths::{Cause, Failure, Progress};
 use slh_words::names;
@@ -101,20 +101,25 @@ fn tiles_of<'a>(folder: LogFolder<'_, 'a>, size: u64) -> Result<GrowingTiles<Sha
     Ok(tiles)
 }
 
-// Whether the checkpoint is one of the key, where the words have a key.
-fn opened<'a>(
+// The key whose checkpoint it has to be, where the words have one.
+fn own_key<'a>(
     folder: LogFolder<'_, 'a>,
     words: &ArgMatches<'a>,
-    head: &Head,
-) -> Result<bool, Failure<'a>> {
+) -> Result<Option<Key>, Failure<'a>> {
     if words.get_str(names::KEY).is_none() && words.get_str(names::KEY_TEXT).is_none() {
-        return Ok(true);
+        return Ok(None);
     }
-    let key = verifying_key(folder.rt, words)?;
-    let origin = words.get_str(names::ORIGIN).unwrap_or(head.origin.as_str());
-    match open_head(key.set, key.bytes.as_slice(), origin, head.bytes.as_slice()) {
-        Ok(_) => Ok(true),
-        Err(OpenError::Invalid) => Ok(false),
+    Ok(Some(verifying_key(folder.rt, words)?))
+}
+
+// Refuses a checkpoint of which no verdict is told, before the entries are read.
+fn refuse<'a>(
+    folder: LogFolder<'_, 'a>,
+    signer: Option<Signer<'_>>,
+    checkpoint: &[u8],
+) -> Result<(), Failure<'a>> {
+    match open_for(signer, checkpoint) {
+        Ok(_) | Err(OpenError::Invalid) => Ok(()),
         Err(error) => Err(refused_head(folder.path, error)),
     }
 }
@@ -138,18 +143,30 @@ fn tell_ahead<'a>(folder: LogFolder<'_, 'a>, size: u64) -> Result<(), Failure<'a
     Ok(())
 }
 
+// Reads a log's entries, and tells what its checkpoint is under a key and an origin.
+fn check_under<'a, 'k>(
+    folder: LogFolder<'_, 'a>,
+    head: &Head,
+    key: Option<&'k Key>,
+    origin: &'k str,
+) -> Result<Outcome, Failure<'a>> {
+    let signer = match key {
+        Some(key) => Some(signer_of(key, origin)),
+        None => None,
+    };
+    let (bytes, size) = (head.bytes.as_slice(), head.checkpoint.size);
+    refuse(folder, signer, bytes)?;
+    let tiles = tiles_of(folder, size)?;
+    tell_ahead(folder, size)?;
+    outcome_of_check(folder.path, check_head(signer, bytes, &tiles.root()))
+}
+
 /// Tells whether the files of a log are those of its entries, and its checkpoint that of them.
 pub fn check<'a>(rt: &HostRuntime, words: &ArgMatches<'a>) -> Result<Outcome, Failure<'a>> {
     let folder = LogFolder::of(rt, words)?;
     let head = folder.head()?;
-    let is_opened = opened(folder, words, &head)?;
-    let size = head.checkpoint.size;
-    let tiles = tiles_of(folder, size)?;
-    tell_ahead(folder, size)?;
-    let outcome = if is_opened && tiles.root() == head.checkpoint.root {
-        Outcome::Accepted
-    } else {
-        Outcome::Invalid
-    };
+    let key = own_key(folder, words)?;
+    let origin = words.get_str(names::ORIGIN).unwrap_or(head.origin.as_str());
+    let outcome = check_under(folder, &head, key.as_ref(), origin)?;
     report(rt, words, outcome, Detail::Nothing)
 }

@@ -1,5 +1,6 @@
 //! The names of files below a log's folder.
-ghost use Rattle.std.specs.Prelude.{◌≢◌, IfOk, string_bytes};
+ghost use Rattle.std.specs.Prelude.{◌≡◌, ◌≢◌, IfOk, string_bytes};
+ghost use Rattle.log_files.specs.Names.{below};
 
 use crate::log_folder::LogFolder;
 use slh_paths::{Failure, random};
@@ -15,7 +16,9 @@ pub struct Names {
 
 /// The names of a file, the second of which is new.
 pub fn names_of<'a>(folder: LogFolder<'_, 'a>, name: &str) -> Result<Names, Failure<'a>>
-    ensures { IfOk result (λ names. string_bytes names.part ≢ string_bytes names.path) }
+    ensures path { IfOk result (λ names.
+        string_bytes names.path ≡ below folder.entry.path.now name.now) }
+    ensures part { IfOk result (λ names. string_bytes names.part ≢ string_bytes names.path) }
 {
     let path = folder.path_of(name)?;
     let number = u64::from_be_bytes(random::<8>(folder.rt)?);

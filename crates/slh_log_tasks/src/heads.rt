@@ -6,7 +6,7 @@ ghost use Rattle.slh_log_tasks.specs.Heads.{IsHeadBy, no_memory, sign_refusal};
 ghost use Rattle.slh_sets.specs.Sets.{name_of, scheme_for};
 ghost use Rattle.slh_core.specs.Refusals.{RefusedOrNoMemory};
 
-use slh_dsa::{SetSizes, SigningKey, VerifyingKey};
+use slh_dsa::{SigningKey, VerifyingKey};
 use slh_log::{Checkpoint, CheckpointError, OpenError, checkpoint, open};
 use slh_sets::{OnSet, Set, SetSuite};
 use std::alloc::Global;
@@ -19,23 +19,16 @@ struct Opening<'a> {
     bytes: &'a [u8],
 }
 
-// Opens a checkpoint by the bytes of a key.
-fn open_by<P: SetSizes>(key: &[u8], origin: &str, bytes: &[u8]) -> Result<Checkpoint, OpenError>
-    ensures { IsHeadBy P.scheme P.set_name key.now origin.now bytes.now result }
-{
-    let Ok(key) = VerifyingKey::<P>::try_from(key) else {
-        return Err(OpenError::Unsigned);
-    };
-    open(&key, origin, bytes)
-}
-
 impl<'a> OnSet for Opening<'a> {
     type Out = Result<Checkpoint, OpenError>;
 
     ghost gives = { λ c Z name result. IsHeadBy Z name c.key.now c.origin.now c.bytes.now result };
 
     fn on<P: SetSuite>(self) -> Result<Checkpoint, OpenError> {
-        open_by::<P>(self.key, self.origin, self.bytes)
+        let Ok(key) = VerifyingKey::<P>::try_from(self.key) else {
+            return Err(OpenError::Unsigned);
+        };
+        open(&key, self.origin, self.bytes)
     }
 }
 
@@ -67,30 +60,6 @@ struct Signing<'a> {
     opt_rand: Option<&'a [u8]>,
 }
 
-// Signs a head by the bytes of a key.
-fn sign_by<P: SetSizes>(
-    alloc: Global,
-    key: &[u8],
-    origin: &str,
-    head: Checkpoint,
-    opt_rand: Option<&[u8]>,
-) -> Result<Vec<u8>, SignHeadError>
-    ensures refusal { let opt_rand = option_copied opt_rand.entry in
-        RefusedOrNoMemory no_memory result
-        (sign_refusal P.scheme key.now origin.now opt_rand) }
-    ensures value { let opt_rand = option_copied opt_rand.entry in
-        IfOk result (λ note. note.items
-        ≡ signed_checkpoint P.scheme P.set_name key.now opt_rand origin.now head.size head.root) }
-{
-    let Ok(key) = SigningKey::<P>::try_from(key) else {
-        return Err(SignHeadError::Key);
-    };
-    match checkpoint(alloc, &key, origin, head.size, &head.root, opt_rand) {
-        Ok(note) => Ok(note),
-        Err(error) => Err(SignHeadError::Head(error)),
-    }
-}
-
 impl<'a> OnSet for Signing<'a> {
     type Out = Result<Vec<u8>, SignHeadError>;
 
@@ -100,7 +69,20 @@ impl<'a> OnSet for Signing<'a> {
         c.head.size c.head.root) };
 
     fn on<P: SetSuite>(self) -> Result<Vec<u8>, SignHeadError> {
-        sign_by::<P>(self.alloc, self.key, self.origin, self.head, self.opt_rand)
+        let Ok(key) = SigningKey::<P>::try_from(self.key) else {
+            return Err(SignHeadError::Key);
+        };
+        let Signing {
+            alloc,
+            origin,
+            head,
+            opt_rand,
+            ..
+        } = self;
+        match checkpoint(alloc, &key, origin, head.size, &head.root, opt_rand) {
+            Ok(note) => Ok(note),
+            Err(error) => Err(SignHeadError::Head(error)),
+        }
     }
 }
 

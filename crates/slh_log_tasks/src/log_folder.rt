@@ -1,4 +1,7 @@
 //! The files of a log below a folder.
+ghost use Rattle.std.specs.Prelude.{◌≡◌, IfOk, string_bytes};
+ghost use Rattle.log_files.specs.Names.{below};
+
 use clap::ArgMatches;
 use log_tiles::{Bundle, MAX_ENTRY_LEN, NameError, Tile, TileSource};
 use merkle_tree::{DIGEST_LEN, Sha256};
@@ -50,7 +53,9 @@ impl<'s, 'a> LogFolder<'s, 'a> {
     }
 
     /// The path of a file below the folder.
-    pub fn path_of(&self, name: &str) -> Result<String, AllocError> {
+    pub fn path_of(&self, name: &str) -> Result<String, AllocError>
+        ensures { IfOk result (λ path. string_bytes path ≡ below self.now.path.now name.now) }
+    {
         let folder = self.path;
         format!(in self.rt.alloc(); "{folder}/{name}")
     }

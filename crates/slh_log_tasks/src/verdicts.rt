@@ -1,11 +1,17 @@
-//! What is said of an entry and of a growth, by keys and bytes alone.
-ghost use Rattle.std.specs.Prelude.{◌≡◌};
-ghost use Rattle.slh_log_tasks.specs.Verdicts.{IsGrowthVerdict, IsPresenceVerdict};
+//! What is said of an entry, of a growth and of a head, by keys and bytes alone.
+ghost use Rattle.std.specs.Prelude.{◌≡◌, IfOk, Some};
+ghost use Rattle.slh_core.specs.Refusals.{RefusedExactly};
+ghost use Rattle.slh_log.specs.Reading.{read_root};
+ghost use Rattle.slh_log_tasks.specs.Verdicts.{IsGrowthVerdict, IsHeadVerdict, IsPresenceVerdict};
+ghost use Rattle.slh_log_tasks.specs.Verdicts.{signer_refusal};
 ghost use Rattle.slh_sets.specs.Sets.{name_of, scheme_for};
 
 use crate::heads::open_head;
 use merkle_tree::DIGEST_LEN;
-use slh_log::{GrowthError, OpenError, PresenceError, check_growth, check_presence};
+use slh_log::{
+    Checkpoint, GrowthError, OpenError, PresenceError, check_growth, check_presence,
+    read_unverified,
+};
 use slh_sets::Set;
 
 /// Whose heads are taken: those of a verifying key under an origin.
@@ -26,6 +32,15 @@ pub enum EntryError {
     Head(OpenError),
     /// The path doesn't show it.
     Path(PresenceError),
+}
+
+/// Why a checkpoint isn't the head of a log whose entries have been read.
+#[derive(Clone, Copy, Debug, PartialEq, Eq)]
+pub enum HeadError {
+    /// The checkpoint isn't opened.
+    Unopened(OpenError),
+    /// Its root isn't that of the entries.
+    OtherRoot,
 }
 
 /// Why a log isn't shown to have grown.
@@ -84,5 +99,39 @@ pub fn check_log(
     match check_growth(&old, &new, proof) {
         Ok(()) => Ok(()),
         Err(error) => Err(LogError::Proof(error)),
+    }
+}
+
+/// What a checkpoint says that is one of a signer. Without a signer it is one of whoever made it.
+pub fn open_for(signer: Option<Signer<'_>>, checkpoint: &[u8]) -> Result<Checkpoint, OpenError>
+    ensures refusal { RefusedExactly result (signer_refusal signer.entry checkpoint.now) }
+    ensures root { IfOk result (λ head. read_root checkpoint.now ≡ Some head.root) }
+{
+    let Some(signer) = signer else {
+        return match read_unverified(checkpoint) {
+            Some((_, head)) => Ok(head),
+            None => Err(OpenError::Form),
+        };
+    };
+    open_head(signer.set, signer.key, signer.origin, checkpoint)
+}
+
+/// Whether a checkpoint is one of a signer, where there is one, and has the root of the entries.
+pub fn check_head(
+    signer: Option<Signer<'_>>,
+    checkpoint: &[u8],
+    root: &[u8; DIGEST_LEN],
+) -> Result<(), HeadError>
+    ensures { IsHeadVerdict (signer_refusal signer.entry checkpoint.now) checkpoint.now root.now
+        result }
+{
+    let head = match open_for(signer, checkpoint) {
+        Ok(head) => head,
+        Err(error) => return Err(HeadError::Unopened(error)),
+    };
+    if head.root == *root {
+        Ok(())
+    } else {
+        Err(HeadError::OtherRoot)
     }
 }

@@ -1,9 +1,8 @@
 //! `slh log verify` and `slh log growth`: what those who watch a log do.
-ghost use Rattle.std.specs.Prelude.{◌≡◌, IfOk, IsOk, Ok};
-ghost use Rattle.slh_files.specs.declared.outcome.Outcome.TheVariants.{Accepted, Invalid};
+ghost use Rattle.slh_log_tasks.specs.Told.{IsTold, check_told, entry_told, growth_told, head_told};
 
 use crate::proof_files::{Proof, ProofError, Purpose, read_proof};
-use crate::verdicts::{EntryError, LogError, Signer, check_entry, check_log};
+use crate::verdicts::{EntryError, HeadError, LogError, Signer, check_entry, check_log};
 use clap::ArgMatches;
 use slh_arguments::{check_inputs, report, required, verifying_key};
 use slh_command::Detail;
@@ -25,7 +24,7 @@ pub fn refused_head<'a>(path: &'a str, error: OpenError) -> Failure<'a> {
 
 // What is told of a checkpoint that isn't opened: that it is invalid, or the refusal.
 fn outcome_of_head<'a>(path: &'a str, error: OpenError) -> Result<Outcome, Failure<'a>>
-    ensures { IfOk result (λ told. told ≡ Invalid) }
+    ensures { IsTold (head_told error) result }
 {
     match error {
         OpenError::Invalid => Ok(Outcome::Invalid),
@@ -33,8 +32,22 @@ fn outcome_of_head<'a>(path: &'a str, error: OpenError) -> Result<Outcome, Failu
     }
 }
 
-// The signer with a key and an origin.
-fn signer_of<'k>(key: &'k Key, origin: &'k str) -> Signer<'k> {
+/// What is told of the checkpoint of a log whose entries have been read, by the log's folder.
+pub fn outcome_of_check<'a>(
+    folder: &'a str,
+    checked: Result<(), HeadError>,
+) -> Result<Outcome, Failure<'a>>
+    ensures { IsTold (check_told checked) result }
+{
+    match checked {
+        Ok(()) => Ok(Outcome::Accepted),
+        Err(HeadError::Unopened(error)) => outcome_of_head(folder, error),
+        Err(HeadError::OtherRoot) => Ok(Outcome::Invalid),
+    }
+}
+
+/// The signer with a key and an origin.
+pub fn signer_of<'k>(key: &'k Key, origin: &'k str) -> Signer<'k> {
     Signer {
         set: key.set,
         key: key.bytes.as_slice(),
@@ -101,8 +114,7 @@ fn outcome_of_entry<'a>(
     file: &'a str,
     checked: Result<(), EntryError>,
 ) -> Result<Outcome, Failure<'a>>
-    ensures accepted { IsOk checked → result ≡ Ok Accepted }
-    ensures only { IfOk result (λ told. told ≡ Accepted → IsOk checked) }
+    ensures { IsTold (entry_told checked) result }
 {
     match checked {
         Ok(()) => Ok(Outcome::Accepted),
@@ -167,8 +179,7 @@ fn outcome_of_growth<'a>(
     proof: &'a str,
     checked: Result<(), LogError>,
 ) -> Result<Outcome, Failure<'a>>
-    ensures accepted { IsOk checked → result ≡ Ok Accepted }
-    ensures only { IfOk result (λ told. told ≡ Accepted → IsOk checked) }
+    ensures { IsTold (growth_told checked) result }
 {
     match checked {
         Ok(()) => Ok(Outcome::Accepted),
