@@ -1,7 +1,4 @@
 //! One writer at a time.
-ghost use Rattle.std.specs.Prelude.{◌≡◌, IfOk, IsOk};
-ghost use Rattle.slh_files.specs.declared.outcome.Outcome.TheVariants.{Done};
-
 use crate::file_names::names_of;
 use crate::log_folder::{LOCK, LogFolder};
 use log_files::{Piece, free_lock, take_lock};
@@ -82,10 +79,7 @@ fn free<'a>(folder: LogFolder<'_, 'a>) -> Result<(), Failure<'a>> {
 pub fn free_after<'a>(
     folder: LogFolder<'_, 'a>,
     done: Result<(), Failure<'a>>,
-) -> Result<Outcome, Failure<'a>>
-    ensures held { IsOk result → IsOk done.entry }
-    ensures outcome { IfOk result (λ told. told ≡ Done) }
-{
+) -> Result<Outcome, Failure<'a>> {
     let freed = free(folder);
     done?;
     freed?;

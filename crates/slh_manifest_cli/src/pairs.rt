@@ -1,5 +1,5 @@
 //! Pairs of a name and its bytes, and a store of them.
-ghost use Rattle.std.specs.Prelude.{◌≡◌, Some, IfOk, OnOk};
+ghost use Rattle.std.specs.Prelude.{◌≡◌, [], Some, IfOk, OnOk, OnErr};
 ghost use Rattle.std.specs.FinMap as map;
 ghost use Rattle.line_serve.specs.Causes.{HasCause};
 ghost use Rattle.line_serve.specs.Fields.{contents};
