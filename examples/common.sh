@@ -94,6 +94,29 @@ skip() {
     exit 77
 }
 
+# is_made CRATE FILE PROCESSOR..: whether out/ has FILE for each of these processors, or for that of the programs,
+# made of the sources as they are. So nothing has to be proved for it
+is_made() (
+    top=$(readlink -f "$examples/..")
+    # shellcheck source=../build.sh
+    . "$top/build.sh"
+    crate=$1 file=$2
+    shift 2
+    [ $# -gt 0 ] || set -- "$(processor)"
+    sum=$(sources_sum "$crate")
+    for each in "$@"; do
+        is_built "$top/out/$each/$file" "$sum" || exit 1
+    done
+)
+
+# is_ready PROGRAM: whether a program proves nothing when it is called: the caller's own, or one of the
+# repository that is made
+is_ready() {
+    case $1 in
+    "$examples"/../*) is_made "${1##*/}" "${1##*/}" ;;
+    esac
+}
+
 # c_library: sets `library` to a folder that has the library for C: SLH_C_LIBRARY, or it is built
 c_library() {
     command -v "${CC:-cc}" >/dev/null || skip "no ${CC:-cc}"
