@@ -63,6 +63,14 @@ hex_of() {
     hex <"$1"
 }
 
+# openssl_keys: keys.pem has the keys that OpenSSL made, and keys.der what `base64` makes of each block of
+# it, one behind the other
+openssl_keys() {
+    cp "$examples/data/openssl_keys.pem" keys.pem
+    awk '/^-----BEGIN/ { digits = ""; next } /^-----END/ { print digits; next } { digits = digits $0 }' keys.pem |
+        while read -r digits; do echo "$digits" | base64 -d; done >keys.der
+}
+
 # vk_of NAME.pub: the line `SET VK` of a verifying key
 vk_of() {
     slh inspect "$1" | awk '/^set: / { set = $2 } /^verifying key: / { print set, $3 }'
