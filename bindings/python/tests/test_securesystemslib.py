@@ -8,7 +8,7 @@ import tempfile
 import unittest
 from pathlib import Path
 
-from slh_dsa import SigningKey, dsse_pae
+from slh_dsa import InvalidSignature, SigningKey, UnsignedError, dsse_pae
 from support import FAST, bent, known_key, openssl_keys
 
 try:
@@ -216,8 +216,12 @@ class Signatures(Places):
             {"keyid": each.keyid, "sig": coded(bytes.fromhex(each.signature))} for each in made
         ]
         self.assertEqual(public.verify_dsse(json.dumps(fields), kind), body)
-        theirs = Signature(made[1].keyid, made[1].signature)
-        self.ecdsa_key.verify_signature(theirs, signed)
+        self.ecdsa_key.verify_signature(Signature(made[1].keyid, made[1].signature), signed)
+        foreign = fields["signatures"].pop()
+        for keyid, error in ((foreign["keyid"], UnsignedError), (entry["keyid"], InvalidSignature)):
+            fields["signatures"] = [{**foreign, "keyid": keyid}]
+            with self.assertRaises(error):
+                public.verify_dsse(json.dumps(fields), kind)
 
 
 @unittest.skipUnless(Metablock, "no in-toto with metadata of 1.3")
