@@ -63,6 +63,14 @@ hex_of() {
     hex <"$1"
 }
 
+# openssl_keys: keys.pem has the keys that OpenSSL made, and keys.der what `base64` makes of each block of
+# it, one behind the other
+openssl_keys() {
+    cp "$examples/data/openssl_keys.pem" keys.pem
+    awk '/^-----BEGIN/ { digits = ""; next } /^-----END/ { print digits; next } { digits = digits $0 }' keys.pem |
+        while read -r digits; do echo "$digits" | base64 -d; done >keys.der
+}
+
 # vk_of NAME.pub: the line `SET VK` of a verifying key
 vk_of() {
     slh inspect "$1" | awk '/^set: / { set = $2 } /^verifying key: / { print set, $3 }'
@@ -92,6 +100,29 @@ refused() {
 skip() {
     echo "skipped: $*"
     exit 77
+}
+
+# is_made CRATE FILE PROCESSOR..: whether out/ has FILE for each of these processors, or for that of the programs,
+# made of the sources as they are. So nothing has to be proved for it
+is_made() (
+    top=$(readlink -f "$examples/..")
+    # shellcheck source=../build.sh
+    . "$top/build.sh"
+    crate=$1 file=$2
+    shift 2
+    [ $# -gt 0 ] || set -- "$(processor)"
+    sum=$(sources_sum "$crate")
+    for each in "$@"; do
+        is_built "$top/out/$each/$file" "$sum" || exit 1
+    done
+)
+
+# is_ready PROGRAM: whether a program proves nothing when it is called: the caller's own, or one of the
+# repository that is made
+is_ready() {
+    case $1 in
+    "$examples"/../*) is_made "${1##*/}" "${1##*/}" ;;
+    esac
 }
 
 # c_library: sets `library` to a folder that has the library for C: SLH_C_LIBRARY, or it is built

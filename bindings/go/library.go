@@ -6,32 +6,6 @@ package slhdsa
 #if SLH_DSA_VERSION_NUMBER / 1000 != 21
 #error "the library for C is of another version than this package, which is for 0.21"
 #endif
-
-// What cgo can't call: macros with arguments.
-static size_t slhdsa_seeds_bytes(slh_dsa_set set)
-{
-    return SLH_DSA_SEEDS_BYTES(slh_dsa_sha2_n(set));
-}
-
-static size_t slhdsa_private_bytes(slh_dsa_set set)
-{
-    return SLH_DSA_SIGNING_KEY_BYTES(slh_dsa_sha2_n(set));
-}
-
-static size_t slhdsa_public_bytes(slh_dsa_set set)
-{
-    return SLH_DSA_VERIFYING_KEY_BYTES(slh_dsa_sha2_n(set));
-}
-
-static size_t slhdsa_randomizer_bytes(slh_dsa_set set)
-{
-    return SLH_DSA_RANDOMIZER_BYTES(slh_dsa_sha2_n(set));
-}
-
-static size_t slhdsa_scratch_bytes(slh_dsa_set set)
-{
-    return SLH_LOG_SCRATCH_BYTES(slh_dsa_sha2_signature_bytes(set));
-}
 */
 import "C"
 
@@ -86,11 +60,11 @@ func setName(set Set) string {
 	return C.GoString(C.slh_dsa_set_name(C.slh_dsa_set(set)))
 }
 
-func seedsSize(set Set) int      { return int(C.slhdsa_seeds_bytes(C.slh_dsa_set(set))) }
-func privateSize(set Set) int    { return int(C.slhdsa_private_bytes(C.slh_dsa_set(set))) }
-func publicSize(set Set) int     { return int(C.slhdsa_public_bytes(C.slh_dsa_set(set))) }
-func randomizerSize(set Set) int { return int(C.slhdsa_randomizer_bytes(C.slh_dsa_set(set))) }
-func scratchSize(set Set) int    { return int(C.slhdsa_scratch_bytes(C.slh_dsa_set(set))) }
+func seedsSize(set Set) int      { return int(C.slh_dsa_seeds_bytes(C.slh_dsa_set(set))) }
+func privateSize(set Set) int    { return int(C.slh_dsa_signing_key_bytes(C.slh_dsa_set(set))) }
+func publicSize(set Set) int     { return int(C.slh_dsa_verifying_key_bytes(C.slh_dsa_set(set))) }
+func randomizerSize(set Set) int { return int(C.slh_dsa_randomizer_bytes(C.slh_dsa_set(set))) }
+func scratchSize(set Set) int    { return int(C.slh_log_scratch_bytes(C.slh_dsa_set(set))) }
 
 func signatureSize(set Set) int {
 	return int(C.slh_dsa_sha2_signature_bytes(C.slh_dsa_set(set)))

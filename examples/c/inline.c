@@ -1,9 +1,10 @@
 /*
- * Holds slh_dsa_inline.h to what it says: `inline KEY SIGNATURE`, the foreign signature of `Hello`
- * and its key, in files. Each form that takes NULL answers and writes what the plain call does: of
- * good arguments, of each one changed, of each one NULL without bytes; NULL with some is refused.
- * Then the verdict, texts and names. It writes "as the header says", and answers 0; with `names` it
- * writes the numbers and names of all sets.
+ * Holds slh_dsa_inline.h to what it says: `inline KEY SIGNATURE PEM DER`, the foreign signature of
+ * `Hello` and its key, and keys of OpenSSL's in PEM and as DER, in files. Each form that takes NULL
+ * answers and writes what the plain call does: of good arguments, of each one changed, of each one
+ * NULL without bytes; NULL with some is refused. Then sizes, keys in PEM, the verdict, texts and
+ * names. It writes "as the header says", and answers 0; with `names` it writes the numbers and
+ * names of all sets.
  */
 #include <stdio.h>
 #include <stdlib.h>
@@ -53,6 +54,8 @@ static void want(int line, const char *what, int holds)
 
 #define WANT(condition) want(__LINE__, #condition, (condition))
 
+#include "pem_keys.h"
+
 /* The good arguments. */
 enum part {
     NONE,
@@ -78,6 +81,8 @@ enum part {
     FOREIGN_MESSAGE,
     NO_CONTEXT,
     FOREIGN_SIGNATURE,
+    PEM,
+    DER,
     PARTS
 };
 
@@ -580,6 +585,38 @@ static void forms(void)
     }
 }
 
+/* Sizes, by the plain numbers of each set, and by docs/FORMATS.md. */
+static void sizes(void)
+{
+#define SIZES(set) \
+    {set##_N, set##_SEEDS_BYTES, set##_SIGNING_KEY_BYTES, set##_VERIFYING_KEY_BYTES, \
+     set##_RANDOMIZER_BYTES, set##_SIGNATURE_BYTES}
+    static const size_t wanted[8][6] = {
+        {0}, SIZES(SLH_DSA_SHA2_128S), SIZES(SLH_DSA_SHA2_128F), SIZES(SLH_DSA_SHA2_192S),
+        SIZES(SLH_DSA_SHA2_192F), SIZES(SLH_DSA_SHA2_256S), SIZES(SLH_DSA_SHA2_256F), {0}};
+
+    for (slh_dsa_set set = 0; set < 8; set++) {
+        const size_t *own = wanted[set], signature = own[5], known = signature != 0;
+
+        WANT(slh_dsa_sha2_n(set) == own[0] && slh_dsa_sha2_signature_bytes(set) == signature);
+        WANT(slh_dsa_seeds_bytes(set) == own[1] && slh_dsa_signing_key_bytes(set) == own[2]);
+        WANT(slh_dsa_verifying_key_bytes(set) == own[3] && slh_dsa_randomizer_bytes(set) == own[4]);
+        WANT(slh_chain_max_bytes(set) == known * 16 * (1 + 1 + 64 + own[3] + signature));
+        WANT(slh_manifest_max_bytes(set) == known * (4 + 4096 * (1 + 255 + 8 + 32) + signature));
+        WANT(slh_batch_max_receipt_bytes(set) == known * (4 + 4 + 20 * 32 + signature));
+        WANT(slh_batch_head_bytes(set) == known * (4 + 32 + signature));
+        WANT(slh_log_scratch_bytes(set) == known * (4 + signature));
+    }
+}
+
+static void keys(void)
+{
+    static char text[PEM_ROOM]; /* with a NUL in the end */
+
+    memcpy(text, parts[PEM].at, parts[PEM].bytes);
+    keys_in_pem(text, parts[DER].at);
+}
+
 /* A verdict is good where both verifications are. The second isn't made where the first fails. */
 static void verdicts(void)
 {
@@ -651,8 +688,8 @@ int main(int argc, char **argv)
         print_names();
         return failures != 0;
     }
-    if (argc != 3) {
-        fputs("usage: inline KEY SIGNATURE, or inline names\n", stderr);
+    if (argc != 5) {
+        fputs("usage: inline KEY SIGNATURE PEM DER, or inline names\n", stderr);
         return 2;
     }
     add(NO_CONTEXT, NULL, 0);
@@ -662,7 +699,11 @@ int main(int argc, char **argv)
     make_keys();
     make_signatures();
     make_updates();
+    add_file(PEM, argv[3], 2138);
+    add_file(DER, argv[4], 1096);
     forms();
+    sizes();
+    keys();
     verdicts();
     accepted_verdicts();
     texts();

@@ -171,6 +171,7 @@ static void heads(void)
     WANT(memcmp(&head, &untouched, sizeof head) == 0);
     signed_head.at[35] ^= 1;
     WANT(OPEN(SET, KEY, signed_head.bytes) == SLH_DSA_OK && head.count == 7);
+    WANT(signed_head.bytes == SLH_BATCH_HEAD_BYTES(SLH_DSA_SHA2_128F_SIGNATURE_BYTES));
     WANT(memcmp(head.root, signed_head.at + 4, sizeof head.root) == 0);
     WANT(UNDER(message.bytes, 2, path.bytes) == SLH_DSA_OK);
     WANT(UNDER(message.bytes - 1, 2, path.bytes) == SLH_DSA_INVALID);
@@ -184,6 +185,38 @@ static void heads(void)
     head.count = 0;
     WANT(UNDER(message.bytes, 0, 0) == SLH_DSA_FORM);
     free(root.at), free(message.at), free(signed_head.at), free(path.at);
+}
+
+/* What has the most bytes that the header tells is accepted, and nothing that would have more. */
+static void longest(void)
+{
+    enum { N = SLH_DSA_SHA2_128F_N, SIGNATURE = SLH_DSA_SHA2_128F_SIGNATURE_BYTES };
+    struct file root = file_of("root_key"), message = file_of("message");
+    struct file chain = file_of("longest_chain"), manifest = file_of("longest_manifest");
+    struct file receipt = file_of("longest_receipt");
+    const size_t link_bytes = chain.bytes / SLH_CHAIN_MAX_LINKS;
+    slh_chain_end end;
+    uint8_t key[KEY], *more = malloc(chain.bytes + link_bytes);
+    uint32_t entries = 0;
+
+    if (more == NULL)
+        abort();
+    WANT(chain.bytes == SLH_CHAIN_MAX_BYTES(N, SIGNATURE));
+    WANT(WALK(chain.at, chain.bytes) == SLH_DSA_OK && end.links == SLH_CHAIN_MAX_LINKS);
+    memcpy(more, chain.at, chain.bytes);
+    memcpy(more + chain.bytes, chain.at + chain.bytes - link_bytes, link_bytes);
+    WANT(WALK(more, chain.bytes + link_bytes) == SLH_DSA_BUDGET);
+    chain.at[1]++;
+    WANT(WALK(chain.at, chain.bytes) == SLH_DSA_FORM);
+    WANT(manifest.bytes == SLH_MANIFEST_MAX_BYTES(SIGNATURE));
+    WANT(slh_manifest_open(SET, root.at, KEY, manifest.at, manifest.bytes, &entries) == SLH_DSA_OK);
+    WANT(entries == SLH_MANIFEST_MAX_ENTRIES);
+    WANT(receipt.bytes == SLH_BATCH_MAX_RECEIPT_BYTES(SIGNATURE));
+    WANT(ACCEPT(message.bytes, receipt.bytes) == SLH_DSA_OK);
+    receipt.at[7]++;
+    WANT(ACCEPT(message.bytes, receipt.bytes) == SLH_DSA_FORM);
+    free(root.at), free(message.at), free(chain.at), free(manifest.at), free(receipt.at);
+    free(more);
 }
 
 static const char origin[] = "example.org/log";
@@ -279,6 +312,7 @@ int main(int argc, char **argv)
     manifests();
     batches();
     heads();
+    longest();
     open_logs(&old, &new);
     check_logs(&old, &new);
     puts(failures == 0 ? "as the header says" : "not as the header says");

@@ -1,8 +1,9 @@
 """What an updater reads, by a second reading of FIPS 205, docs/FORMATS.md and RFC 9162.
 
     update_files.py FOLDER    writes a root key, a chain of two links, a manifest, a receipt, the head
-                              of its batch, and two checkpoints of a log with proofs there, which
-                              examples/c/updates.c reads
+                              of its batch, and two checkpoints of a log with proofs there, and a
+                              chain, a manifest and a receipt of the most bytes that there can be,
+                              which examples/c/updates.c reads
 
 The set is SLH-DSA-SHA2-128f.
 """
@@ -76,5 +77,25 @@ def main(folder):
         (Path(folder) / name).write_bytes(value)
 
 
+def longest(folder):
+    """16 links, 4096 entries, the last of 2^20 messages, and the longest names."""
+    root, number = derived(bytes(32), 1), pack(">I", 1 << 20)
+    links = [link(root, depth, b"n" * 64, verifying(root)) for depth in range(15, -1, -1)]
+    entries = {b"%0255d" % i: b"" for i in range(4096)}
+    path = [sha256(bytes([i])) for i in range(20)]
+    digest = sha256(b"\0", ENTRIES[2])
+    for sibling in path:
+        digest = sha256(b"\1", sibling, digest)
+    receipt = pack(">I", (1 << 20) - 1) + number + b"".join(path)
+    files = {
+        "longest_chain": b"".join(links),
+        "longest_manifest": manifest(root, entries),
+        "longest_receipt": receipt + sign(root, number + digest, b"slh-batch"),
+    }
+    for name, value in files.items():
+        (Path(folder) / name).write_bytes(value)
+
+
 if __name__ == "__main__":
     main(*sys.argv[1:])
+    longest(*sys.argv[1:])

@@ -5,7 +5,7 @@ import { numberOfMode, numberOfSet } from './sets.js';
 
 const MEMORY_PAGE = 65536;
 // The words of slh_dsa_verifier, and how much of a message stands in the memory at a time.
-const STATE_BYTES = 92 * 8;
+const STATE_BYTES = 93 * 8;
 const PIECE_BYTES = 65536;
 
 // A memory with 64-bit addresses grows by a BigInt, and one with 32-bit addresses by a Number.

@@ -132,7 +132,7 @@ test('the statuses are those of slh_dsa.h', () => {
         assert.equal(new slh[name]().status, Number(number));
     }
     const [, words] = /typedef struct slh_dsa_verifier \{\s*uint64_t words\[([0-9]+)\]/.exec(header);
-    assert.equal(words, '92');
+    assert.equal(words, '93');
 });
 
 test('what is no bytes is a TypeError', async () => {

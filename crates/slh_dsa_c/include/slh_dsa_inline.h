@@ -1,7 +1,7 @@
 /*
- * Inline functions over the calls of slh_dsa.h, WITHOUT A PROOF: forms that take NULL, a verdict
- * for boot loaders, a status as text, a set by its name. They need no object file and no C library,
- * and what isn't called takes no room.
+ * Inline functions over the calls of slh_dsa.h, WITHOUT A PROOF: forms that take NULL, sizes of a
+ * set, keys in PEM, a verdict for boot loaders, a status as text, a set by its name. They need no
+ * object file and no C library, and what isn't called takes no room.
  */
 #ifndef SLH_DSA_INLINE_H
 #define SLH_DSA_INLINE_H
@@ -569,6 +569,229 @@ SLH_DSA_MUST_CHECK SLH_DSA_INLINE slh_dsa_status slh_log_check_growth_nullable(
         return SLH_DSA_LENGTH;
     return slh_log_check_growth(
         old_head, new_head, slh_dsa_read_at(proof, &nothing), proof_bytes);
+}
+
+/* SIZES of a set, as the macros of slh_dsa.h tell them, for languages that can't call a macro. 0
+ * where no set has the number. */
+SLH_DSA_MUST_CHECK SLH_DSA_INLINE size_t slh_dsa_seeds_bytes(slh_dsa_set set)
+{
+    return SLH_DSA_SEEDS_BYTES(slh_dsa_sha2_n(set));
+}
+
+SLH_DSA_MUST_CHECK SLH_DSA_INLINE size_t slh_dsa_signing_key_bytes(slh_dsa_set set)
+{
+    return SLH_DSA_SIGNING_KEY_BYTES(slh_dsa_sha2_n(set));
+}
+
+SLH_DSA_MUST_CHECK SLH_DSA_INLINE size_t slh_dsa_verifying_key_bytes(slh_dsa_set set)
+{
+    return SLH_DSA_VERIFYING_KEY_BYTES(slh_dsa_sha2_n(set));
+}
+
+SLH_DSA_MUST_CHECK SLH_DSA_INLINE size_t slh_dsa_randomizer_bytes(slh_dsa_set set)
+{
+    return SLH_DSA_RANDOMIZER_BYTES(slh_dsa_sha2_n(set));
+}
+
+SLH_DSA_MUST_CHECK SLH_DSA_INLINE size_t slh_chain_max_bytes(slh_dsa_set set)
+{
+    const size_t n = slh_dsa_sha2_n(set);
+
+    return n == 0 ? 0 : SLH_CHAIN_MAX_BYTES(n, slh_dsa_sha2_signature_bytes(set));
+}
+
+SLH_DSA_MUST_CHECK SLH_DSA_INLINE size_t slh_manifest_max_bytes(slh_dsa_set set)
+{
+    const size_t signature_bytes = slh_dsa_sha2_signature_bytes(set);
+
+    return signature_bytes == 0 ? 0 : SLH_MANIFEST_MAX_BYTES(signature_bytes);
+}
+
+SLH_DSA_MUST_CHECK SLH_DSA_INLINE size_t slh_batch_max_receipt_bytes(slh_dsa_set set)
+{
+    const size_t signature_bytes = slh_dsa_sha2_signature_bytes(set);
+
+    return signature_bytes == 0 ? 0 : SLH_BATCH_MAX_RECEIPT_BYTES(signature_bytes);
+}
+
+SLH_DSA_MUST_CHECK SLH_DSA_INLINE size_t slh_batch_head_bytes(slh_dsa_set set)
+{
+    const size_t signature_bytes = slh_dsa_sha2_signature_bytes(set);
+
+    return signature_bytes == 0 ? 0 : SLH_BATCH_HEAD_BYTES(signature_bytes);
+}
+
+SLH_DSA_MUST_CHECK SLH_DSA_INLINE size_t slh_log_scratch_bytes(slh_dsa_set set)
+{
+    const size_t signature_bytes = slh_dsa_sha2_signature_bytes(set);
+
+    return signature_bytes == 0 ? 0 : SLH_LOG_SCRATCH_BYTES(signature_bytes);
+}
+
+/* KEYS IN PEM, as `slh keygen` and OpenSSL 3.5 write them, without a passphrase. The text has one
+ * block, and anything around it. */
+
+/* The place behind a word that stands at a place of a text, 0 where it doesn't. */
+SLH_DSA_INLINE size_t slh_dsa_behind(
+    const char *text, size_t bytes, size_t at, const char *word)
+{
+    while (*word != '\0' && at < bytes && text[at] == *word) {
+        at++;
+        word++;
+    }
+    return *word == '\0' ? at : 0;
+}
+
+/* The place behind the first such word from a place on, 0 where there is none. */
+SLH_DSA_INLINE size_t slh_dsa_find(
+    const char *text, size_t bytes, size_t at, const char *word)
+{
+    size_t behind = 0;
+
+    for (; at < bytes && behind == 0; at++)
+        behind = slh_dsa_behind(text, bytes, at, word);
+    return behind;
+}
+
+/* The value of a digit of Base64, 64 of anything else. */
+SLH_DSA_INLINE uint32_t slh_dsa_base64_value(char digit)
+{
+    static const char digits[] =
+        "ABCDEFGHIJKLMNOPQRSTUVWXYZabcdefghijklmnopqrstuvwxyz0123456789+/";
+    uint32_t value = 0;
+
+    while (value < 64 && digits[value] != digit)
+        value++;
+    return value;
+}
+
+/* Reads Base64 with blanks and ends of lines in it. It answers how many bytes there are, 0 where it
+ * is none or where there are more than there is room for. */
+SLH_DSA_INLINE size_t slh_dsa_from_base64(
+    const char *text, size_t text_bytes, uint8_t *bytes, size_t room)
+{
+    size_t at, digits = 0, missing = 0, padding = 0, read = 0;
+    uint32_t bits = 0;
+
+    for (at = 0; at < text_bytes; at++) {
+        const uint32_t value = slh_dsa_base64_value(text[at]);
+
+        if (text[at] == ' ' || text[at] == '\t' || text[at] == '\r' || text[at] == '\n')
+            continue;
+        if (text[at] == '=') {
+            padding++;
+            continue;
+        }
+        if (value == 64 || padding != 0)
+            return 0;
+        bits = bits << 6 | value;
+        missing = 3 - digits++ % 4; /* digits until four are full */
+        if (missing == 3)
+            continue;
+        if (read == room)
+            return 0;
+        bytes[read++] = (uint8_t)(bits >> 2 * missing);
+    }
+    return missing < 3 && padding == missing && bits % (1UL << 2 * missing) == 0 ? read : 0;
+}
+
+enum { SLH_DSA_KEY_HEAD_MAX_BYTES = 22 };
+
+/* What stands before a key's bytes in DER (RFC 9909), and how many bytes that has. */
+SLH_DSA_INLINE size_t slh_dsa_key_head(slh_dsa_set set, int is_signing, uint8_t *head)
+{
+    static const uint8_t version[] = {0x02, 0x01, 0x00};
+    static const uint8_t algorithm[] = {0x30, 0x0b, 0x06, 0x09, 0x60, 0x86,
+                                        0x48, 0x01, 0x65, 0x03, 0x04, 0x03};
+    const size_t key_bytes =
+        is_signing ? slh_dsa_signing_key_bytes(set) : slh_dsa_verifying_key_bytes(set);
+    const int is_long = key_bytes > 127;
+    size_t at = 0, i;
+
+    head[at++] = 0x30;
+    if (is_long)
+        head[at++] = 0x81;
+    head[at++] = (uint8_t)(key_bytes + (is_signing ? 18U + (unsigned)is_long : 16U));
+    for (i = 0; is_signing && i < sizeof version; i++)
+        head[at++] = version[i];
+    for (i = 0; i < sizeof algorithm; i++)
+        head[at++] = algorithm[i];
+    head[at++] = (uint8_t)(19 + set); /* the last arc of the set's identifier */
+    head[at++] = is_signing ? 0x04 : 0x03;
+    if (is_long)
+        head[at++] = 0x81;
+    head[at++] = (uint8_t)(is_signing ? key_bytes : key_bytes + 1);
+    if (!is_signing)
+        head[at++] = 0x00;
+    return at;
+}
+
+/* The set and the bytes of a key in DER. */
+SLH_DSA_INLINE slh_dsa_status slh_dsa_key_of_der(
+    const uint8_t *der, size_t der_bytes, int is_signing, slh_dsa_set *set, uint8_t *key)
+{
+    uint8_t head[SLH_DSA_KEY_HEAD_MAX_BYTES];
+    slh_dsa_set each;
+
+    for (each = SLH_DSA_SHA2_128S; each <= SLH_DSA_SHA2_256F; each++) {
+        const size_t head_bytes = slh_dsa_key_head(each, is_signing, head);
+        const size_t key_bytes =
+            is_signing ? slh_dsa_signing_key_bytes(each) : slh_dsa_verifying_key_bytes(each);
+        size_t at = 0;
+
+        if (der_bytes != head_bytes + key_bytes)
+            continue;
+        while (at < head_bytes && der[at] == head[at])
+            at++;
+        if (at != head_bytes)
+            continue;
+        *set = each;
+        for (at = 0; at < key_bytes; at++)
+            key[at] = der[head_bytes + at];
+        return SLH_DSA_OK;
+    }
+    return SLH_DSA_FORM;
+}
+
+SLH_DSA_INLINE slh_dsa_status slh_dsa_key_of_pem(
+    const char *pem, size_t pem_bytes, int is_signing, slh_dsa_set *set, uint8_t *key)
+{
+    const char *label = is_signing ? "PRIVATE KEY-----" : "PUBLIC KEY-----";
+    uint8_t der[SLH_DSA_KEY_HEAD_MAX_BYTES + SLH_DSA_MAX_SIGNING_KEY_BYTES];
+    volatile uint8_t *secret = der;
+    size_t body, end, at;
+    slh_dsa_status status;
+
+    body = slh_dsa_find(pem, pem_bytes, 0, "-----BEGIN ");
+    if (body == 0 || slh_dsa_find(pem, pem_bytes, body, "-----BEGIN ") != 0)
+        return SLH_DSA_FORM;
+    body = slh_dsa_behind(pem, pem_bytes, body, label);
+    end = slh_dsa_find(pem, pem_bytes, body, "-----END ");
+    if (body == 0 || end == 0 || slh_dsa_behind(pem, pem_bytes, end, label) == 0)
+        return SLH_DSA_FORM;
+    end -= sizeof "-----END " - 1;
+    at = slh_dsa_from_base64(pem + body, end - body, der, sizeof der);
+    status = slh_dsa_key_of_der(der, at, is_signing, set, key);
+    for (at = 0; at < sizeof der; at++)
+        secret[at] = 0;
+    return status;
+}
+
+/* Reads a signing key (PRIVATE KEY, PKCS #8), and writes its set and its bytes, 4n of them: there
+ * has to be room for SLH_DSA_MAX_SIGNING_KEY_BYTES. Its root isn't looked at, which
+ * slh_dsa_sha2_check_key does. OK; FORM, and nothing is written. */
+SLH_DSA_MUST_CHECK SLH_DSA_NONNULL SLH_DSA_INLINE slh_dsa_status slh_dsa_signing_key_of_pem(
+    const char *pem, size_t pem_bytes, slh_dsa_set *set, uint8_t *signing_key)
+{
+    return slh_dsa_key_of_pem(pem, pem_bytes, 1, set, signing_key);
+}
+
+/* The same of a verifying key (PUBLIC KEY, SubjectPublicKeyInfo), with 2n bytes and room for
+ * SLH_DSA_MAX_VERIFYING_KEY_BYTES. */
+SLH_DSA_MUST_CHECK SLH_DSA_NONNULL SLH_DSA_INLINE slh_dsa_status slh_dsa_verifying_key_of_pem(
+    const char *pem, size_t pem_bytes, slh_dsa_set *set, uint8_t *verifying_key)
+{
+    return slh_dsa_key_of_pem(pem, pem_bytes, 0, set, verifying_key);
 }
 
 /* A VERDICT FOR BOOT LOADERS. It verifies twice, so it takes twice the time, and answers one of two

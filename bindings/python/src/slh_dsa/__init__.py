@@ -8,6 +8,7 @@ Bytes may be `bytes`, or any other buffer, which isn't copied and nobody may cha
 A call runs beside other threads, each of which needs 112 kB of stack.
 """
 
+from ._dsse import dsse_pae
 from ._errors import (
     BudgetError,
     ChangedError,
@@ -20,6 +21,7 @@ from ._errors import (
     MessageTooLongError,
     NoEntryError,
     OriginError,
+    PayloadTypeError,
     PemError,
     RandomizerLengthError,
     Refused,
@@ -31,7 +33,7 @@ from ._errors import (
     UnknownSetError,
     UnsignedError,
 )
-from ._keys import EVIDENCE_KINDS, ChainEnd, Evidence, SigningKey, VerifyingKey
+from ._keys import EVIDENCE_KINDS, ChainEnd, Evidence, SigningKey, VerifyingKey, key_from_pem
 from ._pieces import FirstPass, MessageVerifier, SecondPass
 from ._sets import PARAMETER_SETS
 from ._signed import BatchHead, LogHead, Manifest, ManifestFile
@@ -59,6 +61,7 @@ __all__ = [
     "MessageVerifier",
     "NoEntryError",
     "OriginError",
+    "PayloadTypeError",
     "PemError",
     "RandomizerLengthError",
     "Refused",
@@ -73,4 +76,6 @@ __all__ = [
     "UnsignedError",
     "VerifyingKey",
     "__version__",
+    "dsse_pae",
+    "key_from_pem",
 ]

@@ -90,7 +90,7 @@ class StateError(Refused):
 
 
 class FormError(Refused):
-    """Bytes aren't a chain, a manifest, a receipt, a head or a checkpoint, or don't fit its place."""
+    """Bytes aren't a chain, manifest, receipt, head, checkpoint or envelope, or don't fit there."""
 
     status = 14
     text = "the bytes don't have the form"
@@ -118,7 +118,7 @@ class OriginError(Refused):
 
 
 class UnsignedError(Refused):
-    """A checkpoint has no signature of this key."""
+    """A checkpoint or an envelope has no signature of this key."""
 
     status = 18
     text = "the checkpoint has no signature of this key"
@@ -139,7 +139,7 @@ class SmallerLogError(Refused):
 
 
 class ChangedError(Refused):
-    """The second pass of signing was over other bytes than the first: no call raises it yet."""
+    """The second pass of signing was over other bytes than the first."""
 
     status = 21
     text = "the second pass was over other bytes than the first"
@@ -147,6 +147,12 @@ class ChangedError(Refused):
 
 class PemError(Refused):
     """A text isn't a key in PEM as it is wanted."""
+
+
+class PayloadTypeError(Refused):
+    """The payload of an envelope isn't of the type that is wanted."""
+
+    text = "the payload is of another type"
 
 
 _ERRORS: tuple[type[SlhDsaError], ...] = (InvalidSignature, *Refused.__subclasses__())

@@ -3,12 +3,20 @@
 from __future__ import annotations
 
 import ctypes
+import hashlib
 import operator
 import os
 from typing import NamedTuple, NoReturn, Sequence
 
-from . import _pem
-from ._errors import LengthError, UnknownEvidenceError, error_of
+from . import _dsse, _pem
+from ._errors import (
+    InvalidSignature,
+    LengthError,
+    PayloadTypeError,
+    UnknownEvidenceError,
+    UnsignedError,
+    error_of,
+)
 from ._files import Source, digest_of, message_of
 from ._library import (
     FOREIGN,
@@ -35,7 +43,7 @@ class Evidence(NamedTuple):
 
     kind: str
     layer: int = 0
-    index: int = 0
+    index: int = 0  # type: ignore[assignment]  # in place of the method of tuples
     level: int = 0
 
 
@@ -82,13 +90,18 @@ class VerifyingKey:
     @classmethod
     def from_pem(cls, pem: str | BytesLike) -> VerifyingKey:
         """The key of a `PUBLIC KEY` in PEM."""
-        parameters, key = _pem.read(_pem.PUBLIC, pem)
+        _, parameters, key = _pem.read((_pem.PUBLIC,), pem)
         return cls(parameters, bytes(key))
 
     @property
     def parameter_set(self) -> str:
         """The name of the key's parameter set."""
         return self._parameters.name
+
+    @property
+    def key_id(self) -> str:
+        """SHA-256 of the key's bytes in hexadecimal: what envelopes of DSSE name a key by."""
+        return hashlib.sha256(self._key).hexdigest()
 
     def to_bytes(self) -> bytes:
         """The public seed and the root."""
@@ -174,6 +187,23 @@ class VerifyingKey:
         """Opens a checkpoint that this key signed for the log of an origin."""
         return LogHead.opened(self._parameters, self._key, origin, checkpoint)
 
+    def verify_dsse(self, envelope: str | BytesLike, payload_type: str) -> bytes:
+        """The payload of an envelope of DSSE, of this type and with a signature of this key."""
+        opened = _dsse.read(envelope)
+        signed = _dsse.dsse_pae(opened.payload, payload_type)
+        if opened.payload_type != payload_type:
+            raise PayloadTypeError
+        signatures = opened.of_key(self.key_id)
+        if not signatures:
+            raise UnsignedError("the envelope has no signature of this key")
+        for signature in signatures:
+            try:
+                self.verify(signature, signed)
+            except (InvalidSignature, LengthError):
+                continue
+            return opened.payload
+        raise InvalidSignature
+
     def _verify(
         self,
         call: str,
@@ -235,7 +265,7 @@ class SigningKey:
     @classmethod
     def from_pem(cls, pem: str | BytesLike, *, check: bool = True) -> SigningKey:
         """The key of a `PRIVATE KEY` in PEM, checked as by `from_bytes`."""
-        parameters, key = _pem.read(_pem.PRIVATE, pem)
+        _, parameters, key = _pem.read((_pem.PRIVATE,), pem)
         return cls._checked(parameters, key, check)
 
     @classmethod
@@ -307,6 +337,14 @@ class SigningKey:
             return self._sign("sign_digest", (digest, context), prehash, deterministic, None)
         with message_of(source) as message:
             return self._sign("sign", (message, context), prehash, deterministic, None)
+
+    def sign_dsse(
+        self, payload: BytesLike, payload_type: str, *, deterministic: bool = False
+    ) -> bytes:
+        """An envelope of DSSE: a line of JSON with the payload, its type and a signature."""
+        signed = _dsse.dsse_pae(payload, payload_type)
+        signature = self.sign(signed, deterministic=deterministic)
+        return _dsse.written(payload, payload_type, self.verifying_key.key_id, signature)
 
     def signer(
         self,
@@ -393,3 +431,11 @@ class SigningKey:
 
     def __repr__(self) -> str:
         return f"<SigningKey {self.parameter_set}>"
+
+
+def key_from_pem(pem: str | BytesLike, *, check: bool = True) -> SigningKey | VerifyingKey:
+    """The key of a `PRIVATE KEY`, checked as by `SigningKey.from_bytes`, or of a `PUBLIC KEY`."""
+    label, parameters, key = _pem.read((_pem.PRIVATE, _pem.PUBLIC), pem)
+    if label == _pem.PUBLIC:
+        return VerifyingKey(parameters, bytes(key))
+    return SigningKey._checked(parameters, key, check)

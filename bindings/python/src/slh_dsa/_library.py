@@ -138,7 +138,9 @@ def _declared(library: ctypes.CDLL) -> dict[str, Any]:
         "sign_again": [signer, *buffer],
         "sign_finish": [signer, *buffer * 2],
     }
-    named = {_PREFIX + name: (name, number, arguments) for name, arguments in calls.items()}
+    named: dict[str, tuple[str, Any, list[Any]]] = {
+        _PREFIX + name: (name, number, arguments) for name, arguments in calls.items()
+    }
     for name in ("n", "signature_bytes"):
         named[_PREFIX + name] = (name, size, [number])
     others: dict[str, list[Any]] = {

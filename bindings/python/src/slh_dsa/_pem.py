@@ -5,6 +5,7 @@ from __future__ import annotations
 import base64
 import binascii
 import re
+from typing import Sequence
 
 from ._errors import PemError
 from ._library import BytesLike, Secret, clear
@@ -47,26 +48,27 @@ def written(label: bytes, parameters: Parameters, key: bytes | bytearray) -> byt
     return b"\n".join((b"-----BEGIN %s-----" % label, *lines, b"-----END %s-----" % label, b""))
 
 
-def _base64_of(label: bytes, pem: bytes) -> bytes:
-    """The digits of the only block of a text."""
+def _block(wanted: Sequence[bytes], pem: bytes) -> tuple[bytes, bytes]:
+    """The label and the digits of the only block of a text."""
     found = list(_BEGIN.finditer(pem))
     if not found:
         raise PemError("there is no PEM block")
     if len(found) > 1:
         raise PemError("there is more than one PEM block")
-    is_called = found[0].group(1)
-    if is_called != label:
-        raise PemError(f"a {label.decode()} is wanted, not a {is_called.decode()}")
+    label = found[0].group(1)
+    if label not in wanted:
+        labels = b" or ".join(wanted)
+        raise PemError(f"a {labels.decode()} is wanted, not a {label.decode()}")
     body, end, _ = pem[found[0].end() :].partition(b"-----END %s-----" % label)
     if not end:
         raise PemError("the PEM block has no end line")
-    return b"".join(body.split())
+    return label, b"".join(body.split())
 
 
-def read(label: bytes, pem: str | BytesLike) -> tuple[Parameters, Secret]:
-    """The set and the bytes of a key in PEM, with whatever text around it."""
+def read(wanted: Sequence[bytes], pem: str | BytesLike) -> tuple[bytes, Parameters, Secret]:
+    """The label, the set and the bytes of a key in PEM, with whatever text around it."""
     text = pem.encode() if isinstance(pem, str) else bytes(memoryview(pem))
-    digits = _base64_of(label, text)
+    label, digits = _block(wanted, text)
     try:
         decoded = base64.b64decode(digits, validate=True)
     except binascii.Error:
@@ -76,5 +78,5 @@ def read(label: bytes, pem: str | BytesLike) -> tuple[Parameters, Secret]:
     for parameters in SETS.values():
         head, key_bytes = _head(label, parameters)
         if der.startswith(head) and len(der) == len(head) + key_bytes:
-            return parameters, Secret(memoryview(der)[len(head) :])
+            return label, parameters, Secret(memoryview(der)[len(head) :])
     raise PemError("the PEM block isn't a key of SLH-DSA over SHA-2")

@@ -68,7 +68,7 @@ def _joined(proof: Sequence[bytes]) -> bytes:
 class BatchHead(NamedTuple):
     """The head of a batch whose signature was verified: `VerifyingKey.open_batch` makes one."""
 
-    count: int
+    count: int  # type: ignore[assignment]  # in place of the method of tuples
     root: bytes
 
     @classmethod

@@ -1,0 +1,106 @@
+"""Metadata of in-toto and envelopes of DSSE with keys of SLH-DSA, for examples/in_toto.
+
+    layout OWNER BUILDER FILE     a layout of the step `build`, by OWNER's key of in-toto for BUILDER's
+    sign KEY PUB FILE ..          adds a signature by SLH-DSA to files of in-toto
+    check PUB FILE ..             verifies it, and says what securesystemslib says where it isn't good
+    key NAME                      makes a key of 128f, NAME.key and NAME.pub
+    id PUB                        writes the id of a key
+    shorten PUB FILE              takes a byte of a key's signature away
+    seal KEY TYPE BODY ENVELOPE   an envelope of DSSE
+    open PUB TYPE ENVELOPE        writes what it has, where it is good
+    parts ENVELOPE TEXT SIG       the text that is signed, and the first signature, by json and base64 alone
+"""
+
+import base64
+import json
+import sys
+from pathlib import Path
+
+from in_toto.models.layout import Layout, Step
+from in_toto.models.metadata import Metablock
+from securesystemslib import exceptions, interface
+from securesystemslib.signer import Signature, Signer
+
+import slh_dsa
+from slh_dsa.securesystemslib import SlhKey
+
+
+def layout(owner, builder, path):
+    key = interface.import_ed25519_publickey_from_file(builder)
+    products = [["CREATE", "release"], ["DISALLOW", "*"]]
+    step = Step(name="build", pubkeys=[key["keyid"]], expected_products=products)
+    step.expected_command = ["sh", "-c", "echo 1 >release"]
+    signed = Layout(steps=[step], keys={key["keyid"]: key})
+    signed.set_relative_expiration(months=1)
+    block = Metablock(signed=signed)
+    block.sign(interface.import_ed25519_privatekey_from_file(owner))
+    block.dump(path)
+
+
+def key_of(public):
+    return SlhKey.from_pem(Path(public).read_bytes())
+
+
+def sign(private, public, *paths):
+    signer = Signer.from_priv_key_uri(f"slh:{private}", key_of(public))
+    for path in paths:
+        block = Metablock.load(path)
+        block.signatures.append(signer.sign(block.signed.signable_bytes).to_dict())
+        block.dump(path)
+
+
+def check(public, *paths):
+    key = key_of(public)
+    for path in paths:
+        block = Metablock.load(path)
+        ours = [each for each in block.signatures if each["keyid"] == key.keyid]
+        if not ours:
+            sys.exit(f"{path}: no signature of the key")
+        try:
+            key.verify_signature(Signature.from_dict(ours[0]), block.signed.signable_bytes)
+        except exceptions.UnverifiedSignatureError as error:
+            sys.exit(f"{path}: {error}")
+    print("good")
+
+
+def key(name):
+    made = slh_dsa.SigningKey.generate("SLH-DSA-SHA2-128f")
+    Path(f"{name}.key").write_bytes(made.to_pem())
+    Path(f"{name}.pub").write_bytes(made.verifying_key.to_pem())
+
+
+def id_(public):
+    print(key_of(public).keyid)
+
+
+def shorten(public, path):
+    fields = json.loads(Path(path).read_text())
+    for each in fields["signatures"]:
+        if each["keyid"] == key_of(public).keyid:
+            each["sig"] = each["sig"][2:]
+    Path(path).write_text(json.dumps(fields))
+
+
+def seal(private, kind, body, envelope):
+    key = slh_dsa.SigningKey.from_pem(Path(private).read_bytes())
+    Path(envelope).write_bytes(key.sign_dsse(Path(body).read_bytes(), kind))
+
+
+def open_(public, kind, envelope):
+    key = slh_dsa.key_from_pem(Path(public).read_bytes())
+    try:
+        sys.stdout.buffer.write(key.verify_dsse(Path(envelope).read_bytes(), kind))
+    except slh_dsa.SlhDsaError as error:
+        sys.exit(f"{type(error).__name__}: {error}")
+
+
+def parts(envelope, text, signature):
+    fields = json.loads(Path(envelope).read_text())
+    body, kind = base64.b64decode(fields["payload"]), fields["payloadType"].encode()
+    Path(text).write_bytes(b"DSSEv1 %d %s %d %s" % (len(kind), kind, len(body), body))
+    Path(signature).write_bytes(base64.b64decode(fields["signatures"][0]["sig"]))
+
+
+if __name__ == "__main__":
+    verbs = layout, sign, check, key, id_, shorten, seal, open_, parts
+    {each.__name__.rstrip("_"): each for each in verbs}[sys.argv[1]](*sys.argv[2:])
