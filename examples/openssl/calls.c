@@ -723,6 +723,15 @@ static void bent_limits(void)
     }
 }
 
+/* 2 for a digest that is mandatory, 1 for a default one, and its name. */
+static int digest_is(EVP_PKEY *key, int kind, const char *name)
+{
+    char told[80];
+
+    return EVP_PKEY_get_default_digest_name(key, told, sizeof told) == kind &&
+           strcmp(told, name) == 0;
+}
+
 static void digests(void)
 {
     static uint8_t signature[MAX_SIGNATURE];
@@ -732,6 +741,14 @@ static void digests(void)
     CHECK(configure("ignore-digests = yes"));
     key = make("SLH-DSA-SHA2-128f", NULL, 0);
     CHECK(key != NULL && sign(key, "SHA384", "m", 1, signature, &bytes));
+    CHECK(OPENSSL_version_major() > 3 || OPENSSL_version_minor() > 4 ? digest_is(key, 2, SN_undef)
+                                                                     : digest_is(key, 1, "SHA512"));
+    EVP_PKEY_free(key);
+    OSSL_LIB_CTX_free(lib);
+    CHECK(configure("ignore-digests = no"));
+    key = make("SLH-DSA-SHA2-128f", NULL, 0);
+    REFUSED("takes no digest", sign(key, "SHA384", "m", 1, signature, &bytes));
+    CHECK(digest_is(key, 2, SN_undef));
     EVP_PKEY_free(key);
     OSSL_LIB_CTX_free(lib);
 }

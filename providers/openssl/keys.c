@@ -182,6 +182,7 @@ static const OSSL_PARAM *key_gettable(void *provider)
         OSSL_PARAM_int(OSSL_PKEY_PARAM_SECURITY_BITS, NULL),
         OSSL_PARAM_int(OSSL_PKEY_PARAM_MAX_SIZE, NULL),
         OSSL_PARAM_utf8_string(OSSL_PKEY_PARAM_MANDATORY_DIGEST, NULL, 0),
+        OSSL_PARAM_utf8_string(OSSL_PKEY_PARAM_DEFAULT_DIGEST, NULL, 0),
         OSSL_PARAM_octet_string(OSSL_PKEY_PARAM_PUB_KEY, NULL, 0),
         OSSL_PARAM_octet_string(OSSL_PKEY_PARAM_PRIV_KEY, NULL, 0), OSSL_PARAM_END};
 
@@ -203,17 +204,28 @@ static int get_octets(OSSL_PARAM params[], const char *name, const uint8_t *byte
     return param == NULL || OSSL_PARAM_set_octet_string(param, bytes, count);
 }
 
-/* A digest that is mandatory and has no name tells `req`, `ca` and X509_sign to name none. */
+/* A digest that is mandatory and has no name tells `req`, `ca` and X509_sign to name none. Where
+ * digests are ignored there is a default one instead: CMS_sign, as RAUC calls it, asks for it and
+ * can't go on without. SHA-512 has 2n bytes and more for each set. From 3.5 on CMS signs without a
+ * digest where none is mandatory, and refuses a default one. */
+static int get_digest(const struct key *key, OSSL_PARAM params[])
+{
+    int named = key->provider->names_digest;
+    OSSL_PARAM *param = OSSL_PARAM_locate(params, named ? OSSL_PKEY_PARAM_DEFAULT_DIGEST
+                                                        : OSSL_PKEY_PARAM_MANDATORY_DIGEST);
+
+    return param == NULL || OSSL_PARAM_set_utf8_string(param, named ? "SHA512" : "");
+}
+
 static int key_get_params(void *of, OSSL_PARAM params[])
 {
     const struct key *key = of;
-    OSSL_PARAM *digest = OSSL_PARAM_locate(params, OSSL_PKEY_PARAM_MANDATORY_DIGEST);
 
     return get_size(params, OSSL_PKEY_PARAM_BITS, 8 * public_bytes(key)) &&
            get_size(params, OSSL_PKEY_PARAM_SECURITY_BITS, 8 * (size_t)key->algorithm->n) &&
            get_size(params, OSSL_PKEY_PARAM_MAX_SIZE,
                     slh_dsa_sha2_signature_bytes(key->algorithm->set)) &&
-           (digest == NULL || OSSL_PARAM_set_utf8_string(digest, "")) &&
+           get_digest(key, params) &&
            ((key->has & HAS_PUBLIC) == 0 ||
             get_octets(params, OSSL_PKEY_PARAM_PUB_KEY, public_of(key), public_bytes(key))) &&
            ((key->has & HAS_PRIVATE) == 0 ||

@@ -142,6 +142,14 @@ static int read_number(const char *digits, size_t *number)
     return 1;
 }
 
+/* Whether OpenSSL is older than 3.MINOR, of one digit. */
+static int is_before(const struct provider *provider, const struct start *start, char minor)
+{
+    const char *version = told(provider, start, OSSL_PROV_PARAM_CORE_VERSION);
+
+    return strncmp(version, "3.", 2) == 0 && version[2] < minor && version[3] == '.';
+}
+
 /* A limit that is no number is 0, and a message's error tells so: OpenSSL 3.0 says nothing of a
  * provider that can't be loaded. */
 static void configure(struct provider *provider, const struct start *start)
@@ -152,6 +160,7 @@ static void configure(struct provider *provider, const struct start *start)
     if (*limit != '\0' && !read_number(limit, &provider->message_limit))
         provider->message_limit = 0;
     provider->ignores_digests = strcmp(told(provider, start, "ignore-digests"), "yes") == 0;
+    provider->names_digest = provider->ignores_digests && is_before(provider, start, '5');
 }
 
 /* Tells the core the OIDs. Where it knows one already, as OpenSSL 3.5 does, nothing changes.
@@ -162,8 +171,7 @@ static void configure(struct provider *provider, const struct start *start)
  * the strength is the key's, and a digest would keep CMS from any other. */
 static int add_oids(const struct provider *provider, const struct start *start)
 {
-    const char *version = told(provider, start, OSSL_PROV_PARAM_CORE_VERSION);
-    int old = strncmp(version, "3.0.", 4) == 0 || strncmp(version, "3.1.", 4) == 0;
+    int old = is_before(provider, start, '2');
 
     for (const struct algorithm *one = algorithms; one < algorithms + ALGORITHMS; one++) {
         const char *digest = one->n == 16 ? "SHA256" : one->n == 24 ? "SHA384" : "SHA512";

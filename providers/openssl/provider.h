@@ -61,6 +61,7 @@ struct provider {
     OSSL_LIB_CTX *libctx; /* a child of the application's: it has the same providers */
     size_t message_limit; /* `message-limit`: the bytes of a message that are kept at most */
     int ignores_digests;  /* `ignore-digests`, for CMS: signatures.c */
+    int names_digest;     /* keys have a default digest, for CMS: keys.c */
 };
 
 /* errors.c: puts a reason, and a text where there is one, on the application's queue. */
