@@ -27,7 +27,7 @@ others_kept m n ps head publishing q apart =
     ∙ first_keeps m ps publishing.0 publishing.1 q publishing.2 apart.1
 
 -- what was written whole stays so while others are written
-all_whole : (m : Files) (ps : List Piece) (i : ℕ) (a : Files) → FirstWritten m ps i a → slice_get ps i ≡ None
+pub all_whole : (m : Files) (ps : List Piece) (i : ℕ) (a : Files) → FirstWritten m ps i a → slice_get ps i ≡ None
     → AreApart ps → AreWhole ps a
 all_whole m [] i a first none apart = tt
 all_whole m (p ∷ ps) zero a first none apart = cc none
@@ -38,7 +38,7 @@ all_whole m (p ∷ ps) (suc i) a first none apart =
     )
 
 -- also while the head is written
-still_whole : (a n : Files) (ps : List Piece) (head : Piece) → IsWritingPiece a head n
+pub still_whole : (a n : Files) (ps : List Piece) (head : Piece) → IsWritingPiece a head n
     → AllByRecursion (λ p. IsApart p.path.now head) ps → AreWhole ps a → AreWhole ps n
 still_whole a n [] head writing apart whole = tt
 still_whole a n (p ∷ ps) head writing apart whole =

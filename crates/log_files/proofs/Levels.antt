@@ -41,13 +41,13 @@ few (suc levels) count =
       | false ↦ omega arith
     ]
 
-abbrev file_list : List ℕ → List ℕ → List Named
+abbrev pub file_list : List ℕ → List ℕ → List Named
 file_list name bytes = record { name = name; bytes = bytes } ∷ []
 
 same_file : (n m b d : List ℕ) → n ≡ m → b ≡ d → file_list n b ≡ file_list m d
 same_file n m b d name bytes = ap (λ (x : List ℕ). file_list x b) name ∙ ap (file_list m) bytes
 
-one_tile : (H : HashFunction) (q : List (List ℕ)) (size level : ℕ) (tile : Tile) (name bytes : List ℕ)
+pub one_tile : (H : HashFunction) (q : List (List ℕ)) (size level : ℕ) (tile : Tile) (name bytes : List ℕ)
     → last_tile level size ≡ Some tile → name ≡ tile_path tile.level tile.index tile.width
     → bytes ≡ last_bytes H level q → file_list name bytes ≡ tile_files H size q level
 one_tile H q size level tile name bytes is path same =

@@ -5,3 +5,5 @@ mod Separate
 mod TileNames
 mod Apart
 mod OwnNames
+mod FullNames
+pub mod HeadLast

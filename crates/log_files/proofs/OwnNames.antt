@@ -95,7 +95,7 @@ name_ends name (inr t) =
     let text = behind front (index_text t.1 ++ width_text t.2) (width_ends t.1 t.2 (t.2 == 256) t.4) in
     subst EndsInDigit (sym (t.5 ∙ append_assoc front (index_text t.1) (width_text t.2))) text
 
-not_part : (folder name part : List ℕ) → IsName name → HasPartEnd part → below folder name ≢ part
+pub not_part : (folder name part : List ℕ) → IsName name → HasPartEnd part → below folder name ≢ part
 not_part folder name part is ends same =
     let digit = behind folder (47 ∷ name) (behind (47 ∷ []) name (name_ends name is)) in
     let here : last (below folder name) ≡ digit.digit = ap last digit.is ∙ last-append digit.front (digit.digit ∷ []) digit.digit [] refl in
@@ -105,7 +105,7 @@ not_part folder name part is ends same =
       | inr line ↦ absurd (omega (arith, there, line, digit.high))
     ]
 
-head_not_part : (folder part : List ℕ) → HasPartEnd part → below folder (codes "checkpoint") ≢ part
+pub head_not_part : (folder part : List ℕ) → HasPartEnd part → below folder (codes "checkpoint") ≢ part
 head_not_part folder part ends same =
     let first : last part ≡ 116 = ap last (sym same) ∙ last-append folder (47 ∷ codes "checkpoint") 116 _ refl in
     let second : second_last part ≡ 110 = ap second_last (sym same) ∙ second_last-append folder (47 ∷ codes "checkpoint") 116 110 _ refl in

@@ -3,8 +3,11 @@ use Rattle.std.specs.Prelude.{◌≡◌, ◌≢◌, ◌⊎◌, ◌<◌, ◌≤�
 use Rattle.std.specs.List.{AllByRecursion}
 use Rattle.log_tiles.specs.Names.{bundle_path, tile_path}
 use Rattle.log_tiles.specs.Tiles.{hash_count}
-use Rattle.log_files.specs.Appending.{Named}
+use Rattle.log_files.specs.Appending.{Named, named}
+use Rattle.log_files.specs.Publishing.{IsWhole}
+use Rattle.log_files.specs.declared.appending.LogFile.{LogFile}
 use Rattle.log_files.specs.declared.publishing.Piece.{Piece}
+use Rattle.whole_files.specs.Files.{Files}
 use Rattle.whole_files.specs.Parts.{HasPartEnd}
 
 -- each is another one than all others
@@ -34,6 +37,14 @@ pub record AreFull (count : ℕ) (bundles tiles : List Named) : Type 0 where
   pub bundles_are : AreSuch (IsFullBundle count) bundles
   pub tiles_are : AreSuch (IsFullTile count) tiles
 
+-- the same of what became full in a log that grows
+abbrev pub HaveFullNames : ℕ → List LogFile → List LogFile → Type 0
+HaveFullNames count bundles tiles = AreFull count (map named bundles) (map named tiles)
+
+-- files with these names were put behind others
+abbrev pub PutNames : List LogFile → List Named → List LogFile → Type 0
+PutNames old more new = names_of (map named new) ≡ names_of (map named old) ++ names_of more
+
 -- a name of a bundle, or of a tile
 abbrev pub IsBundleName : List ℕ → Type 0
 IsBundleName name =
@@ -58,3 +69,25 @@ pub record AreBelow (folder : List ℕ) (files : List Named) (ps : List Piece) (
   pub parts : AllByRecursion (λ p. HasPartEnd p.part.now) ps
   pub head_path : head.path.now ≡ below folder (codes "checkpoint")
   pub head_part : HasPartEnd head.part.now
+
+-- the same with the bytes of the files and of the checkpoint
+pub record ArePieces (folder : List ℕ) (files : List Named) (checkpoint : List ℕ)
+    (ps : List Piece) (head : Piece) : Type 0 where
+  pub names : AreBelow folder files ps head
+  pub bytes : map (λ p. p.bytes.now) ps ≡ map (λ file. file.bytes) files
+  pub head_bytes : head.bytes.now ≡ checkpoint
+
+-- where a log's checkpoint stands
+abbrev pub checkpoint_path : List ℕ → List ℕ
+checkpoint_path folder = below folder (codes "checkpoint")
+
+-- each of some files stands whole below a folder, and so does the checkpoint
+abbrev pub StandWhole : List ℕ → List Named → List ℕ → Files → Type 0
+StandWhole folder files checkpoint n =
+    AllByRecursion (λ file. IsWhole file.bytes (n (below folder file.name))) files
+    × IsWhole checkpoint (n (checkpoint_path folder))
+
+-- the checkpoint has what it had, or it and all files stand whole
+abbrev pub IsHeadLast : Files → List ℕ → List Named → List ℕ → Files → Type 0
+IsHeadLast m folder files checkpoint n =
+    (n (checkpoint_path folder) ≡ m (checkpoint_path folder)) ⊎ StandWhole folder files checkpoint n

@@ -4,6 +4,7 @@ ghost use Rattle.std.specs.Prelude.{IfErr, IfOk, OnOk, length, map};
 ghost use Rattle.log_files.specs.Appending.{bundle_file, full_bundle, named, of_levels};
 ghost use Rattle.log_files.specs.Appending.{open_bundle};
 ghost use Rattle.log_files.specs.declared.appending.AppendError.TheVariants.{Memory};
+ghost use Rattle.log_files.specs.Names.{AreSuch, HaveFullNames, IsName, PutNames};
 ghost use Rattle.log_files.specs.Appending.{partial_bundle, partial_files, tile_files};
 ghost use Rattle.log_tiles.specs.Entries.{entry_bytes};
 ghost use Rattle.log_tiles.specs.Tiles.{AreTilesOf, full_levels};
@@ -79,6 +80,8 @@ impl<H: TreeHash> Appending<H> {
         ensures bundle { result.bundle ≡ bundle }
         ensures bundles { result.bundles.items ≡ [] }
         ensures full { result.full_tiles.items ≡ [] }
+        ensures names { HaveFullNames result.tiles.count result.bundles.items
+            result.full_tiles.items }
     {
         Appending {
             alloc,
@@ -146,6 +149,7 @@ impl<H: TreeHash> Appending<H> {
         ensures put { OnOk result (map named self.new.bundles.items
             ≡ map named self.old.bundles.items
             ++ partial_bundle self.old.tiles.count self.old.bundle.items) }
+        ensures count { self.old.tiles.count < 2 ^ 64 }
         ensures tiles { self.new.tiles ≡ self.old.tiles }
         ensures full { self.new.full_tiles ≡ self.old.full_tiles }
         ensures cause { IfErr result (λ e. e ≡ Memory) }
@@ -163,6 +167,8 @@ impl<H: TreeHash> Appending<H> {
             → map named self.new.full_tiles.items
             ≡ map named self.old.full_tiles.items
             ++ tile_files H.hash self.old.tiles.count q level) }
+        ensures names { OnOk result ((q : List (List ℕ)) → PutNames self.old.full_tiles.items
+            (tile_files H.hash self.old.tiles.count q level) self.new.full_tiles.items) }
         ensures tiles { self.new.tiles ≡ self.old.tiles }
         ensures bundle { self.new.bundle ≡ self.old.bundle }
         ensures bundles { self.new.bundles ≡ self.old.bundles }
@@ -185,6 +191,9 @@ impl<H: TreeHash> Appending<H> {
             → map named self.new.full_tiles.items
             ≡ map named self.old.full_tiles.items
             ++ of_levels (tile_files H.hash self.old.tiles.count q) levels) }
+        ensures names { OnOk result ((q : List (List ℕ)) → PutNames self.old.full_tiles.items
+            (of_levels (tile_files H.hash self.old.tiles.count q) levels)
+            self.new.full_tiles.items) }
         ensures tiles { self.new.tiles ≡ self.old.tiles }
         ensures bundle { self.new.bundle ≡ self.old.bundle }
         ensures bundles { self.new.bundles ≡ self.old.bundles }
@@ -210,6 +219,12 @@ impl<H: TreeHash> Appending<H> {
             ++ of_levels (tile_files H.hash self.new.tiles.count
             (q ++ leaf_hash H.hash entry.now ∷ []))
             (full_levels (self.old.tiles.count + 1))) }
+
+        // Whatever the tiles are, what becomes full has a name of its own.
+        ensures names { OnOk result (
+            HaveFullNames self.old.tiles.count self.old.bundles.items self.old.full_tiles.items
+            → HaveFullNames self.new.tiles.count self.new.bundles.items
+            self.new.full_tiles.items) }
         ensures count { (result ≡ Err AppendError.Full)
             ↔ (self.old.tiles.count ≡ 2 ^ 64 - 1) }
         ensures long { (result ≡ Err AppendError.TooLong)
@@ -241,6 +256,8 @@ impl<H: TreeHash> Appending<H> {
         ensures put { OnOk result ((q : List (List ℕ)) → AreTilesOf H.hash self.old.tiles q
             → map named self.new.full_tiles.items ≡ map named self.old.full_tiles.items
             ++ partial_files H.hash self.old.tiles.count q level) }
+        ensures names { OnOk result ((q : List (List ℕ)) → PutNames self.old.full_tiles.items
+            (partial_files H.hash self.old.tiles.count q level) self.new.full_tiles.items) }
         ensures tiles { self.new.tiles ≡ self.old.tiles }
         ensures bundles { self.new.bundles ≡ self.old.bundles }
         ensures cause { IfErr result (λ e. e ≡ Memory) }
@@ -257,6 +274,9 @@ impl<H: TreeHash> Appending<H> {
             → map named self.new.full_tiles.items
             ≡ map named self.old.full_tiles.items
             ++ of_levels (partial_files H.hash self.old.tiles.count q) 8) }
+        ensures names { OnOk result ((q : List (List ℕ)) → PutNames self.old.full_tiles.items
+            (of_levels (partial_files H.hash self.old.tiles.count q) 8)
+            self.new.full_tiles.items) }
         ensures bundles { self.new.bundles ≡ self.old.bundles }
         ensures cause { IfErr result (λ e. e ≡ Memory) }
     {
@@ -274,6 +294,9 @@ impl<H: TreeHash> Appending<H> {
             ++ partial_bundle self.tiles.count self.bundle.items)
             ++ (map named self.full_tiles.items
             ++ of_levels (partial_files H.hash self.tiles.count q) 8)) }
+        ensures names { IfOk result (λ files.
+            HaveFullNames self.tiles.count self.bundles.items self.full_tiles.items
+            → AreSuch IsName (map named files.items)) }
         ensures cause { IfErr result (λ e. e ≡ Memory) }
     {
         let mut last = self;

@@ -1,16 +1,21 @@
 //! What publishing keeps, and that files have names of their own, as contracts of functions that do
 //! nothing.
 ghost use Rattle.std.specs.Prelude.{◌≡◌, ◌≢◌, ◌⊎◌, ◌<◌, ◌+◌, ◌^◌, ℕ, List, [], ◌∷◌, ◌++◌, codes};
+ghost use Rattle.std.specs.Prelude.{Result, Ok, Some, slice_get};
 ghost use Rattle.std.specs.List.{AllByRecursion};
 ghost use Rattle.log_files.specs.Appending.{Named, full_bundle, of_levels, partial_bundle};
 ghost use Rattle.log_files.specs.Appending.{partial_files, tile_files};
 ghost use Rattle.log_files.specs.Names.{AreBelow, AreFull, AreSuch, IsName};
+ghost use Rattle.log_files.specs.Names.{ArePieces, IsHeadLast, StandWhole};
 ghost use Rattle.log_files.specs.Publishing.{AreWhole, HaveNames, IsApart, IsPublishing, IsWhole};
+ghost use Rattle.log_files.specs.Publishing.{IsSeparate, Publishes};
+ghost use Rattle.log_files.specs.declared.error.PublishError.{PublishError};
 ghost use Rattle.log_files.specs.declared.publishing.Piece.{Piece};
 ghost use Rattle.log_tiles.specs.Names.{bundle_path, tile_path};
 ghost use Rattle.log_tiles.specs.Tiles.{full_levels};
 ghost use Rattle.merkle_tree.specs.Hashes.{HashFunction};
 ghost use Rattle.whole_files.specs.Files.{Files};
+ghost use Rattle.whole_files.specs.declared.error.Written.{Written};
 
 /// Wherever everything stops: a path that is no name of a piece or the head has what it had
 /// (`others`), and the head has what it had, or it and all pieces stand whole (`head_is_last`).
@@ -59,4 +64,28 @@ pub fn names_stay_apart()
 pub fn files_have_names()
     ensures { (folder : List ℕ) (files : List Named) (ps : List Piece) (head : Piece)
         → AreSuch IsName files → AreBelow folder files ps head → HaveNames ps head }
+{}
+
+/// Files of a log with names of their own, published below its folder as such pieces: wherever
+/// everything stops (`stopped`), and whatever [`publish`](crate::publish) answers (`answered`), the
+/// checkpoint has what it had, or it and all files stand whole; after `Ok` they do (`done`). Each
+/// piece and the head have two names (`pieces`, `head`), as it asks for.
+pub fn checkpoint_is_last()
+    ensures stopped { (m n : Files) (folder : List ℕ) (files : List Named) (checkpoint : List ℕ)
+        (ps : List Piece) (head : Piece) → AreSuch IsName files
+        → ArePieces folder files checkpoint ps head → IsPublishing m ps head n
+        → IsHeadLast m folder files checkpoint n }
+    ensures answered { (m n : Files) (folder : List ℕ) (files : List Named) (checkpoint : List ℕ)
+        (ps : List Piece) (head : Piece) (result : Result Written PublishError)
+        → AreSuch IsName files → ArePieces folder files checkpoint ps head
+        → Publishes m ps head result n → IsHeadLast m folder files checkpoint n }
+    ensures done { (m n : Files) (folder : List ℕ) (files : List Named) (checkpoint : List ℕ)
+        (ps : List Piece) (head : Piece) (written : Written)
+        → AreSuch IsName files → ArePieces folder files checkpoint ps head
+        → Publishes m ps head (Ok written) n → StandWhole folder files checkpoint n }
+    ensures pieces { (folder : List ℕ) (files : List Named) (ps : List Piece) (head : Piece)
+        → AreSuch IsName files → AreBelow folder files ps head → (i : ℕ) (p : Piece)
+        → slice_get ps i ≡ Some p → IsSeparate p }
+    ensures head { (folder : List ℕ) (files : List Named) (ps : List Piece) (head : Piece)
+        → AreBelow folder files ps head → IsSeparate head }
 {}

@@ -162,6 +162,7 @@ impl<H: TreeHash> GrowingTiles<H> {
         ensures tiles { (q : List (List ℕ)) → AreTilesOf H.hash self.old q
             → AreTilesOf H.hash self.new (q ++ digest.now ∷ []) }
         ensures full { result ≡ full_levels (self.old.count + 1) }
+        ensures count { self.new.count ≡ self.old.count + 1 }
     {
         let (mut at, mut level) = (self.count, 0);
         self.hashes[(at % 256) as usize] = *digest;

@@ -1,5 +1,6 @@
 //! `slh log init` and `slh log append`.
-ghost use Rattle.std.specs.Prelude.{◌≡◌, IfOk, Ok, string_bytes};
+ghost use Rattle.std.specs.Prelude.{◌≡◌, IfOk, Ok, OnOk, string_bytes};
+ghost use Rattle.log_files.specs.Names.{HaveFullNames};
 ghost use Rattle.slh_arguments.specs.Randomness.{random_of};
 ghost use Rattle.slh_log.specs.Texts.{signed_checkpoint};
 ghost use Rattle.slh_log_tasks.specs.Heads.{IsHeadBy, public_half};
@@ -79,7 +80,12 @@ pub fn init<'s, 'a>(
 }
 
 // Adds an entry.
-fn push<'a>(log: &mut Appending<Sha256>, path: &'a str, entry: &[u8]) -> Result<(), Failure<'a>> {
+fn push<'a>(log: &mut Appending<Sha256>, path: &'a str, entry: &[u8]) -> Result<(), Failure<'a>>
+    requires names { HaveFullNames log.old.tiles.count log.old.bundles.items
+        log.old.full_tiles.items }
+    ensures names { OnOk result (HaveFullNames log.new.tiles.count log.new.bundles.items
+        log.new.full_tiles.items) }
+{
     match log.push(entry) {
         Ok(()) => Ok(()),
         Err(AppendError::TooLong) => Err(Failure::Told(path, Cause::EntryTooLong)),
@@ -93,7 +99,12 @@ fn push_lines<'a>(
     log: &mut Appending<Sha256>,
     path: &'a str,
     bytes: &[u8],
-) -> Result<(), Failure<'a>> {
+) -> Result<(), Failure<'a>>
+    requires names { HaveFullNames log.old.tiles.count log.old.bundles.items
+        log.old.full_tiles.items }
+    ensures names { OnOk result (HaveFullNames log.new.tiles.count log.new.bundles.items
+        log.new.full_tiles.items) }
+{
     let bytes = bytes.strip_suffix(b"\n").unwrap_or(bytes);
     for line in bytes.split(|byte| *byte == b'\n') {
         push(log, path, line)?;
@@ -107,7 +118,12 @@ fn push_file<'a>(
     log: &mut Appending<Sha256>,
     path: &'a str,
     is_lines: bool,
-) -> Result<(), Failure<'a>> {
+) -> Result<(), Failure<'a>>
+    requires names { HaveFullNames log.old.tiles.count log.old.bundles.items
+        log.old.full_tiles.items }
+    ensures names { OnOk result (HaveFullNames log.new.tiles.count log.new.bundles.items
+        log.new.full_tiles.items) }
+{
     if is_lines {
         let bytes = files::read(folder.rt, path)?;
         if bytes.is_empty() {
@@ -143,7 +159,10 @@ fn grown<'a>(
     words: &ArgMatches<'a>,
     checkpoint: &Checkpoint,
     paths: &[&'a str],
-) -> Result<Appending<Sha256>, Failure<'a>> {
+) -> Result<Appending<Sha256>, Failure<'a>>
+    ensures names { IfOk result (λ log.
+        HaveFullNames log.tiles.count log.bundles.items log.full_tiles.items) }
+{
     let mut log = resume(folder, checkpoint)?;
     let is_lines = words.get_flag(names::LINES);
     for path in paths {
@@ -159,7 +178,9 @@ fn publish<'a>(
     origin: &str,
     randomness: &Randomness,
     log: Appending<Sha256>,
-) -> Result<(), Failure<'a>> {
+) -> Result<(), Failure<'a>>
+    requires names { HaveFullNames log.tiles.count log.bundles.items log.full_tiles.items }
+{
     let head = Checkpoint {
         size: log.len(),
         root: log.root(),

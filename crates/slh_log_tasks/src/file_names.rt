@@ -1,6 +1,7 @@
 //! The names of files below a log's folder.
 ghost use Rattle.std.specs.Prelude.{◌≡◌, ◌≢◌, IfOk, string_bytes};
 ghost use Rattle.log_files.specs.Names.{below};
+ghost use Rattle.whole_files.specs.Parts.{HasPartEnd};
 
 use crate::log_folder::LogFolder;
 use slh_paths::{Failure, random};
@@ -19,6 +20,7 @@ pub fn names_of<'a>(folder: LogFolder<'_, 'a>, name: &str) -> Result<Names, Fail
     ensures path { IfOk result (λ names.
         string_bytes names.path ≡ below folder.entry.path.now name.now) }
     ensures part { IfOk result (λ names. string_bytes names.part ≢ string_bytes names.path) }
+    ensures end { IfOk result (λ names. HasPartEnd (string_bytes names.part)) }
 {
     let path = folder.path_of(name)?;
     let number = u64::from_be_bytes(random::<8>(folder.rt)?);

@@ -1,5 +1,6 @@
 //! A log's last tiles and its last bundle, as they stand below its folder.
-ghost use Rattle.std.specs.Prelude.{◌<◌};
+ghost use Rattle.std.specs.Prelude.{◌<◌, IfOk};
+ghost use Rattle.log_files.specs.Names.{HaveFullNames};
 
 use crate::entries::checked_bundle;
 use crate::log_folder::LogFolder;
@@ -77,7 +78,10 @@ pub fn last_tiles<'a>(
 pub fn resume<'a>(
     folder: LogFolder<'_, 'a>,
     checkpoint: &Checkpoint,
-) -> Result<Appending<Sha256>, Failure<'a>> {
+) -> Result<Appending<Sha256>, Failure<'a>>
+    ensures names { IfOk result (λ log.
+        HaveFullNames log.tiles.count log.bundles.items log.full_tiles.items) }
+{
     let alloc = folder.rt.alloc();
     let tiles = last_tiles(folder, checkpoint.size, checkpoint.size)?;
     if tiles.root() != checkpoint.root {

@@ -1,12 +1,18 @@
 //! Files of a log that are written, and the checkpoint last.
+ghost use Rattle.std.specs.Prelude.{◌≡◌, IfOk, IsTrue, length, map};
+ghost use Rattle.log_files.specs.Appending.{named};
+ghost use Rattle.log_files.specs.Names.{AreSuch, IsHeadLast, IsName, StandWhole};
+ghost use Rattle.slh_log_tasks.specs.Writing.{AreNamesOf, ArePiecesOf, IsHeadNew};
+ghost use Rattle.whole_files.specs.Files.{Files};
+
 use crate::file_names::{Names, names_of};
 use crate::lock::fault_of;
 use crate::log_folder::{CHECKPOINT, LogFolder};
-use log_files::{FolderError, LogFile, Piece, PublishError, are_separate, make_folder, publish};
+use log_files::{FolderError, LogFile, Piece, PublishError, make_folder, publish};
 use slh_paths::outputs::unwritten;
 use slh_paths::{Cause, Failure};
 use std::alloc::{AllocError, Global};
-use whole_files::{HostFiles, WriteError, Written, make_new};
+use whole_files::{FileSystem, HostFiles, Mode, WriteError, Written, make_new};
 
 /// Makes a folder below the folder of a log, or this one where the name is empty.
 pub fn need_folder<'a>(folder: LogFolder<'_, 'a>, name: &str) -> Result<(), Failure<'a>> {
@@ -50,18 +56,28 @@ fn need_folders<'a>(folder: LogFolder<'_, 'a>, log_files: &[LogFile]) -> Result<
     Ok(())
 }
 
+// Makes the checkpoint of a new log, where nothing stands.
+fn put_checkpoint<'a, F: FileSystem>(
+    files: &mut F,
+    folder: LogFolder<'_, 'a>,
+    bytes: &[u8],
+) -> Result<Result<Written, WriteError>, Failure<'a>>
+    // Wherever everything stops, the checkpoint has what it had, or it stands whole where nothing
+    // stood.
+    requires permitted { IsTrue F.tells → (n : Files)
+        → IsHeadNew (F.files files.old) folder.path.now bytes.now n → F.permits n }
+    ensures head_is_new { IsTrue F.tells
+        → IsHeadNew (F.files files.old) folder.entry.path.now bytes.now (F.files files.new) }
+{
+    let names = names_of(folder, CHECKPOINT)?;
+    let (path, part) = (names.path.as_str(), names.part.as_str());
+    Ok(make_new(files, path, part, Mode::Masked, bytes))
+}
+
 /// Makes the checkpoint of a new log, where nothing stands.
 pub fn make_checkpoint<'a>(folder: LogFolder<'_, 'a>, bytes: &[u8]) -> Result<(), Failure<'a>> {
-    let names = names_of(folder, CHECKPOINT)?;
     let mut files = HostFiles::new(folder.rt);
-    let mode = whole_files::Mode::Masked;
-    match make_new(
-        &mut files,
-        names.path.as_str(),
-        names.part.as_str(),
-        mode,
-        bytes,
-    ) {
+    match put_checkpoint(&mut files, folder, bytes)? {
         Ok(Written::Settled) => Ok(()),
         Ok(Written::Unsettled) => {
             let fault = fault_of(&mut files);
@@ -86,7 +102,9 @@ fn name_at(log_files: &[LogFile], i: usize) -> &str {
 fn all_names<'a>(
     folder: LogFolder<'_, 'a>,
     log_files: &[LogFile],
-) -> Result<Vec<Names>, Failure<'a>> {
+) -> Result<Vec<Names>, Failure<'a>>
+    ensures { IfOk result (λ names. AreNamesOf folder.entry.path.now log_files.now names.items) }
+{
     let mut names = Vec::new(folder.rt.alloc());
     for file in log_files {
         names
@@ -101,9 +119,13 @@ fn pieces_of<'f>(
     alloc: Global,
     log_files: &'f [LogFile],
     names: &'f [Names],
-) -> Result<Vec<Piece<'f>>, AllocError> {
+) -> Result<Vec<Piece<'f>>, AllocError>
+    requires { length names.now ≡ length log_files.now }
+    ensures { IfOk result (λ pieces. ArePiecesOf log_files.now names.now pieces.items) }
+{
     let mut pieces = Vec::new(alloc);
-    for (file, names) in log_files.iter().zip(names.iter()) {
+    for i in 0..log_files.len() {
+        let (file, names) = (&log_files[i], &names[i]);
         let piece = Piece {
             path: names.path.as_str(),
             part: names.part.as_str(),
@@ -114,13 +136,24 @@ fn pieces_of<'f>(
     Ok(pieces)
 }
 
-/// Writes files whole, in their order, and then the checkpoint.
-pub fn write_files<'a>(
+// Writes files whole below a folder, in their order, and then the checkpoint.
+fn put_files<'a, F: FileSystem>(
+    files: &mut F,
     folder: LogFolder<'_, 'a>,
     log_files: &[LogFile],
     checkpoint: &[u8],
-) -> Result<(), Failure<'a>> {
-    need_folders(folder, log_files)?;
+) -> Result<Result<Written, PublishError>, Failure<'a>>
+    requires names { AreSuch IsName (map named log_files.now) }
+
+    // Wherever everything stops, the checkpoint has what it had, or it and all files stand whole.
+    requires permitted { IsTrue F.tells → (n : Files) → IsHeadLast (F.files files.old)
+        folder.path.now (map named log_files.now) checkpoint.now n → F.permits n }
+    ensures head_is_last { IsTrue F.tells → IsHeadLast (F.files files.old)
+        folder.entry.path.now (map named log_files.now) checkpoint.now (F.files files.new) }
+    ensures done { IsTrue F.tells → IfOk result (λ published. IfOk published (λ _.
+        StandWhole folder.entry.path.now (map named log_files.now) checkpoint.now
+        (F.files files.new))) }
+{
     let names = all_names(folder, log_files)?;
     let pieces = pieces_of(folder.rt.alloc(), log_files, names.as_slice())?;
     let head = names_of(folder, CHECKPOINT)?;
@@ -129,24 +162,20 @@ pub fn write_files<'a>(
         part: head.part.as_str(),
         bytes: checkpoint,
     };
-    publish_pieces(folder, log_files, pieces.as_slice(), &head)
+    Ok(publish(files, pieces.as_slice(), &head))
 }
 
-// Writes pieces, which are those of these files, and then the head.
-fn publish_pieces<'a>(
+/// Writes files whole, in their order, and then the checkpoint.
+pub fn write_files<'a>(
     folder: LogFolder<'_, 'a>,
     log_files: &[LogFile],
-    pieces: &[Piece<'_>],
-    head: &Piece<'_>,
-) -> Result<(), Failure<'a>> {
-    if !are_separate(pieces) {
-        return Err(Failure::Told(folder.path, Cause::BeingWritten));
-    }
-    if head.part == head.path {
-        return Err(Failure::Told(folder.path, Cause::BeingWritten));
-    }
+    checkpoint: &[u8],
+) -> Result<(), Failure<'a>>
+    requires { AreSuch IsName (map named log_files.now) }
+{
+    need_folders(folder, log_files)?;
     let mut files = HostFiles::new(folder.rt);
-    let published = publish(&mut files, pieces, head);
+    let published = put_files(&mut files, folder, log_files, checkpoint)?;
     let fault = fault_of(&mut files);
     match published {
         Ok(Written::Settled) => Ok(()),

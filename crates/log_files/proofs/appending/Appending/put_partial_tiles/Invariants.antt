@@ -1,5 +1,6 @@
 use Rattle.std.proofs.Common.{◌≡◌, ◌++◌, List, ℕ, map}
 use Rattle.log_files.specs.Appending.{named, of_levels, partial_files}
+use Rattle.log_files.specs.Names.{PutNames}
 use Rattle.log_tiles.specs.Tiles.{AreTilesOf}
 use Rattle.log_files.proofs.appending.Appending.put_partial_tiles.Given as goal
 
@@ -10,3 +11,5 @@ invariant-loop-level g l =
     ≡ map named l.fn.self.full_tiles.items ++ of_levels (partial_files g.H.TreeHash.hash l.fn.self.tiles.count q) l.level)
     × (l.self.tiles ≡ l.fn.self.tiles)
     × (l.self.bundles ≡ l.fn.self.bundles)
+    × ((q : List (List ℕ))
+    → PutNames l.fn.self.full_tiles.items (of_levels (partial_files g.H.TreeHash.hash l.fn.self.tiles.count q) l.level) l.self.full_tiles.items)
