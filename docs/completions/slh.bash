@@ -1,5 +1,5 @@
 # Completions of slh for bash: source this file, or put it into a folder that bash-completion reads.
-# Written by docs/draw_words from the tables of words in crates/slh_words/src: edit those.
+# Written by docs/draw_words from the tables of words in crates/slh_arguments/src: edit those.
 
 _slh() {
     local word=${COMP_WORDS[COMP_CWORD]} previous=${COMP_WORDS[COMP_CWORD - 1]}
@@ -13,8 +13,8 @@ _slh() {
     --context | --context-hex | --depth | --evidence | --from | --key-text | --name | --origin | --path) return ;;
     esac
     if [ -z "$words" ] && [ "$COMP_CWORD" -eq 1 ]; then
-        words='keygen public sign verify audit evidence check inspect batch manifest chain ring
-            log help --help --version'
+        words='keygen public sign verify audit evidence inspect batch manifest chain ring log
+            help --help --version'
     elif [ -z "$words" ] && [ "$COMP_CWORD" -eq 2 ]; then
         case ${COMP_WORDS[1]} in
         batch) words='sign verify --help' ;;
@@ -23,8 +23,7 @@ _slh() {
         ring) words='master key record restore --help' ;;
         log) words='init append prove verify growth check --help' ;;
         help)
-            words='keygen public sign verify audit evidence check inspect batch manifest chain ring
-                log' ;;
+            words='keygen public sign verify audit evidence inspect batch manifest chain ring log' ;;
         esac
     fi
     if [ -z "$words" ]; then
@@ -37,8 +36,6 @@ _slh() {
             words='--key --key-text --signature --context --context-hex --prehash --json --help' ;;
         'audit '*) words='--key --signature --context --context-hex --prehash --json --help' ;;
         'evidence '*)
-            words='--key --signature --evidence --context --context-hex --prehash --json --help' ;;
-        'check '*)
             words='--key --signature --evidence --context --context-hex --prehash --json --help' ;;
         'inspect '*) words='--help' ;;
         'batch sign') words='--key --head --deterministic --help' ;;

@@ -1,5 +1,5 @@
 # Completions of slh for fish: put this file into a folder of fish_complete_path.
-# Written by docs/draw_words from the tables of words in crates/slh_words/src: edit those.
+# Written by docs/draw_words from the tables of words in crates/slh_arguments/src: edit those.
 
 # Whether the words behind slh, up to the cursor, are these.
 function __slh_are
@@ -23,10 +23,9 @@ complete -c slh -n __slh_are -s V -l version -d 'Print version'
 complete -c slh -n '__slh_are; or __slh_are help' -a keygen -d 'Makes a key of random bytes: NAME.key, which is secret, and NAME.pub'
 complete -c slh -n '__slh_are; or __slh_are help' -a public -d 'Writes the verifying key of a signing key'
 complete -c slh -n '__slh_are; or __slh_are help' -a sign -d 'Signs a file; the signature goes to FILE.sig'
-complete -c slh -n '__slh_are; or __slh_are help' -a verify -d 'Verifies a signature of a file: accepted (0) or invalid (1)'
+complete -c slh -n '__slh_are; or __slh_are help' -a verify -d 'Verifies the signatures of files: accepted (0) or invalid (1)'
 complete -c slh -n '__slh_are; or __slh_are help' -a audit -d 'Tells whether a key made a signature: genuine (0), foreign or invalid (1)'
 complete -c slh -n '__slh_are; or __slh_are help' -a evidence -d 'Tells whether evidence shows against a signature: shown (0) or not shown (1)'
-complete -c slh -n '__slh_are; or __slh_are help' -a check -d 'The old name of evidence'
 complete -c slh -n '__slh_are; or __slh_are help' -a inspect -d 'Tells what a key or a signature is, and nothing that is secret'
 complete -c slh -n '__slh_are; or __slh_are help' -a batch -d 'One signature for many files, and a receipt for each'
 complete -c slh -n '__slh_are; or __slh_are help' -a manifest -d 'One signature for the files of a folder'
@@ -70,7 +69,7 @@ complete -c slh -n '__slh_begin verify' -l key-text -x -d 'The verifying key its
 complete -c slh -n '__slh_begin verify' -l signature -r -F -d 'The signature; FILE.sig if it is left out'
 complete -c slh -n '__slh_begin verify' -l context -x -d 'The context, at most 255 bytes'
 complete -c slh -n '__slh_begin verify' -l context-hex -x -d 'The context in hexadecimal'
-complete -c slh -n '__slh_begin verify' -l prehash -x -a 'sha256 sha512' -d 'Signs this digest of the file'
+complete -c slh -n '__slh_begin verify' -l prehash -x -a 'sha256 sha512' -d 'This digest of the file was signed'
 complete -c slh -n '__slh_begin verify' -l json -d 'Tells the verdict as an object of JSON'
 complete -c slh -n '__slh_begin verify' -F
 complete -c slh -n '__slh_begin audit' -l key -r -F -d 'The signing key'
@@ -88,14 +87,6 @@ complete -c slh -n '__slh_begin evidence' -l context-hex -x -d 'The context in h
 complete -c slh -n '__slh_begin evidence' -l prehash -x -a 'sha256 sha512' -d 'Signs this digest of the file'
 complete -c slh -n '__slh_begin evidence' -l json -d 'Tells the verdict as an object of JSON'
 complete -c slh -n '__slh_begin evidence' -F
-complete -c slh -n '__slh_begin check' -l key -r -F -d 'The signing key'
-complete -c slh -n '__slh_begin check' -l signature -r -F -d 'The signature; FILE.sig if it is left out'
-complete -c slh -n '__slh_begin check' -l evidence -x -d 'What an audit printed after foreign'
-complete -c slh -n '__slh_begin check' -l context -x -d 'The context, at most 255 bytes'
-complete -c slh -n '__slh_begin check' -l context-hex -x -d 'The context in hexadecimal'
-complete -c slh -n '__slh_begin check' -l prehash -x -a 'sha256 sha512' -d 'Signs this digest of the file'
-complete -c slh -n '__slh_begin check' -l json -d 'Tells the verdict as an object of JSON'
-complete -c slh -n '__slh_begin check' -F
 complete -c slh -n '__slh_begin inspect' -F
 complete -c slh -n '__slh_begin batch sign' -l key -r -F -d 'The signing key'
 complete -c slh -n '__slh_begin batch sign' -l head -r -F -d 'Where the head of the batch goes'

@@ -1,6 +1,6 @@
 #compdef slh
 # Completions of slh for zsh: put this file, as _slh, into a folder of fpath.
-# Written by docs/draw_words from the tables of words in crates/slh_words/src: edit those.
+# Written by docs/draw_words from the tables of words in crates/slh_arguments/src: edit those.
 
 _slh_set() {
     local -a values=(
@@ -290,10 +290,9 @@ _slh() {
         'keygen:Makes a key of random bytes\: NAME.key, which is secret, and NAME.pub'
         'public:Writes the verifying key of a signing key'
         'sign:Signs a file; the signature goes to FILE.sig'
-        'verify:Verifies a signature of a file\: accepted (0) or invalid (1)'
+        'verify:Verifies the signatures of files\: accepted (0) or invalid (1)'
         'audit:Tells whether a key made a signature\: genuine (0), foreign or invalid (1)'
         'evidence:Tells whether evidence shows against a signature\: shown (0) or not shown (1)'
-        'check:The old name of evidence'
         'inspect:Tells what a key or a signature is, and nothing that is secret'
         'batch:One signature for many files, and a receipt for each'
         'manifest:One signature for the files of a folder'
@@ -344,9 +343,9 @@ _slh() {
                 '--signature=[The signature; FILE.sig if it is left out]:FILE.sig:_files -g "*.sig"' \
                 '(--context-hex)--context=[The context, at most 255 bytes]:TEXT: ' \
                 '(--context)--context-hex=[The context in hexadecimal]:HEX: ' \
-                '--prehash=[Signs this digest of the file]:HASH:_slh_hash' \
+                '--prehash=[This digest of the file was signed]:HASH:_slh_hash' \
                 '--json[Tells the verdict as an object of JSON]' \
-                '1:FILE:_files'
+                '*:FILE:_files'
             ;;
         audit)
             _arguments -S \
@@ -360,18 +359,6 @@ _slh() {
                 '1:FILE:_files'
             ;;
         evidence)
-            _arguments -S \
-                '(- *)'{-h,--help}'[Print help]' \
-                '--key=[The signing key]:NAME.key:_files -g "*.key"' \
-                '--signature=[The signature; FILE.sig if it is left out]:FILE.sig:_files -g "*.sig"' \
-                '--evidence=[What an audit printed after foreign]:WORDS: ' \
-                '(--context-hex)--context=[The context, at most 255 bytes]:TEXT: ' \
-                '(--context)--context-hex=[The context in hexadecimal]:HEX: ' \
-                '--prehash=[Signs this digest of the file]:HASH:_slh_hash' \
-                '--json[Tells the verdict as an object of JSON]' \
-                '1:FILE:_files'
-            ;;
-        check)
             _arguments -S \
                 '(- *)'{-h,--help}'[Print help]' \
                 '--key=[The signing key]:NAME.key:_files -g "*.key"' \

@@ -5,5 +5,5 @@
 use std::process::ExitCode;
 
 fn main(rt: HostRuntime) -> ExitCode {
-    ExitCode::from(slh_tasks::status(&rt))
+    ExitCode::from(slh_commands::status(&rt))
 }

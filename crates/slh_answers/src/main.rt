@@ -7,7 +7,7 @@
 mod looks;
 
 use looks::look;
-use slh_tasks::status_of;
+use slh_commands::status_of;
 use std::alloc::AllocError;
 use std::io;
 use std::process::ExitCode;

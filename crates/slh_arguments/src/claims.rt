@@ -1,11 +1,10 @@
 //! Signatures of files, under the signing key of `--key`.
-use crate::words::{context, mode, required, signature, signing_key};
+use crate::names;
+use crate::values::{context, mode, required, signature, signing_key};
 use clap::ArgMatches;
-use slh_files::Key;
-use slh_jobs::{ByteString, Mode};
-use slh_paths::Failure;
-use slh_paths::files::Reader;
-use slh_words::names;
+use slh_host::Failure;
+use slh_host::bytes::{ByteString, Key, Mode};
+use slh_host::files::Reader;
 
 /// A signature of a file, and the key that it is to be under.
 #[derive(Drop)]
@@ -21,12 +20,12 @@ pub struct Claim {
 pub fn own_claim<'a>(rt: &HostRuntime, words: &ArgMatches<'a>) -> Result<Claim, Failure<'a>> {
     let context = context(rt, words)?;
     let key = signing_key(rt, words)?;
-    let signature = signature(rt, words, key.set)?;
-    let mode = mode(words)?;
-    let reader = Reader::open(rt, required(words, names::FILE)?)?;
+    let file = required(words, names::FILE)?;
+    let reader = Reader::open(rt, file)?;
+    let signature = signature(rt, words, key.set, file)?;
     Ok(Claim {
         key,
-        mode,
+        mode: mode(words)?,
         context,
         signature,
         reader,

@@ -1,34 +1,63 @@
 //! The files of a pair of keys.
-use slh_files::{Key, Kind, Outcome, encode_key, verifying_key};
-use slh_jobs::ByteString;
-use slh_paths::{Cause, Failure, outputs};
+use crate::error::WordError;
+use crate::names;
+use crate::values::required;
+use clap::ArgMatches;
+use slh_host::bytes::{
+    ByteString, Key, Outcome, SecretText, Set, signing_key_file, verifying_key, verifying_key_file,
+};
+use slh_host::{Failure, outputs};
 
-/// The text of a key file. A key that gives none is told of under a name.
-pub fn key_file<'a>(
+/// The NAME that the words give a new pair. That of a set is none, since it was meant to be a set,
+/// nor one whose last part is no file's.
+pub fn pair_name<'a>(words: &ArgMatches<'a>) -> Result<&'a str, Failure<'a>> {
+    let name = required(words, names::NAME)?;
+    if Set::from_name(name.as_bytes()).is_some() {
+        return Err(Failure::told(name, WordError::SetAsName));
+    }
+    let last = match name.rsplit_once('/') {
+        Some((_, last)) => last,
+        None => name,
+    };
+    if last.is_empty() || last == "." || last == ".." {
+        return Err(Failure::told(name, WordError::NotName));
+    }
+    Ok(name)
+}
+
+/// The file of a verifying key. A key that gives none is told of under a name.
+pub fn verifying_file<'a>(
     rt: &HostRuntime,
-    kind: Kind,
     key: &Key,
     name: &'a str,
 ) -> Result<ByteString, Failure<'a>> {
-    match encode_key(rt.alloc(), kind, key) {
+    match verifying_key_file(rt.alloc(), key) {
         Ok(text) => Ok(text),
-        Err(error) => Err(Failure::Told(name, Cause::Key(error))),
+        Err(error) => Err(Failure::told(name, error)),
     }
 }
 
-/// Writes the files of a pair, NAME.key and NAME.pub, neither of which may be there.
-pub fn write_pair<'a>(rt: &HostRuntime, name: &'a str, key: &Key) -> Result<Outcome, Failure<'a>> {
-    let secret = key_file(rt, Kind::Signing, key, name)?;
-    let public = public_file(rt, key, name)?;
-    outputs::put_pair(rt, name, secret.as_slice(), public.as_slice())?;
-    Ok(Outcome::Done)
-}
-
-/// The text of the file of a signing key's verifying key.
+/// The file of a signing key's verifying key.
 pub fn public_file<'a>(
     rt: &HostRuntime,
     key: &Key,
     name: &'a str,
 ) -> Result<ByteString, Failure<'a>> {
-    key_file(rt, Kind::Verifying, &verifying_key(rt.alloc(), key)?, name)
+    verifying_file(rt, &verifying_key(rt.alloc(), key)?, name)
+}
+
+// The file of a signing key.
+fn secret_file<'a>(rt: &HostRuntime, key: &Key, name: &'a str) -> Result<SecretText, Failure<'a>> {
+    match signing_key_file(rt.alloc(), key) {
+        Ok(secret) => Ok(secret),
+        Err(error) => Err(Failure::told(name, error)),
+    }
+}
+
+/// Writes the files of a pair, NAME.key and NAME.pub, neither of which may be there.
+pub fn write_pair<'a>(rt: &HostRuntime, name: &'a str, key: &Key) -> Result<Outcome, Failure<'a>> {
+    let secret = secret_file(rt, key, name)?;
+    let public = public_file(rt, key, name)?;
+    outputs::put_pair(rt, name, &secret, public.as_slice())?;
+    Ok(Outcome::Done)
 }

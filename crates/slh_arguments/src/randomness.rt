@@ -2,12 +2,12 @@
 ghost use Rattle.std.specs.Prelude.{◌≡◌};
 ghost use Rattle.std.specs.Option.{option_copied};
 ghost use Rattle.slh_arguments.specs.Randomness.{random_of};
-ghost use Rattle.slh_sets.specs.Sets.{scheme_for};
+ghost use Rattle.slh_host.specs.Sets.{scheme_for};
 
+use crate::names;
 use clap::ArgMatches;
-use slh_paths::{Failure, random};
-use slh_sets::Set;
-use slh_words::names;
+use slh_host::bytes::Set;
+use slh_host::{Failure, random};
 
 /// What randomizers are made from: nothing for `--deterministic`.
 #[derive(Drop)]

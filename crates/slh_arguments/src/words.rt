@@ -1,203 +1,422 @@
-//! What the words of a command stand for.
-use clap::ArgMatches;
-use slh_files::{Key, Kind, Outcome, digits_of, read_key, read_signature, read_signing_key};
-use slh_frames::MAX_CONTEXT;
-use slh_jobs::{ByteString, Mode};
-use slh_paths::{Cause, Failure, files, random};
-use slh_sets::Set;
-use slh_words::names;
+//! The words that the command knows, in tables, and the parser that they make.
+use crate::group_words::groups;
+use crate::names;
+use crate::verbs::{FileVerb, Verb};
+use clap::builder::ValueParser;
+use clap::{Arg, ArgAction, ArgMatches, Command, value_parser};
+use slh_host::bytes::Set;
+use std::alloc::{AllocError, Global};
 
-/// What is put behind the name of a file for the name of its signature.
-pub const SIGNATURE_END: &str = ".sig";
+/// What `--version` prints: the version, and the logic of the toolchain that proved the program.
+const VERSION: &str = "0.21.0 (logic dac8208d650f15bf)";
 
-/// What is put behind the name of a file for the name of its receipt.
-pub const RECEIPT_END: &str = ".receipt";
+const HASHES: [&str; 2] = ["sha256", "sha512"];
 
-/// The contexts that batches, chains, logs and manifests are signed under: each crate that signs
-/// under one of its own has it in this list.
-const RESERVED_CONTEXTS: [&[u8]; 4] = [
-    slh_batch::CONTEXT,
-    slh_chain::CONTEXT,
-    slh_log::CONTEXT,
-    slh_manifest::CONTEXT,
-];
+/// A command that has commands below it.
+#[derive(Drop)]
+pub struct Group {
+    pub name: &'static str,
+    pub about: &'static str,
+    pub subcommands: &'static [Subcommand],
+}
 
-/// What names an input, in any command.
-const INPUTS: [&str; 13] = [
-    names::KEY,
-    names::SIGNATURE,
-    names::HEAD,
-    names::RECEIPT,
-    names::CHAIN,
-    names::SUBJECT,
-    names::MANIFEST,
-    names::MASTER,
-    names::CHECKPOINT,
-    names::OLD,
-    names::NEW,
-    names::PROOF,
-    names::FILE,
-];
+/// A command with no commands below it.
+pub struct Subcommand {
+    pub name: &'static str,
+    pub verb: Verb,
+    pub about: &'static str,
+    pub example: &'static str,
+    pub words: &'static [Word],
+}
 
-/// A value that the command requires.
-pub fn required<'a>(
-    words: &ArgMatches<'a>,
-    name: &'static str,
-) -> Result<&'a str, Failure<'static>> {
-    match words.get_str(name) {
-        Some(value) => Ok(value),
-        None => Err(Failure::Told(name, Cause::Missing)),
+/// An option, a flag or an operand.
+pub struct Word {
+    pub kind: Kind,
+    pub name: &'static str,
+    pub value: &'static str,
+    pub help: &'static str,
+}
+
+/// What a word is.
+#[derive(Clone, Copy)]
+pub enum Kind {
+    /// `--name` alone.
+    Flag,
+    /// An option that may be left out.
+    Optional,
+    /// An option that may be left out, and does not stand with `--context-hex`.
+    Context,
+    /// An option that may be left out, one of `HASHES`.
+    Hash,
+    /// An option that may be left out: a number, or else 0.
+    Number,
+    /// An option.
+    Required,
+    /// An option, the name of a set.
+    Set,
+    /// An option that may be left out, the name of a set.
+    OptionalSet,
+    /// An option that may be left out, and does not stand with `--key-text`.
+    Key,
+    /// One word, which is not empty.
+    Operand,
+    /// One word, which is not empty and may be left out.
+    OptionalOperand,
+    /// One word or more.
+    Operands,
+}
+
+pub const SET: Word = Word {
+    kind: Kind::Set,
+    name: names::SET,
+    value: "SET",
+    help: "The parameter set",
+};
+
+const KEYGEN_SET: Word = Word {
+    kind: Kind::OptionalSet,
+    name: names::SET,
+    value: "SET",
+    help: "The parameter set; SLH-DSA-SHA2-128s if it is left out",
+};
+
+pub const SIGNING_KEY: Word = Word {
+    kind: Kind::Required,
+    name: names::KEY,
+    value: "NAME.key",
+    help: "The signing key",
+};
+
+pub const VERIFYING_KEY: Word = Word {
+    kind: Kind::Key,
+    name: names::KEY,
+    value: "NAME.pub",
+    help: "The verifying key",
+};
+
+pub const KEY_TEXT: Word = Word {
+    kind: Kind::Optional,
+    name: names::KEY_TEXT,
+    value: "TEXT",
+    help: "The verifying key itself, as 'SET HEX'",
+};
+
+pub const SIGNATURE: Word = Word {
+    kind: Kind::Optional,
+    name: names::SIGNATURE,
+    value: "FILE.sig",
+    help: "The signature; FILE.sig if it is left out",
+};
+
+pub const CONTEXT: Word = Word {
+    kind: Kind::Context,
+    name: names::CONTEXT,
+    value: "TEXT",
+    help: "The context, at most 255 bytes",
+};
+
+pub const CONTEXT_HEX: Word = Word {
+    kind: Kind::Optional,
+    name: names::CONTEXT_HEX,
+    value: "HEX",
+    help: "The context in hexadecimal",
+};
+
+pub const PREHASH: Word = Word {
+    kind: Kind::Hash,
+    name: names::PREHASH,
+    value: "HASH",
+    help: "Signs this digest of the file",
+};
+
+const SIGNED_HASH: Word = Word {
+    kind: Kind::Hash,
+    name: names::PREHASH,
+    value: "HASH",
+    help: "This digest of the file was signed",
+};
+
+const SIGNED_FILES: Word = Word {
+    kind: Kind::Operands,
+    name: names::FILES,
+    value: "FILE",
+    help: "The files; - is standard input",
+};
+
+pub const DETERMINISTIC: Word = Word {
+    kind: Kind::Flag,
+    name: names::DETERMINISTIC,
+    value: "",
+    help: "Signs without random bytes",
+};
+
+pub const FILE: Word = Word {
+    kind: Kind::Operand,
+    name: names::FILE,
+    value: "FILE",
+    help: "The file; - is standard input",
+};
+
+pub const NAME: Word = Word {
+    kind: Kind::Operand,
+    name: names::NAME,
+    value: "NAME",
+    help: "The files' name, without .key and .pub",
+};
+
+pub const OUTPUT: Word = Word {
+    kind: Kind::Optional,
+    name: names::OUTPUT,
+    value: "FILE",
+    help: "Where it goes, in place of standard output",
+};
+
+pub const JSON: Word = Word {
+    kind: Kind::Flag,
+    name: names::JSON,
+    value: "",
+    help: "Tells the verdict as an object of JSON",
+};
+
+const AUDIT: Word = Word {
+    kind: Kind::Flag,
+    name: names::AUDIT,
+    value: "",
+    help: "Makes the signature twice, and compares, before it is written",
+};
+
+const SIGNATURE_OUTPUT: Word = Word {
+    kind: Kind::Optional,
+    name: names::OUTPUT,
+    value: "FILE.sig",
+    help: "Where the signature goes; - is standard output",
+};
+
+const EVIDENCE: Word = Word {
+    kind: Kind::Required,
+    name: names::EVIDENCE,
+    value: "WORDS",
+    help: "What an audit printed after foreign",
+};
+
+const KEYGEN: Subcommand = Subcommand {
+    name: "keygen",
+    verb: Verb::File(FileVerb::Keygen),
+    about: "Makes a key of random bytes: NAME.key, which is secret, and NAME.pub",
+    example: "Example:\n    slh keygen --set SLH-DSA-SHA2-128f release",
+    words: &[KEYGEN_SET, NAME],
+};
+
+const PUBLIC: Subcommand = Subcommand {
+    name: "public",
+    verb: Verb::File(FileVerb::Public),
+    about: "Writes the verifying key of a signing key",
+    example: "Example:\n    slh public --key release.key --output release.pub",
+    words: &[SIGNING_KEY, OUTPUT],
+};
+
+const SIGN: Subcommand = Subcommand {
+    name: "sign",
+    verb: Verb::File(FileVerb::Sign),
+    about: "Signs a file; the signature goes to FILE.sig",
+    example: "Example:\n    slh sign --key release.key --audit notes.txt",
+    words: &[
+        SIGNING_KEY,
+        CONTEXT,
+        CONTEXT_HEX,
+        PREHASH,
+        FILE,
+        DETERMINISTIC,
+        AUDIT,
+        SIGNATURE_OUTPUT,
+    ],
+};
+
+const VERIFY: Subcommand = Subcommand {
+    name: "verify",
+    verb: Verb::File(FileVerb::Verify),
+    about: "Verifies the signatures of files: accepted (0) or invalid (1)",
+    example: "Example:\n    slh verify --key release.pub notes.txt",
+    words: &[
+        VERIFYING_KEY,
+        KEY_TEXT,
+        SIGNATURE,
+        CONTEXT,
+        CONTEXT_HEX,
+        SIGNED_HASH,
+        JSON,
+        SIGNED_FILES,
+    ],
+};
+
+const AUDIT_COMMAND: Subcommand = Subcommand {
+    name: "audit",
+    verb: Verb::File(FileVerb::Audit),
+    about: "Tells whether a key made a signature: genuine (0), foreign or invalid (1)",
+    example: "Example:\n    \
+              slh audit --key release.key --signature notes.txt.sig notes.txt",
+    words: &[
+        SIGNING_KEY,
+        SIGNATURE,
+        CONTEXT,
+        CONTEXT_HEX,
+        PREHASH,
+        JSON,
+        FILE,
+    ],
+};
+
+const EVIDENCE_COMMAND: Subcommand = Subcommand {
+    name: "evidence",
+    verb: Verb::File(FileVerb::Evidence),
+    about: "Tells whether evidence shows against a signature: shown (0) or not shown (1)",
+    example: "Example:\n    slh evidence --key release.key --signature notes.txt.sig \
+              --evidence 'early 0 1' notes.txt",
+    words: &[
+        SIGNING_KEY,
+        SIGNATURE,
+        EVIDENCE,
+        CONTEXT,
+        CONTEXT_HEX,
+        PREHASH,
+        JSON,
+        FILE,
+    ],
+};
+
+const INSPECT: Subcommand = Subcommand {
+    name: "inspect",
+    verb: Verb::File(FileVerb::Inspect),
+    about: "Tells what a key or a signature is, and nothing that is secret",
+    example: "Example:\n    slh inspect release.key",
+    words: &[FILE],
+};
+
+// (in a function of its own, a table stands in no other function's proof)
+fn subcommands() -> &'static [Subcommand] {
+    &[
+        KEYGEN,
+        PUBLIC,
+        SIGN,
+        VERIFY,
+        AUDIT_COMMAND,
+        EVIDENCE_COMMAND,
+        INSPECT,
+    ]
+}
+
+/// The command and its subcommands.
+pub fn command<'a>(alloc: Global) -> Result<Command<'a>, AllocError> {
+    let mut command = with_subcommands(alloc, root(alloc), subcommands())?;
+    for group in groups() {
+        command = command.subcommand(group_command(alloc, group)?)?;
+    }
+    Ok(command)
+}
+
+// What the row of a name asks for.
+fn verb_in(rows: &[Subcommand], name: &str) -> Option<Verb> {
+    match rows.iter().find(|row| row.name == name) {
+        Some(row) => Some(row.verb),
+        None => None,
     }
 }
 
-/// The values that the command requires, one or more.
-pub fn required_all<'s, 'a>(
-    words: &'s ArgMatches<'a>,
-    name: &'static str,
-) -> Result<&'s [&'a str], Failure<'static>> {
-    match words.get_strs(name) {
-        Some(values) => Ok(values),
-        None => Err(Failure::Told(name, Cause::Missing)),
+/// What the words ask for, and the words of its row.
+pub fn chosen<'m, 'a>(matches: &'m ArgMatches<'a>) -> Option<(Verb, &'m ArgMatches<'a>)> {
+    let (name, words) = matches.subcommand()?;
+    if let Some(verb) = verb_in(subcommands(), name) {
+        return Some((verb, words));
+    }
+    let groups = groups();
+    let group = groups.iter().find(|group| group.name == name)?;
+    let (name, words) = words.subcommand()?;
+    Some((verb_in(group.subcommands, name)?, words))
+}
+
+fn root<'a>(alloc: Global) -> Command<'a> {
+    let about = "Signs and verifies files by SLH-DSA over SHA-2 (FIPS 205)";
+    parent(alloc, "slh", about).version(VERSION).after_help(
+        "The status is 0, or 1 where a verdict says no, or 2 for all else.\n\n\
+         Example:\n    slh keygen release\n    \
+         slh sign --key release.key notes.txt\n    \
+         slh verify --key release.pub notes.txt",
+    )
+}
+
+// A command that one below it has to follow.
+fn parent<'a>(alloc: Global, name: &'a str, about: &'a str) -> Command<'a> {
+    Command::new(alloc, name)
+        .about(about)
+        .subcommand_required(true)
+        .arg_required_else_help(true)
+}
+
+fn group_command<'a>(alloc: Global, group: Group) -> Result<Command<'a>, AllocError> {
+    let command = parent(alloc, group.name, group.about);
+    with_subcommands(alloc, command, group.subcommands)
+}
+
+fn with_subcommands<'a>(
+    alloc: Global,
+    mut command: Command<'a>,
+    rows: &'static [Subcommand],
+) -> Result<Command<'a>, AllocError> {
+    for row in rows {
+        command = command.subcommand(command_of(alloc, row)?)?;
+    }
+    Ok(command)
+}
+
+fn command_of<'a>(alloc: Global, row: &'static Subcommand) -> Result<Command<'a>, AllocError> {
+    let mut command = Command::new(alloc, row.name)
+        .about(row.about)
+        .after_help(row.example);
+    for word in row.words {
+        command = command.arg(arg_of(alloc, word)?)?;
+    }
+    Ok(command)
+}
+
+fn arg_of<'a>(alloc: Global, word: &'static Word) -> Result<Arg<'a>, AllocError> {
+    let arg = Arg::new(alloc, word.name).help(word.help);
+    match word.kind {
+        Kind::Flag => Ok(arg.long(word.name).action(ArgAction::SetTrue)),
+        Kind::Operand | Kind::OptionalOperand => Ok(with_value(arg, word)),
+        Kind::Operands => Ok(with_value(arg, word).num_args(1usize..)),
+        Kind::Context => with_value(arg.long(word.name), word).conflicts_with(names::CONTEXT_HEX),
+        Kind::Key => with_value(arg.long(word.name), word).conflicts_with(names::KEY_TEXT),
+        _ => Ok(with_value(arg.long(word.name), word)),
     }
 }
 
-/// The set of `--set`.
-pub fn set_of(words: &ArgMatches<'_>) -> Result<Set, Failure<'static>> {
-    match Set::from_name(required(words, names::SET)?.as_bytes()) {
-        Some(set) => Ok(set),
-        None => Err(Failure::Told("--set", Cause::NoSet)),
+fn with_value<'a>(arg: Arg<'a>, word: &'static Word) -> Arg<'a> {
+    arg.value_name(word.value)
+        .value_parser(parser_of(word.kind))
+        .default_values(defaults_of(word.kind))
+        .required(is_required(word.kind))
+}
+
+fn parser_of(kind: Kind) -> ValueParser<'static> {
+    match kind {
+        Kind::Set | Kind::OptionalSet => ValueParser::Names(&Set::NAMES),
+        Kind::Hash => ValueParser::Names(&HASHES),
+        Kind::Number => value_parser!(u8),
+        Kind::Operand | Kind::OptionalOperand | Kind::Operands => ValueParser::NonEmptyString,
+        _ => ValueParser::String,
     }
 }
 
-/// Refuses words by which more than one file is standard input.
-pub fn check_inputs(words: &ArgMatches<'_>) -> Result<(), Failure<'static>> {
-    let mut inputs = 0u8;
-    for name in INPUTS {
-        if words.get_str(name) == Some(files::STANDARD) {
-            inputs = inputs.saturating_add(1);
-        }
-    }
-    if inputs > 1 {
-        return Err(Failure::Alone(Cause::TwoInputs));
-    }
-    Ok(())
-}
-
-/// Refuses an output at the place of an input of these names.
-pub fn check_output<'a>(
-    rt: &HostRuntime,
-    words: &ArgMatches<'a>,
-    names: &[&str],
-    output: &str,
-) -> Result<(), Failure<'a>> {
-    for name in names {
-        if let Some(input) = words.get_str(name)
-            && files::are_one(rt, input, output)
-        {
-            return Err(Failure::Told(input, Cause::OverInput));
-        }
-    }
-    Ok(())
-}
-
-/// Whether the file or its digest is signed.
-pub fn mode(words: &ArgMatches<'_>) -> Result<Mode, Failure<'static>> {
-    match words.get_str(names::PREHASH) {
-        Some("sha256") => Ok(Mode::Sha256),
-        Some("sha512") => Ok(Mode::Sha512),
-        Some(_) => Err(Failure::Told("--prehash", Cause::NoHash)),
-        None => Ok(Mode::Pure),
+fn defaults_of(kind: Kind) -> &'static [&'static str] {
+    match kind {
+        Kind::Number => &["0"],
+        _ => &[],
     }
 }
 
-/// The context of `--context` or `--context-hex`, or none. Those of batches, chains, logs and
-/// manifests are refused: what they sign is nothing else's.
-pub fn context(rt: &HostRuntime, words: &ArgMatches<'_>) -> Result<ByteString, Failure<'static>> {
-    let context = match words.get_str(names::CONTEXT_HEX) {
-        Some(digits) => match digits_of(rt.alloc(), digits.as_bytes())? {
-            Some(bytes) => bytes,
-            None => return Err(Failure::Told("--context-hex", Cause::NotHexadecimal)),
-        },
-        None => {
-            let context = words.get_str(names::CONTEXT).unwrap_or("");
-            ByteString::from_slice(rt.alloc(), context.as_bytes())?
-        }
-    };
-    if context.len() > MAX_CONTEXT {
-        return Err(Failure::Alone(Cause::Context));
-    }
-    if RESERVED_CONTEXTS.contains(&context.as_slice()) {
-        return Err(Failure::Alone(Cause::ReservedContext));
-    }
-    Ok(context)
-}
-
-/// The key of a file.
-pub fn key_of_kind<'a>(rt: &HostRuntime, kind: Kind, path: &'a str) -> Result<Key, Failure<'a>> {
-    let file = files::read_limited(rt, path)?;
-    match read_key(rt.alloc(), kind, file.as_slice()) {
-        Ok(key) => Ok(key),
-        Err(error) => Err(Failure::Told(path, Cause::Key(error))),
-    }
-}
-
-/// The verifying key of `--key` or `--key-text`.
-pub fn verifying_key<'a>(rt: &HostRuntime, words: &ArgMatches<'a>) -> Result<Key, Failure<'a>> {
-    let Some(text) = words.get_str(names::KEY_TEXT) else {
-        return match words.get_str(names::KEY) {
-            Some(path) => key_of_kind(rt, Kind::Verifying, path),
-            None => Err(Failure::Told("--key", Cause::KeyMissing)),
-        };
-    };
-    match read_key(rt.alloc(), Kind::Verifying, text.as_bytes()) {
-        Ok(key) => Ok(key),
-        Err(error) => Err(Failure::Told("--key-text", Cause::Key(error))),
-    }
-}
-
-/// The signing key of `--key`, whose root is that of its own seeds.
-pub fn signing_key<'a>(rt: &HostRuntime, words: &ArgMatches<'a>) -> Result<Key, Failure<'a>> {
-    let path = required(words, names::KEY)?;
-    let file = files::read_limited(rt, path)?;
-    match read_signing_key(rt.alloc(), file.as_slice()) {
-        Ok(key) => Ok(key),
-        Err(error) => Err(Failure::Told(path, Cause::Key(error))),
-    }
-}
-
-// The file of an option, or where it is left out what stands beside FILE, as a path and an ending.
-fn named_or_beside<'a>(
-    words: &ArgMatches<'a>,
-    name: &'static str,
-    option: &'static str,
-    end: &'static str,
-) -> Result<(&'a str, &'static str), Failure<'a>> {
-    if let Some(path) = words.get_str(name) {
-        return Ok((path, ""));
-    }
-    match required(words, names::FILE)? {
-        files::STANDARD => Err(Failure::Told(option, Cause::NothingBeside)),
-        path => Ok((path, end)),
-    }
-}
-
-/// The file of `--receipt`, or FILE.receipt, as a path and an ending.
-pub fn receipt_name<'a>(words: &ArgMatches<'a>) -> Result<(&'a str, &'static str), Failure<'a>> {
-    named_or_beside(words, names::RECEIPT, "--receipt", RECEIPT_END)
-}
-
-/// The signature of `--signature`, or of FILE.sig, of the length that the set's have.
-pub fn signature<'a>(
-    rt: &HostRuntime,
-    words: &ArgMatches<'a>,
-    set: Set,
-) -> Result<ByteString, Failure<'a>> {
-    let (path, end) = named_or_beside(words, names::SIGNATURE, "--signature", SIGNATURE_END)?;
-    let file = files::read_beside(rt, path, end)?;
-    let signature = read_signature(rt.alloc(), set, file)?;
-    if signature.len() == set.signature_len() {
-        Ok(signature)
-    } else {
-        Err(Failure::Beside(path, end, Cause::NotSignature(set)))
-    }
+fn is_required(kind: Kind) -> bool {
+    matches!(
+        kind,
+        Kind::Required | Kind::Set | Kind::Operand | Kind::Operands
+    )
 }

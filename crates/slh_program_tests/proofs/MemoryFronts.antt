@@ -1,7 +1,7 @@
 -- The first bytes of a file in memory.
 use Rattle.std.proofs.Common.{◌≡◌, ◌∙◌, ap, List, ℕ, Option, None, Some, option_map, take}
 use Rattle.whole_files.specs.Files.{Node}
-use Rattle.slh_paths.specs.Outputs.{IsFront}
+use Rattle.slh_host.specs.Outputs.{IsFront}
 
 pub front_is : (here : Option Node) (bytes front : List ℕ) → Some bytes ≡ option_map (λ (node : Node). node.bytes) here
     → front ≡ take 65536 bytes → IsFront here front

@@ -1,7 +1,7 @@
-//! Chains, manifests and records that `slh_command` makes are taken by it, and keys of a ring.
+//! Chains, manifests and records that `slh_bytes` makes are taken by it, and keys of a ring.
 use crate::keys::{SET, signing, verifying};
 use crate::shown::shows;
-use slh_command::{
+use slh_bytes::{
     RecordError, check_manifest, key_at, last_key, new_link, record_of, restored_paths,
     seal_manifest,
 };

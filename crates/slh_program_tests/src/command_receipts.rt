@@ -1,8 +1,8 @@
-//! A batch that `slh_command` seals, its head and its receipts.
+//! A batch that `slh_bytes` seals, its head and its receipts.
 use crate::keys::{SET, signing, verifying};
 use crate::shown::shows;
 use slh_batch::{Batch, Place};
-use slh_command::{Receipts, SealError, accept_receipt, accept_receipt_under_head, seal_batch};
+use slh_bytes::{Receipts, SealError, accept_receipt, accept_receipt_under_head, seal_batch};
 use std::alloc::{AllocError, Global};
 
 // The head that comes first, and receipts, up to so many.

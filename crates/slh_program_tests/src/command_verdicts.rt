@@ -1,6 +1,6 @@
-//! Verdicts of `slh_command` in JSON, by the text that RFC 8259 has for them.
+//! Verdicts of `slh_bytes` in JSON, by the text that RFC 8259 has for them.
 use crate::shown::shows;
-use slh_command::{Detail, verdict_json};
+use slh_bytes::{Detail, verdict_json};
 use std::alloc::Global;
 
 fn is_told(alloc: Global, word: &str, detail: Detail<'_>, line: &str) -> bool {

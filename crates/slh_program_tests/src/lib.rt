@@ -1,7 +1,7 @@
-//! Tests from outside of what the program `slh` is made of: of `slh_command` (`command_`),
-//! `slh_readers` (`reader_`), `slh_paths` (`path_`) and `slh_files` (`key_files`), and of `slh_log`
-//! and `slh_log_tasks` (`log_`) what goes over bytes alone: heads under a key of the Rust crate,
-//! the tree of the Certificate Transparency project, texts of proofs that Python made.
+//! Tests from outside of what the program `slh` is made of: of `slh_bytes` what is done with keys
+//! (`key_files`), with what is read in pieces (`reader_`), with batches, chains, manifests and rings
+//! (`command_`) and with logs (`log_`: heads under a key of the Rust crate, the tree of the Certificate
+//! Transparency project, texts of proofs that Python made), and the outputs of `slh_host` (`path_`).
 #![tactic(auto)]
 
 #[cfg(test)]

@@ -2,8 +2,8 @@
 use crate::shown::shows_at;
 use hex::FromHex;
 use hmac_sha256::Hash;
+use slh_bytes::{open_head, sign_head};
 use slh_log::Checkpoint;
-use slh_log_tasks::heads::{open_head, sign_head};
 use slh_sets::Set;
 use std::alloc::Global;
 

@@ -3,7 +3,7 @@
 use crate::log_heads::digest;
 use crate::shown::{shows, shows_at};
 use hmac_sha256::Hash;
-use slh_log_tasks::proof_files::{ProofError, Purpose, proof_text, read_proof};
+use slh_bytes::{ProofError, Purpose, proof_text, read_proof};
 use std::alloc::Global;
 
 const CHECKPOINT: &[u8] = b"example.com/log\n8\nXcnaeacGWamtVZy3Ad7ZoqudgjqtL0lgz+Nw7/RgQyg=\n\n\

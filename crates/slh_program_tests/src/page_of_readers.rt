@@ -1,9 +1,8 @@
-//! The example of the page of `slh_readers`.
+//! The example of the page of `slh_bytes`.
 use crate::readers::{public, signing};
 use crate::shown::shows;
-use slh_files::Key;
+use slh_bytes::{Key, ReadError, sign_twice, verify};
 use slh_jobs::{ByteString, Error, Mode};
-use slh_readers::{ReadError, sign_twice, verify};
 use std::alloc::Global;
 
 fn signed(alloc: Global, key: &Key, file: &[u8]) -> Result<ByteString, ReadError> {

@@ -1,9 +1,9 @@
-//! The first bytes of files in memory, for outputs of `slh_paths`.
+//! The first bytes of files in memory, for outputs of `slh_host`.
 ghost use Rattle.std.specs.Prelude.{◌≡◌, ◌≤◌, IfOk, take};
 ghost use Rattle.whole_files.specs.Causes.{RoseBy};
 
+use slh_host::Fronts;
 use slh_jobs::ByteString;
-use slh_paths::Fronts;
 use std::alloc::Global;
 use whole_files::{Failed, MemFiles};
 

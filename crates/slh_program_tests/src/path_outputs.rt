@@ -1,9 +1,9 @@
-//! Outputs of `slh_paths` over files in memory: secrets are kept, and what can't be looked at, and
-//! what is none is replaced.
+//! Outputs of `slh_host` over files in memory: secrets are kept, and what can't be looked at, and
+//! verifying keys where they are to be, and what is none of these is replaced.
 use crate::path_fronts::MemFronts;
 use crate::shown::{shows, shows_at};
+use slh_host::{Fronts, Kept, PutError, put_whole};
 use slh_jobs::ByteString;
-use slh_paths::{Fronts, PutError, put_whole};
 use std::alloc::{AllocError, Global};
 use whole_files::{Failed, Kind, MemFiles, Mode, WriteError, Written};
 
@@ -27,9 +27,16 @@ const SECRETS: &str = "A key of ours:\n\
     |00 ff\n\
     |ab";
 
-const OTHERS: &str =
+// The verifying key of that pair as a line and in PEM, and a label.
+const VERIFYING_KEYS: &str =
     "SLH-DSA-SHA2-128f cd6504272444ef6813a09266dc981621fa007d70834ea0864cbe677d4b005ba9\n\
-    || \n|-|abc|0x|-----BEGIN PUBLIC KEY-----";
+    |-----BEGIN PUBLIC KEY-----\n\
+    MDAwCwYJYIZIAWUDBAMVAyEAzWUEJyRE72gToJJm3JgWIfoAfXCDTqCGTL5nfUsA\n\
+    W6k=\n\
+    -----END PUBLIC KEY-----\n\
+    |-----BEGIN PUBLIC KEY-----";
+
+const OTHERS: &str = "| \n|-|abc|0x|SLH-DSA-SHA2-128f cd65";
 
 fn has(files: &MemFiles, path: &str, bytes: &[u8]) -> bool {
     match files.bytes(path) {
@@ -40,6 +47,7 @@ fn has(files: &MemFiles, path: &str, bytes: &[u8]) -> bool {
 
 fn put_new<R: Fronts<MemFiles>>(
     alloc: Global,
+    kept: Kept,
     files: &mut MemFiles,
     fronts: &mut R,
     path: &str,
@@ -47,13 +55,14 @@ fn put_new<R: Fronts<MemFiles>>(
     if path == "part" {
         return Err(PutError::Memory);
     }
-    put_whole(alloc, files, fronts, path, "part", b"new")
+    put_whole(alloc, kept, files, fronts, path, "part", b"new")
 }
 
 // Whether an output over a file with these bytes is answered so, in so many calls, and leaves the
 // file with other ones, in its mode, and nothing beside it.
 fn is_put(
     alloc: Global,
+    kept: Kept,
     old: &str,
     answer: Result<Written, PutError>,
     calls: u64,
@@ -62,7 +71,7 @@ fn is_put(
     let mut files = MemFiles::new(alloc, Vec::new(alloc), u64::MAX);
     files.put("other", Kind::Regular, 0o644, b"else")?;
     files.put("at", Kind::Regular, 0o640, old.as_bytes())?;
-    let put = put_new(alloc, &mut files, &mut MemFronts::new(alloc), "at");
+    let put = put_new(alloc, kept, &mut files, &mut MemFronts::new(alloc), "at");
     Ok(
         put == answer
             && files.calls() == calls
@@ -77,16 +86,49 @@ fn is_put(
 #[test]
 fn a_secret_is_not_replaced(rt: HostRuntime) {
     for old in SECRETS.split('|') {
-        let kept = is_put(rt.alloc(), old, Err(PutError::Secret), 1, old);
+        let kept = is_put(
+            rt.alloc(),
+            Kept::Secrets,
+            old,
+            Err(PutError::Secret),
+            1,
+            old,
+        );
+        shows_at(&rt, old, kept == Ok(true));
+    }
+}
+
+#[test]
+fn a_verifying_key_is_not_replaced_where_it_is_kept(rt: HostRuntime) {
+    for old in VERIFYING_KEYS.split('|') {
+        let kept = is_put(rt.alloc(), Kept::Keys, old, Err(PutError::Key), 1, old);
         shows_at(&rt, old, kept == Ok(true));
     }
 }
 
 // It is looked at twice, made, written, brought to the disk, renamed, and its folder brought there.
+const CALLS: u64 = 7;
+
 #[test]
-fn what_is_no_secret_is_replaced(rt: HostRuntime) {
+fn a_verifying_key_is_replaced_by_another(rt: HostRuntime) {
+    for old in VERIFYING_KEYS.split('|') {
+        let written = Ok(Written::Settled);
+        let replaced = is_put(rt.alloc(), Kept::Secrets, old, written, CALLS, "new");
+        shows_at(&rt, old, replaced == Ok(true));
+    }
+}
+
+#[test]
+fn what_is_no_key_is_replaced(rt: HostRuntime) {
     for old in OTHERS.split('|') {
-        let replaced = is_put(rt.alloc(), old, Ok(Written::Settled), 7, "new");
+        let replaced = is_put(
+            rt.alloc(),
+            Kept::Keys,
+            old,
+            Ok(Written::Settled),
+            CALLS,
+            "new",
+        );
         shows_at(&rt, old, replaced == Ok(true));
     }
 }
@@ -113,7 +155,7 @@ fn is_kept<R: Fronts<MemFiles>>(
 ) -> Result<bool, AllocError> {
     let mut files = MemFiles::new(alloc, vec![in alloc; call]?, u64::MAX);
     files.put("at", Kind::Regular, 0o640, b"old")?;
-    let put = put_new(alloc, &mut files, fronts, "at");
+    let put = put_new(alloc, Kept::Keys, &mut files, fronts, "at");
     Ok(put == Err(error) && files.count() == 1 && has(&files, "at", b"old"))
 }
 

@@ -1,8 +1,8 @@
-//! What `slh_readers` refuses, and faults of readers.
+//! What `slh_bytes` refuses, and faults of readers.
 use crate::readers::{Broken, is_broken, is_refused, public, signing};
 use crate::shown::shows;
+use slh_bytes::{Fallible, sign_digest, sign_twice, verify};
 use slh_jobs::{Error, Mode};
-use slh_readers::{Fallible, sign_digest, sign_twice, verify};
 use std::alloc::Global;
 use std::io::Read;
 

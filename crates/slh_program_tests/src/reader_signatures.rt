@@ -3,9 +3,10 @@
 use crate::readers::{is_changed, public, signing, slowly};
 use crate::shown::shows;
 use hmac_sha256::Hash;
-use slh_files::{Key, evidence_of};
+use slh_bytes::{
+    Key, ReadError, audit, check_evidence, evidence_of, sign_digest, sign_twice, verify,
+};
 use slh_jobs::{ByteString, Error, Mode, Verdict};
-use slh_readers::{ReadError, audit, check_evidence, sign_digest, sign_twice, verify};
 use std::alloc::Global;
 
 // The numbers from 0 on, which are a randomizer.

@@ -1,7 +1,6 @@
 //! Readers in memory, and a key.
-use slh_files::{Key, made_key, verifying_key};
+use slh_bytes::{Fallible, Key, ReadError, made_key, verifying_key};
 use slh_jobs::Error;
-use slh_readers::{Fallible, ReadError};
 use slh_sets::Set;
 use std::alloc::Global;
 use std::io::{self, ErrorKind, Read};

@@ -1,0 +1,6 @@
+mod Canonical
+mod Encodings
+mod Decoding
+mod Lists
+mod Texts
+mod ReadBack

@@ -1,0 +1,28 @@
+use Rattle.std.proofs.Common.{[], refl}
+use Rattle.std.specs.Prelude.{IsTrue}
+use Rattle.slh_bytes.specs.Jobs.{verdict_by}
+use Rattle.slh_bytes.proofs.Audits.{audited, refused, undigested}
+use Rattle.slh_bytes.proofs.auditing.AuditingOnSet.on.Goals as goal
+use Rattle.slh_jobs.specs.Judgement.{answer_to}
+use Rattle.slh_jobs.specs.declared.job.Job.TheVariants.{Audit}
+
+pub returns-in_err-digest_read : goal.returns-in_err-digest_read
+returns-in_err-digest_read g c =
+    let Z = g.P.ForsSizes.scheme in
+    let d = c.args.self.claim in
+    undigested Z d.key.now d.context.now d.signature.now d.mode _ _ [] verdict_by (λ e. refl)
+    (λ m. answer_to Z (Audit d.mode d.key.now d.context.now m d.signature.now)) c.from_residual.result c.in_err-digest_read.field-0.0
+    c.in_err-digest_read.ensures c.from_residual.ensures.1
+
+pub returns-in_err-audit_for_digest : goal.returns-in_err-audit_for_digest
+returns-in_err-audit_for_digest g c =
+    let Z = g.P.ForsSizes.scheme in
+    let d = c.args.self.claim in
+    refused Z d.key.now d.context.now d.signature.now d.mode _ _ _ _ c.in_err-audit_for_digest.field-0.0 c.from_residual-in_err-audit_for_digest.result
+    c.in_ok-digest_read.ensures c.in_err-audit_for_digest.ensures c.from_residual-in_err-audit_for_digest.ensures.1
+
+pub returns : goal.returns
+returns g c =
+    let Z = g.P.ForsSizes.scheme in
+    let d = c.args.self.claim in
+    audited Z d.key.now d.context.now d.signature.now d.mode (IsTrue g.R.Input.may_fail) _ _ _ _ c.in_ok-digest_read.ensures c.in_ok-audit_for_digest.ensures

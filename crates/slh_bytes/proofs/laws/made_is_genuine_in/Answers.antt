@@ -1,0 +1,10 @@
+use Rattle.slh_core.specs.Parameters.{scheme_of}
+use Rattle.slh_bytes.proofs.Genuine.{made_is_genuine}
+use Rattle.slh_bytes.proofs.laws.made_is_genuine_in.Goals as goal
+
+pub returns : goal.returns
+returns g c =
+    let Z = scheme_of g.P.HashSuite.suite g.P.N.ArraySize.USIZE g.P.XmssSizes.H_PRIME g.P.HypertreeSizes.D g.P.ForsSizes.A g.P.ForsSizes.K in
+    let law = g.met.P.HashSuite.lengths g.met.P.WotsSizes.valid_wots.n_high in
+    rw g.met.P.ForsSizes.scheme_is
+    (made_is_genuine Z law g.met.P.HypertreeSizes.valid_hypertree.layers)

@@ -1,5 +1,0 @@
-mod Keys
-mod Opened
-mod Checks
-mod Escapes
-mod Texts

@@ -1,2 +1,0 @@
-pub mod Inspection
-pub mod Signatures

@@ -1,5 +1,0 @@
-use Rattle.slh_files.proofs.OwnKeys.{made_is_read}
-use Rattle.slh_files.proofs.laws.made_is_read.Goals as goal
-
-pub returns : goal.returns
-returns c = made_is_read c.args.set c.run.ensures

@@ -1,5 +1,0 @@
-use Rattle.log_files.specs.Names.{HaveFullNames}
-use Rattle.slh_log_tasks.proofs.appending.push_lines.Given as goal
-
-abbrev pub invariant-loop-line : goal.invariant-loop-line
-invariant-loop-line l = HaveFullNames l.log.tiles.count l.log.bundles.items l.log.full_tiles.items

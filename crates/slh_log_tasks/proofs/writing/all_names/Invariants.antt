@@ -1,6 +1,0 @@
-use Rattle.std.proofs.Common.{take}
-use Rattle.slh_log_tasks.specs.Writing.{AreNamesOf}
-use Rattle.slh_log_tasks.proofs.writing.all_names.Given as goal
-
-abbrev pub invariant-loop-file : goal.invariant-loop-file
-invariant-loop-file l = AreNamesOf l.folder.path.now (take l.file-index l.log_files) l.names.items

@@ -1,2 +1,0 @@
-mod Over
-mod Names

@@ -1,3 +1,0 @@
-pub mod Secrets
-pub mod Outputs
-pub mod Shown

@@ -1,6 +1,0 @@
-use Rattle.slh_readers.proofs.Handing.{on_ok}
-use Rattle.slh_readers.proofs.absorber.FirstPassAbsorber.absorb.Goals as goal
-
-pub returns-clause-joins : goal.returns-clause-joins
-returns-clause-joins g c =
-    on_ok c.update.result (λ joins terms m stood. joins terms.key terms.opt_rand terms.context m stood) c.update.ensures.joins

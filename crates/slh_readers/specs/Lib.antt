@@ -1,4 +1,0 @@
-pub mod Terms
-pub mod Reading
-pub mod Answers
-pub mod Digested
