@@ -10,7 +10,7 @@ _slh() {
         words='SLH-DSA-SHA2-128s SLH-DSA-SHA2-128f SLH-DSA-SHA2-192s SLH-DSA-SHA2-192f
             SLH-DSA-SHA2-256s SLH-DSA-SHA2-256f' ;;
     --prehash) words='sha256 sha512' ;;
-    --context | --context-hex | --depth | --evidence | --from | --key-text | --name | --origin | --path) return ;;
+    --context | --context-hex | --depth | --dsse | --evidence | --from | --key-text | --name | --origin | --path) return ;;
     esac
     if [ -z "$words" ] && [ "$COMP_CWORD" -eq 1 ]; then
         words='keygen public sign verify audit evidence inspect batch manifest chain ring log
@@ -31,9 +31,11 @@ _slh() {
         'keygen '*) words='--set --help' ;;
         'public '*) words='--key --output --help' ;;
         'sign '*)
-            words='--key --context --context-hex --prehash --deterministic --audit --output --help' ;;
+            words='--key --context --context-hex --prehash --dsse --deterministic --audit --output
+                --help' ;;
         'verify '*)
-            words='--key --key-text --signature --context --context-hex --prehash --json --help' ;;
+            words='--key --key-text --signature --context --context-hex --prehash --dsse --payload
+                --json --help' ;;
         'audit '*) words='--key --signature --context --context-hex --prehash --json --help' ;;
         'evidence '*)
             words='--key --signature --evidence --context --context-hex --prehash --json --help' ;;

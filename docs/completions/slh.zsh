@@ -330,6 +330,7 @@ _slh() {
                 '(--context-hex)--context=[The context, at most 255 bytes]:TEXT: ' \
                 '(--context)--context-hex=[The context in hexadecimal]:HEX: ' \
                 '--prehash=[Signs this digest of the file]:HASH:_slh_hash' \
+                '--dsse=[Signs it as a payload of this type, in a DSSE envelope, FILE.dsse]:TYPE: ' \
                 '--deterministic[Signs without random bytes]' \
                 '--audit[Makes the signature twice, and compares, before it is written]' \
                 '--output=[Where the signature goes; - is standard output]:FILE.sig:_files -g "*.sig"' \
@@ -344,6 +345,8 @@ _slh() {
                 '(--context-hex)--context=[The context, at most 255 bytes]:TEXT: ' \
                 '(--context)--context-hex=[The context in hexadecimal]:HEX: ' \
                 '--prehash=[This digest of the file was signed]:HASH:_slh_hash' \
+                '--dsse=[The files are DSSE envelopes, with payloads of this type]:TYPE: ' \
+                '--payload=[Where an envelope'\''s payload goes once it is accepted; - is standard output]:FILE:_files' \
                 '--json[Tells the verdict as an object of JSON]' \
                 '*:FILE:_files'
             ;;

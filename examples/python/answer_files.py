@@ -6,7 +6,9 @@ All are of the set SLH-DSA-SHA2-128f, by second_reading.py. Those below `known` 
 the stored run have to write; the others are read by them.
 """
 
+import base64
 import hashlib
+import json
 import sys
 from pathlib import Path
 from struct import pack
@@ -107,6 +109,46 @@ def signatures(key, hello):
     }
 
 
+def signed_text(payload_type, payload):
+    """What is signed of an envelope of DSSE 1.0."""
+    return b"DSSEv1 %d %b %d %b" % (len(payload_type), payload_type, len(payload), payload)
+
+
+def signature_by(key, signature):
+    """A signature of an envelope, with the id of a key."""
+    return {"keyid": hashlib.sha256(second.verifying(key)).hexdigest()} | nameless(signature)
+
+
+def nameless(signature, code=base64.b64encode):
+    """A signature without an id."""
+    return {"sig": code(signature).decode()}
+
+
+def envelope(payload_type, payload, *signatures, **others):
+    members = {"payload": base64.b64encode(payload).decode(), "payloadType": payload_type.decode()}
+    return json.dumps(members | {"signatures": signatures} | others, separators=(",", ":")).encode() + b"\n"
+
+
+def envelopes(key, hello):
+    """The notes in envelopes: signed by the key; with a bit of the signature turned, under the key's id and
+    under none; signed by another key, with its id; by the key with that id; and by both without ids, one in
+    base64 for URLs."""
+    text = signed_text(b"text/plain", NOTES)
+    own, others = second.sign(key, text), second.sign(hello, text)
+    both = nameless(others), nameless(own, base64.urlsafe_b64encode)
+    return {
+        "known/notes.dsse": envelope(b"text/plain", NOTES, signature_by(key, own)),
+        "bent.dsse": envelope(b"text/plain", NOTES, signature_by(key, bent(own, 4000))),
+        "nameless.dsse": envelope(b"text/plain", NOTES, nameless(bent(own, 20))),
+        "other.dsse": envelope(b"text/plain", NOTES, signature_by(hello, others)),
+        "renamed.dsse": envelope(b"text/plain", NOTES, signature_by(hello, own)),
+        "both.dsse": envelope(b"text/plain", NOTES, *both, more=[1, {"a": None}]),
+        "unsigned.dsse": envelope(b"text/plain", NOTES),
+        "changed.dsse": envelope(b"text/plain", NOTES + b".", signature_by(key, own)),
+        "cut.dsse": envelope(b"text/plain", NOTES, signature_by(key, own))[:-2],
+    }
+
+
 def groups(key, daily):
     """A batch of three, and a chain of two links."""
     nightly = second.verifying(second.derived(bytes(range(32)), 2, 2026))
@@ -155,7 +197,8 @@ def main(folder):
     master = bytes(range(32))
     key, daily = second.derived(master, 1), second.derived(master, 2)
     hello, files = keys(key, daily)
-    files |= signatures(key, hello) | groups(key, daily) | small_logs(key) | long_log(key)
+    files |= signatures(key, hello) | envelopes(key, hello) | groups(key, daily)
+    files |= small_logs(key) | long_log(key)
     for name, value in files.items():
         path = Path(folder) / name
         path.parent.mkdir(parents=True, exist_ok=True)

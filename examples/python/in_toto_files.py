@@ -9,6 +9,8 @@
     seal KEY TYPE BODY ENVELOPE   an envelope of DSSE
     open PUB TYPE ENVELOPE        writes what it has, where it is good
     parts ENVELOPE TEXT SIG       the text that is signed, and the first signature, by json and base64 alone
+    wrap KEY PUB TYPE BODY ENVELOPE    an envelope by a signer of securesystemslib and by json
+    unwrap PUB ENVELOPE           whether a key of securesystemslib verifies it, read by json
 """
 
 import base64
@@ -94,13 +96,45 @@ def open_(public, kind, envelope):
         sys.exit(f"{type(error).__name__}: {error}")
 
 
-def parts(envelope, text, signature):
+def encoding(kind, body):
+    return b"DSSEv1 %d %s %d %s" % (len(kind), kind, len(body), body)
+
+
+def parts_of(envelope):
     fields = json.loads(Path(envelope).read_text())
     body, kind = base64.b64decode(fields["payload"]), fields["payloadType"].encode()
-    Path(text).write_bytes(b"DSSEv1 %d %s %d %s" % (len(kind), kind, len(body), body))
-    Path(signature).write_bytes(base64.b64decode(fields["signatures"][0]["sig"]))
+    signature = fields["signatures"][0]
+    return encoding(kind, body), signature["keyid"], base64.b64decode(signature["sig"])
+
+
+def parts(envelope, text, signature):
+    signed, _, value = parts_of(envelope)
+    Path(text).write_bytes(signed)
+    Path(signature).write_bytes(value)
+
+
+def wrap(private, public, kind, body, envelope):
+    signer = Signer.from_priv_key_uri(f"slh:{private}", key_of(public))
+    payload = Path(body).read_bytes()
+    made = signer.sign(encoding(kind.encode(), payload))
+    value = base64.urlsafe_b64encode(bytes.fromhex(made.signature)).decode()
+    fields = {
+        "signatures": [{"sig": value, "keyid": made.keyid}],
+        "payloadType": kind,
+        "payload": base64.b64encode(payload).decode(),
+    }
+    Path(envelope).write_text(json.dumps(fields, indent=2))
+
+
+def unwrap(public, envelope):
+    signed, identifier, value = parts_of(envelope)
+    try:
+        key_of(public).verify_signature(Signature(identifier, value.hex()), signed)
+    except exceptions.UnverifiedSignatureError as error:
+        sys.exit(f"{envelope}: {error}")
+    print("good")
 
 
 if __name__ == "__main__":
-    verbs = layout, sign, check, key, id_, shorten, seal, open_, parts
+    verbs = layout, sign, check, key, id_, shorten, seal, open_, parts, wrap, unwrap
     {each.__name__.rstrip("_"): each for each in verbs}[sys.argv[1]](*sys.argv[2:])

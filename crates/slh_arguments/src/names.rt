@@ -15,6 +15,8 @@ pub const DEPTH: &str = "depth";
 
 pub const DETERMINISTIC: &str = "deterministic";
 
+pub const DSSE: &str = "dsse";
+
 pub const EVIDENCE: &str = "evidence";
 
 pub const FILE: &str = "file";
@@ -54,6 +56,8 @@ pub const OUTPUT: &str = "output";
 pub const PATH: &str = "path";
 
 pub const PATHS: &str = "paths";
+
+pub const PAYLOAD: &str = "payload";
 
 pub const PREHASH: &str = "prehash";
 

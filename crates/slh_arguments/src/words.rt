@@ -12,6 +12,14 @@ const VERSION: &str = "0.21.0 (logic dac8208d650f15bf)";
 
 const HASHES: [&str; 2] = ["sha256", "sha512"];
 
+/// What says how a file is signed, and isn't said of an envelope.
+const WAYS_OF_SIGNING: [&str; 4] = [
+    names::CONTEXT,
+    names::CONTEXT_HEX,
+    names::PREHASH,
+    names::SIGNATURE,
+];
+
 /// A command that has commands below it.
 #[derive(Drop)]
 pub struct Group {
@@ -46,6 +54,11 @@ pub enum Kind {
     Optional,
     /// An option that may be left out, and does not stand with `--context-hex`.
     Context,
+    /// An option that may be left out, is not empty, and does not stand with what says how a file is
+    /// signed.
+    Envelope,
+    /// An option that may be left out, and stands with `--dsse` alone.
+    Payload,
     /// An option that may be left out, one of `HASHES`.
     Hash,
     /// An option that may be left out: a number, or else 0.
@@ -192,6 +205,27 @@ const SIGNATURE_OUTPUT: Word = Word {
     help: "Where the signature goes; - is standard output",
 };
 
+const DSSE: Word = Word {
+    kind: Kind::Envelope,
+    name: names::DSSE,
+    value: "TYPE",
+    help: "Signs it as a payload of this type, in a DSSE envelope, FILE.dsse",
+};
+
+const SIGNED_DSSE: Word = Word {
+    kind: Kind::Envelope,
+    name: names::DSSE,
+    value: "TYPE",
+    help: "The files are DSSE envelopes, with payloads of this type",
+};
+
+const PAYLOAD: Word = Word {
+    kind: Kind::Payload,
+    name: names::PAYLOAD,
+    value: "FILE",
+    help: "Where an envelope's payload goes once it is accepted; - is standard output",
+};
+
 const EVIDENCE: Word = Word {
     kind: Kind::Required,
     name: names::EVIDENCE,
@@ -225,6 +259,7 @@ const SIGN: Subcommand = Subcommand {
         CONTEXT,
         CONTEXT_HEX,
         PREHASH,
+        DSSE,
         FILE,
         DETERMINISTIC,
         AUDIT,
@@ -244,6 +279,8 @@ const VERIFY: Subcommand = Subcommand {
         CONTEXT,
         CONTEXT_HEX,
         SIGNED_HASH,
+        SIGNED_DSSE,
+        PAYLOAD,
         JSON,
         SIGNED_FILES,
     ],
@@ -385,6 +422,8 @@ fn arg_of<'a>(alloc: Global, word: &'static Word) -> Result<Arg<'a>, AllocError>
         Kind::Operand | Kind::OptionalOperand => Ok(with_value(arg, word)),
         Kind::Operands => Ok(with_value(arg, word).num_args(1usize..)),
         Kind::Context => with_value(arg.long(word.name), word).conflicts_with(names::CONTEXT_HEX),
+        Kind::Envelope => with_value(arg.long(word.name), word).conflicts_with_all(&WAYS_OF_SIGNING),
+        Kind::Payload => with_value(arg.long(word.name), word).requires_arg(names::DSSE),
         Kind::Key => with_value(arg.long(word.name), word).conflicts_with(names::KEY_TEXT),
         _ => Ok(with_value(arg.long(word.name), word)),
     }
@@ -402,7 +441,9 @@ fn parser_of(kind: Kind) -> ValueParser<'static> {
         Kind::Set | Kind::OptionalSet => ValueParser::Names(&Set::NAMES),
         Kind::Hash => ValueParser::Names(&HASHES),
         Kind::Number => value_parser!(u8),
-        Kind::Operand | Kind::OptionalOperand | Kind::Operands => ValueParser::NonEmptyString,
+        Kind::Operand | Kind::OptionalOperand | Kind::Operands | Kind::Envelope => {
+            ValueParser::NonEmptyString
+        }
         _ => ValueParser::String,
     }
 }

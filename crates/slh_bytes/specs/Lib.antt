@@ -1,3 +1,4 @@
+pub mod Envelopes
 pub mod Heads
 pub mod Places
 pub mod Blocks

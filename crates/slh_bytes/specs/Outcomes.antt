@@ -11,12 +11,17 @@ use Rattle.slh_manifest.specs.declared.error.CheckError.TheVariants.{Form as NoM
 use Rattle.slh_manifest.specs.declared.error.CheckError.TheVariants.{Invalid as InvalidManifest}
 use Rattle.slh_manifest.specs.declared.error.CheckError.TheVariants.{Missing as MissingEntry}
 use Rattle.slh_manifest.specs.declared.error.CheckError.TheVariants.{Differs as OtherEntry}
+use Rattle.slh_envelope.specs.declared.error.OpenError.{OpenError}
+use Rattle.slh_envelope.specs.declared.error.OpenError.TheVariants.{Form as NoEnvelope, PayloadType}
+use Rattle.slh_envelope.specs.declared.error.OpenError.TheVariants.{Unsigned as NotSigned, Memory}
+use Rattle.slh_envelope.specs.declared.error.OpenError.TheVariants.{Invalid as InvalidEnvelope}
 use Rattle.slh_bytes.specs.declared.receipts.UnderHeadError.{UnderHeadError}
 use Rattle.slh_bytes.specs.declared.receipts.UnderHeadError.TheVariants.{Head, Receipt}
 use Rattle.slh_bytes.specs.declared.outcome.Outcome.{Outcome}
 use Rattle.slh_bytes.specs.declared.outcome.Outcome.TheVariants.{Done, Accepted, Invalid, Genuine}
 use Rattle.slh_bytes.specs.declared.outcome.Outcome.TheVariants.{Foreign, Shown, NotShown}
 use Rattle.slh_bytes.specs.declared.outcome.Outcome.TheVariants.{Missing, Differs, Unnamed}
+use Rattle.slh_bytes.specs.declared.outcome.Outcome.TheVariants.{Unsigned}
 
 -- what is told of a signature that is or isn't accepted
 abbrev pub outcome_of_signature : Bool → Outcome
@@ -51,6 +56,14 @@ outcome_of_manifest (Err InvalidManifest) _ = Some Invalid
 outcome_of_manifest (Err (MissingEntry _)) _ = Some Missing
 outcome_of_manifest (Err (OtherEntry _)) _ = Some Differs
 
+-- what is told of an envelope that wasn't opened, if it is a verdict
+abbrev pub outcome_of_unopened : OpenError → Option Outcome
+outcome_of_unopened NoEnvelope = None
+outcome_of_unopened PayloadType = None
+outcome_of_unopened NotSigned = Some Unsigned
+outcome_of_unopened InvalidEnvelope = Some Invalid
+outcome_of_unopened Memory = None
+
 -- 1 for a verdict that says no
 abbrev pub status_of : Outcome → ℕ
 status_of Done = 0
@@ -63,6 +76,7 @@ status_of NotShown = 1
 status_of Missing = 1
 status_of Differs = 1
 status_of Unnamed = 1
+status_of Unsigned = 1
 
 abbrev pub word_of : Outcome → List ℕ
 word_of Done = codes ""
@@ -75,3 +89,4 @@ word_of NotShown = codes "not shown"
 word_of Missing = codes "missing"
 word_of Differs = codes "differs"
 word_of Unnamed = codes "unnamed"
+word_of Unsigned = codes "unsigned"

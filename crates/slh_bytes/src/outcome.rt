@@ -2,10 +2,11 @@
 ghost use Rattle.std.specs.Prelude.{◌≡◌};
 ghost use Rattle.slh_bytes.specs.Outcomes.{outcome_of_evidence, outcome_of_manifest};
 ghost use Rattle.slh_bytes.specs.Outcomes.{outcome_of_receipt, outcome_of_receipt_under_head};
-ghost use Rattle.slh_bytes.specs.Outcomes.{outcome_of_signature, status_of, word_of};
+ghost use Rattle.slh_bytes.specs.Outcomes.{outcome_of_signature, outcome_of_unopened, status_of, word_of};
 
 use crate::receipts::UnderHeadError;
 use slh_batch::{HeadError, Place, ReceiptError};
+use slh_envelope::OpenError;
 use slh_manifest::CheckError;
 
 /// What became of a command that wasn't refused.
@@ -31,6 +32,8 @@ pub enum Outcome {
     Differs,
     /// A manifest doesn't name a file.
     Unnamed,
+    /// An envelope has no signature of the key.
+    Unsigned,
 }
 
 impl Outcome {
@@ -94,6 +97,17 @@ impl Outcome {
         }
     }
 
+    /// What is told of an envelope that wasn't opened: `None`, why there is no verdict.
+    pub fn of_unopened(error: OpenError) -> Option<Outcome>
+        ensures { result ≡ outcome_of_unopened error }
+    {
+        match error {
+            OpenError::Unsigned => Some(Outcome::Unsigned),
+            OpenError::Invalid => Some(Outcome::Invalid),
+            OpenError::Form | OpenError::PayloadType | OpenError::Memory => None,
+        }
+    }
+
     /// The exit status: 0, or 1 for a verdict that says no.
     pub fn status(self) -> u8
         ensures { result ≡ status_of self }
@@ -105,7 +119,8 @@ impl Outcome {
             | Outcome::NotShown
             | Outcome::Missing
             | Outcome::Differs
-            | Outcome::Unnamed => 1,
+            | Outcome::Unnamed
+            | Outcome::Unsigned => 1,
         }
     }
 
@@ -124,6 +139,7 @@ impl Outcome {
             Outcome::Missing => "missing",
             Outcome::Differs => "differs",
             Outcome::Unnamed => "unnamed",
+            Outcome::Unsigned => "unsigned",
         }
     }
 }

@@ -5,6 +5,10 @@
 pub enum FileError {
     #[error("not what an audit prints")]
     NotAudit,
+    #[error("not an envelope of DSSE")]
+    NotEnvelope,
+    #[error("an envelope of another type than --dsse asks for")]
+    OtherType,
     #[error("neither a key nor a signature")]
     NoKeyOrSignature,
     #[error("the machine computed wrongly, and no signature is written")]

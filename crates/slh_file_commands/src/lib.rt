@@ -4,6 +4,7 @@
 
 mod audits;
 mod commands;
+mod envelopes;
 mod error;
 mod inspecting;
 mod keys;

@@ -1,4 +1,5 @@
 //! `slh sign` and `slh verify`.
+use crate::envelopes::{check_payload_output, sign_envelope, told_of_envelope};
 use crate::error::FileError;
 use clap::ArgMatches;
 use slh_arguments::bytes::{
@@ -9,28 +10,33 @@ use slh_arguments::host::files::{self, FromStart, Reader};
 use slh_arguments::host::{Failure, outputs};
 use slh_arguments::{
     Randomness, SIGNATURE_END, WordError, check_inputs, check_output, context, mode, names, report,
-    required, required_all, signing_key, tell_verdict, told_of_file, verifying_key,
+    required, required_all, signing_key, told_of_file, verifying_key,
 };
 use std::alloc::Global;
 use std::fs::File;
 
 /// Signs a file. The signature goes to `--output`, else to FILE.sig, or from standard input to
-/// standard output.
+/// standard output; with `--dsse` an envelope.
 pub fn sign<'a>(rt: &HostRuntime, words: &ArgMatches<'a>) -> Result<Outcome, Failure<'a>> {
     check_inputs(words, &[])?;
     let path = required(words, names::FILE)?;
-    check_signature_output(rt, words, path)?;
+    if let Some(payload_type) = words.get_str(names::DSSE) {
+        return sign_envelope(rt, words, path, payload_type);
+    }
+    check_output_of(rt, words, path, SIGNATURE_END)?;
     let context = context(rt, words)?;
     let key = signing_key(rt, words)?;
     let signature = made(rt, words, path, key, context)?;
-    put(rt, words, path, signature.as_slice())
+    put(rt, words, path, SIGNATURE_END, signature.as_slice())
 }
 
-// Refuses a signature at the place of an input, and one beside what is no regular file.
-fn check_signature_output<'a>(
+/// Refuses an output at the place of an input, and one beside what is no regular file, which has the
+/// file's name and this ending.
+pub(crate) fn check_output_of<'a>(
     rt: &HostRuntime,
     words: &ArgMatches<'a>,
     path: &'a str,
+    end: &'static str,
 ) -> Result<(), Failure<'a>> {
     if let Some(output) = words.get_str(names::OUTPUT) {
         return check_output(rt, words, &[names::KEY, names::FILE], output);
@@ -41,7 +47,7 @@ fn check_signature_output<'a>(
     if files::is_stream(rt, path) {
         return Err(Failure::told(path, FileError::NowhereBeside));
     }
-    let output = format!(in rt.alloc(); "{path}{SIGNATURE_END}")?;
+    let output = format!(in rt.alloc(); "{path}{end}")?;
     check_output(rt, words, &[names::KEY, names::FILE], output.as_str())
 }
 
@@ -143,14 +149,23 @@ fn of_stream<'a>(
     terms: &SigningTerms<'_, '_>,
     reader: Reader,
 ) -> Result<ByteString, Failure<'a>> {
-    let is_audited = words.get_flag(names::AUDIT);
-    if terms.mode != Mode::Pure && !is_audited {
+    if terms.mode != Mode::Pure && !words.get_flag(names::AUDIT) {
         return signed(rt.alloc(), path, terms, Fallible(reader), NOTHING);
     }
     let message = reader.whole(rt, path)?;
-    let message = message.as_slice();
+    signed_bytes(rt, words, path, terms, message.as_slice())
+}
+
+/// The signature of bytes in memory, which passed an audit where the words ask for one.
+pub(crate) fn signed_bytes<'a>(
+    rt: &HostRuntime,
+    words: &ArgMatches<'a>,
+    path: &'a str,
+    terms: &SigningTerms<'_, '_>,
+    message: &[u8],
+) -> Result<ByteString, Failure<'a>> {
     let signature = signed(rt.alloc(), path, terms, message, message)?;
-    if !is_audited {
+    if !words.get_flag(names::AUDIT) {
         return Ok(signature);
     }
     match audited(terms, message, signature) {
@@ -160,36 +175,83 @@ fn of_stream<'a>(
     }
 }
 
-// Writes a signature where the words say.
-fn put<'a>(
+/// Writes bytes where the words say, or else where the file's name and this ending do.
+pub(crate) fn put<'a>(
     rt: &HostRuntime,
     words: &ArgMatches<'a>,
     path: &'a str,
-    signature: &[u8],
+    end: &'static str,
+    bytes: &[u8],
 ) -> Result<Outcome, Failure<'a>> {
     if let Some(output) = words.get_str(names::OUTPUT) {
-        outputs::put(rt, output, signature)?;
+        outputs::put(rt, output, bytes)?;
     } else if path == files::STANDARD {
-        outputs::put(rt, path, signature)?;
+        outputs::put(rt, path, bytes)?;
     } else {
-        outputs::put_beside(rt, path, SIGNATURE_END, signature)?;
+        outputs::put_beside(rt, path, end, bytes)?;
     }
     Ok(Outcome::Done)
 }
 
-/// Tells whether a signature is one of a file, or of each file whether its own is.
+// What the files are of which verdicts are told.
+#[derive(Clone, Copy)]
+enum Claims<'c> {
+    // Each has its signature, under this context.
+    Signatures(&'c [u8]),
+    // Each is an envelope, of this type.
+    Envelopes(&'c str),
+}
+
+// What is told of one of them.
+fn told_of<'a>(
+    rt: &HostRuntime,
+    words: &ArgMatches<'a>,
+    key: &Key,
+    claims: Claims<'_>,
+    path: &'a str,
+) -> Result<Outcome, Failure<'a>> {
+    match claims {
+        Claims::Signatures(context) => told_of_file(rt, words, key, context, path),
+        Claims::Envelopes(payload_type) => told_of_envelope(rt, words, key, payload_type, path),
+    }
+}
+
+/// Tells whether a signature is one of a file, or of each file whether its own is; with `--dsse`
+/// whether files are envelopes that the key signed.
 pub fn verify<'a>(rt: &HostRuntime, words: &ArgMatches<'a>) -> Result<Outcome, Failure<'a>> {
     let paths = required_all(words, names::FILES)?;
     check_inputs(words, paths)?;
     let context = context(rt, words)?;
     let key = verifying_key(rt, words)?;
+    let claims = match words.get_str(names::DSSE) {
+        Some(payload_type) => Claims::Envelopes(payload_type),
+        None => Claims::Signatures(context.as_slice()),
+    };
     if let [path] = paths {
-        return tell_verdict(rt, words, &key, context.as_slice(), *path);
+        return verify_one(rt, words, &key, claims, *path);
     }
-    if words.get_str(names::SIGNATURE).is_some() {
-        return Err(Failure::option(names::SIGNATURE, WordError::OneFile));
+    for option in [names::SIGNATURE, names::PAYLOAD] {
+        if words.get_str(option).is_some() {
+            return Err(Failure::option(option, WordError::OneFile));
+        }
     }
-    verify_each(rt, words, &key, context.as_slice(), paths)
+    verify_each(rt, words, &key, claims, paths)
+}
+
+// Tells the verdict of a file. Where its payload goes to standard output, that is all that does.
+fn verify_one<'a>(
+    rt: &HostRuntime,
+    words: &ArgMatches<'a>,
+    key: &Key,
+    claims: Claims<'_>,
+    path: &'a str,
+) -> Result<Outcome, Failure<'a>> {
+    check_payload_output(rt, words, path)?;
+    let outcome = told_of(rt, words, key, claims, path)?;
+    if outcome == Outcome::Accepted && words.get_str(names::PAYLOAD) == Some(files::STANDARD) {
+        return Ok(outcome);
+    }
+    report(rt, words, outcome, Detail::Nothing)
 }
 
 // Tells a verdict of each file, or why there is none.
@@ -197,12 +259,12 @@ fn verify_each<'a>(
     rt: &HostRuntime,
     words: &ArgMatches<'a>,
     key: &Key,
-    context: &[u8],
+    claims: Claims<'_>,
     paths: &[&'a str],
 ) -> Result<Outcome, Failure<'a>> {
     let (mut all, mut is_refused) = (Outcome::Accepted, false);
     for path in paths {
-        match told_of_file(rt, words, key, context, *path) {
+        match told_of(rt, words, key, claims, *path) {
             Ok(outcome) => {
                 report(rt, words, outcome, Detail::Name(*path))?;
                 if outcome != Outcome::Accepted {
