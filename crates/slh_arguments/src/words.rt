@@ -87,6 +87,34 @@ pub const SIGNING_KEY: Word = Word {
     help: "The signing key",
 };
 
+pub const PASSPHRASE_FILE: Word = Word {
+    kind: Kind::Optional,
+    name: names::PASSPHRASE_FILE,
+    value: "FILE",
+    help: "The passphrase of an encrypted key: the first line of a file",
+};
+
+pub const ENCRYPTED_BY: Word = Word {
+    kind: Kind::Optional,
+    name: names::PASSPHRASE_FILE,
+    value: "FILE",
+    help: "Encrypts NAME.key by a passphrase, the first line of a file",
+};
+
+const NEW_PASSPHRASE_FILE: Word = Word {
+    kind: Kind::Optional,
+    name: names::NEW_PASSPHRASE_FILE,
+    value: "FILE",
+    help: "Encrypts the key by a passphrase, the first line of a file",
+};
+
+pub const ITERATIONS: Word = Word {
+    kind: Kind::Optional,
+    name: names::ITERATIONS,
+    value: "NUMBER",
+    help: "How often a passphrase is hashed, up to 10000000; 600000 if it is left out",
+};
+
 pub const VERIFYING_KEY: Word = Word {
     kind: Kind::Key,
     name: names::KEY,
@@ -192,6 +220,13 @@ const SIGNATURE_OUTPUT: Word = Word {
     help: "Where the signature goes; - is standard output",
 };
 
+const KEY_OUTPUT: Word = Word {
+    kind: Kind::Required,
+    name: names::OUTPUT,
+    value: "NAME.key",
+    help: "Where the key goes, where no file is",
+};
+
 const EVIDENCE: Word = Word {
     kind: Kind::Required,
     name: names::EVIDENCE,
@@ -204,7 +239,22 @@ const KEYGEN: Subcommand = Subcommand {
     verb: Verb::File(FileVerb::Keygen),
     about: "Makes a key of random bytes: NAME.key, which is secret, and NAME.pub",
     example: "Example:\n    slh keygen --set SLH-DSA-SHA2-128f release",
-    words: &[KEYGEN_SET, NAME],
+    words: &[KEYGEN_SET, ENCRYPTED_BY, ITERATIONS, NAME],
+};
+
+const KEY: Subcommand = Subcommand {
+    name: "key",
+    verb: Verb::File(FileVerb::Key),
+    about: "Writes a signing key anew: encrypted, in the open, or by another passphrase",
+    example: "Example:\n    \
+              slh key --key release.key --new-passphrase-file passphrase --output locked.key",
+    words: &[
+        SIGNING_KEY,
+        PASSPHRASE_FILE,
+        NEW_PASSPHRASE_FILE,
+        ITERATIONS,
+        KEY_OUTPUT,
+    ],
 };
 
 const PUBLIC: Subcommand = Subcommand {
@@ -212,7 +262,7 @@ const PUBLIC: Subcommand = Subcommand {
     verb: Verb::File(FileVerb::Public),
     about: "Writes the verifying key of a signing key",
     example: "Example:\n    slh public --key release.key --output release.pub",
-    words: &[SIGNING_KEY, OUTPUT],
+    words: &[SIGNING_KEY, PASSPHRASE_FILE, OUTPUT],
 };
 
 const SIGN: Subcommand = Subcommand {
@@ -222,6 +272,7 @@ const SIGN: Subcommand = Subcommand {
     example: "Example:\n    slh sign --key release.key --audit notes.txt",
     words: &[
         SIGNING_KEY,
+        PASSPHRASE_FILE,
         CONTEXT,
         CONTEXT_HEX,
         PREHASH,
@@ -257,6 +308,7 @@ const AUDIT_COMMAND: Subcommand = Subcommand {
               slh audit --key release.key --signature notes.txt.sig notes.txt",
     words: &[
         SIGNING_KEY,
+        PASSPHRASE_FILE,
         SIGNATURE,
         CONTEXT,
         CONTEXT_HEX,
@@ -274,6 +326,7 @@ const EVIDENCE_COMMAND: Subcommand = Subcommand {
               --evidence 'early 0 1' notes.txt",
     words: &[
         SIGNING_KEY,
+        PASSPHRASE_FILE,
         SIGNATURE,
         EVIDENCE,
         CONTEXT,
@@ -289,13 +342,14 @@ const INSPECT: Subcommand = Subcommand {
     verb: Verb::File(FileVerb::Inspect),
     about: "Tells what a key or a signature is, and nothing that is secret",
     example: "Example:\n    slh inspect release.key",
-    words: &[FILE],
+    words: &[PASSPHRASE_FILE, FILE],
 };
 
 // (in a function of its own, a table stands in no other function's proof)
 fn subcommands() -> &'static [Subcommand] {
     &[
         KEYGEN,
+        KEY,
         PUBLIC,
         SIGN,
         VERIFY,
