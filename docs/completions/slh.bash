@@ -10,11 +10,11 @@ _slh() {
         words='SLH-DSA-SHA2-128s SLH-DSA-SHA2-128f SLH-DSA-SHA2-192s SLH-DSA-SHA2-192f
             SLH-DSA-SHA2-256s SLH-DSA-SHA2-256f' ;;
     --prehash) words='sha256 sha512' ;;
-    --context | --context-hex | --depth | --dsse | --evidence | --from | --key-text | --name | --origin | --path) return ;;
+    --context | --context-hex | --depth | --dsse | --evidence | --from | --iterations | --key-text | --name | --origin | --path) return ;;
     esac
     if [ -z "$words" ] && [ "$COMP_CWORD" -eq 1 ]; then
-        words='keygen public sign verify audit evidence inspect batch manifest chain ring log
-            help --help --version'
+        words='keygen key public sign verify audit evidence inspect batch manifest chain ring
+            log help --help --version'
     elif [ -z "$words" ] && [ "$COMP_CWORD" -eq 2 ]; then
         case ${COMP_WORDS[1]} in
         batch) words='sign verify --help' ;;
@@ -23,40 +23,47 @@ _slh() {
         ring) words='master key record restore --help' ;;
         log) words='init append prove verify growth check --help' ;;
         help)
-            words='keygen public sign verify audit evidence inspect batch manifest chain ring log' ;;
+            words='keygen key public sign verify audit evidence inspect batch manifest chain ring
+                log' ;;
         esac
     fi
     if [ -z "$words" ]; then
         case "${COMP_WORDS[1]} ${COMP_WORDS[2]}" in
-        'keygen '*) words='--set --help' ;;
-        'public '*) words='--key --output --help' ;;
+        'keygen '*) words='--set --passphrase-file --iterations --help' ;;
+        'key '*)
+            words='--key --passphrase-file --new-passphrase-file --iterations --output --help' ;;
+        'public '*) words='--key --passphrase-file --output --help' ;;
         'sign '*)
-            words='--key --context --context-hex --prehash --dsse --deterministic --audit --output
-                --help' ;;
+            words='--key --passphrase-file --context --context-hex --prehash --dsse --deterministic
+                --audit --output --help' ;;
         'verify '*)
             words='--key --key-text --signature --context --context-hex --prehash --dsse --payload
                 --json --help' ;;
-        'audit '*) words='--key --signature --context --context-hex --prehash --json --help' ;;
+        'audit '*)
+            words='--key --passphrase-file --signature --context --context-hex --prehash --json
+                --help' ;;
         'evidence '*)
-            words='--key --signature --evidence --context --context-hex --prehash --json --help' ;;
-        'inspect '*) words='--help' ;;
-        'batch sign') words='--key --head --deterministic --help' ;;
+            words='--key --passphrase-file --signature --evidence --context --context-hex --prehash
+                --json --help' ;;
+        'inspect '*) words='--passphrase-file --help' ;;
+        'batch sign') words='--key --passphrase-file --head --deterministic --help' ;;
         'batch verify') words='--key --key-text --head --receipt --json --help' ;;
-        'manifest seal') words='--key --deterministic --output --help' ;;
+        'manifest seal') words='--key --passphrase-file --deterministic --output --help' ;;
         'manifest check') words='--key --key-text --chain --manifest --strict --json --help' ;;
         'chain delegate')
-            words='--key --subject --name --depth --chain --deterministic --output --help' ;;
+            words='--key --passphrase-file --subject --name --depth --chain --deterministic --output
+                --help' ;;
         'chain walk') words='--key --key-text --chain --output --help' ;;
         'chain show') words='--key --key-text --chain --help' ;;
         'chain verify')
             words='--key --key-text --chain --signature --context --context-hex --prehash --json
                 --help' ;;
         'ring master') words='--help' ;;
-        'ring key') words='--set --master --path --help' ;;
+        'ring key') words='--set --master --path --passphrase-file --iterations --help' ;;
         'ring record') words='--set --master --output --help' ;;
         'ring restore') words='--master --help' ;;
-        'log init') words='--key --origin --deterministic --help' ;;
-        'log append') words='--key --lines --deterministic --help' ;;
+        'log init') words='--key --passphrase-file --origin --deterministic --help' ;;
+        'log append') words='--key --passphrase-file --lines --deterministic --help' ;;
         'log prove') words='--from --output --help' ;;
         'log verify') words='--key --key-text --origin --checkpoint --proof --json --help' ;;
         'log growth') words='--key --key-text --origin --old --new --proof --json --help' ;;

@@ -21,6 +21,7 @@ complete -c slh -n 'not __slh_begin help' -s h -l help -d 'Print help'
 complete -c slh -n __slh_are -s V -l version -d 'Print version'
 
 complete -c slh -n '__slh_are; or __slh_are help' -a keygen -d 'Makes a key of random bytes: NAME.key, which is secret, and NAME.pub'
+complete -c slh -n '__slh_are; or __slh_are help' -a key -d 'Writes a signing key anew: encrypted, in the open, or by another passphrase'
 complete -c slh -n '__slh_are; or __slh_are help' -a public -d 'Writes the verifying key of a signing key'
 complete -c slh -n '__slh_are; or __slh_are help' -a sign -d 'Signs a file; the signature goes to FILE.sig'
 complete -c slh -n '__slh_are; or __slh_are help' -a verify -d 'Verifies the signatures of files: accepted (0) or invalid (1)'
@@ -53,10 +54,19 @@ complete -c slh -n '__slh_are log' -a growth -d 'Tells whether a log kept all en
 complete -c slh -n '__slh_are log' -a check -d 'Makes everything again from the entries, and compares: accepted (0) or invalid (1)'
 
 complete -c slh -n '__slh_begin keygen' -l set -x -a 'SLH-DSA-SHA2-128s SLH-DSA-SHA2-128f SLH-DSA-SHA2-192s SLH-DSA-SHA2-192f SLH-DSA-SHA2-256s SLH-DSA-SHA2-256f' -d 'The parameter set; SLH-DSA-SHA2-128s if it is left out'
+complete -c slh -n '__slh_begin keygen' -l passphrase-file -r -F -d 'Encrypts NAME.key by a passphrase, the first line of a file'
+complete -c slh -n '__slh_begin keygen' -l iterations -x -d 'How often a passphrase is hashed, up to 10000000; 600000 if it is left out'
 complete -c slh -n '__slh_begin keygen' -F
+complete -c slh -n '__slh_begin key' -l key -r -F -d 'The signing key'
+complete -c slh -n '__slh_begin key' -l passphrase-file -r -F -d 'The passphrase of an encrypted key: the first line of a file'
+complete -c slh -n '__slh_begin key' -l new-passphrase-file -r -F -d 'Encrypts the key by a passphrase, the first line of a file'
+complete -c slh -n '__slh_begin key' -l iterations -x -d 'How often a passphrase is hashed, up to 10000000; 600000 if it is left out'
+complete -c slh -n '__slh_begin key' -l output -r -F -d 'Where the key goes, where no file is'
 complete -c slh -n '__slh_begin public' -l key -r -F -d 'The signing key'
+complete -c slh -n '__slh_begin public' -l passphrase-file -r -F -d 'The passphrase of an encrypted key: the first line of a file'
 complete -c slh -n '__slh_begin public' -l output -r -F -d 'Where it goes, in place of standard output'
 complete -c slh -n '__slh_begin sign' -l key -r -F -d 'The signing key'
+complete -c slh -n '__slh_begin sign' -l passphrase-file -r -F -d 'The passphrase of an encrypted key: the first line of a file'
 complete -c slh -n '__slh_begin sign' -l context -x -d 'The context, at most 255 bytes'
 complete -c slh -n '__slh_begin sign' -l context-hex -x -d 'The context in hexadecimal'
 complete -c slh -n '__slh_begin sign' -l prehash -x -a 'sha256 sha512' -d 'Signs this digest of the file'
@@ -76,6 +86,7 @@ complete -c slh -n '__slh_begin verify' -l payload -r -F -d 'Where an envelope\'
 complete -c slh -n '__slh_begin verify' -l json -d 'Tells the verdict as an object of JSON'
 complete -c slh -n '__slh_begin verify' -F
 complete -c slh -n '__slh_begin audit' -l key -r -F -d 'The signing key'
+complete -c slh -n '__slh_begin audit' -l passphrase-file -r -F -d 'The passphrase of an encrypted key: the first line of a file'
 complete -c slh -n '__slh_begin audit' -l signature -r -F -d 'The signature; FILE.sig if it is left out'
 complete -c slh -n '__slh_begin audit' -l context -x -d 'The context, at most 255 bytes'
 complete -c slh -n '__slh_begin audit' -l context-hex -x -d 'The context in hexadecimal'
@@ -83,6 +94,7 @@ complete -c slh -n '__slh_begin audit' -l prehash -x -a 'sha256 sha512' -d 'Sign
 complete -c slh -n '__slh_begin audit' -l json -d 'Tells the verdict as an object of JSON'
 complete -c slh -n '__slh_begin audit' -F
 complete -c slh -n '__slh_begin evidence' -l key -r -F -d 'The signing key'
+complete -c slh -n '__slh_begin evidence' -l passphrase-file -r -F -d 'The passphrase of an encrypted key: the first line of a file'
 complete -c slh -n '__slh_begin evidence' -l signature -r -F -d 'The signature; FILE.sig if it is left out'
 complete -c slh -n '__slh_begin evidence' -l evidence -x -d 'What an audit printed after foreign'
 complete -c slh -n '__slh_begin evidence' -l context -x -d 'The context, at most 255 bytes'
@@ -90,8 +102,10 @@ complete -c slh -n '__slh_begin evidence' -l context-hex -x -d 'The context in h
 complete -c slh -n '__slh_begin evidence' -l prehash -x -a 'sha256 sha512' -d 'Signs this digest of the file'
 complete -c slh -n '__slh_begin evidence' -l json -d 'Tells the verdict as an object of JSON'
 complete -c slh -n '__slh_begin evidence' -F
+complete -c slh -n '__slh_begin inspect' -l passphrase-file -r -F -d 'The passphrase of an encrypted key: the first line of a file'
 complete -c slh -n '__slh_begin inspect' -F
 complete -c slh -n '__slh_begin batch sign' -l key -r -F -d 'The signing key'
+complete -c slh -n '__slh_begin batch sign' -l passphrase-file -r -F -d 'The passphrase of an encrypted key: the first line of a file'
 complete -c slh -n '__slh_begin batch sign' -l head -r -F -d 'Where the head of the batch goes'
 complete -c slh -n '__slh_begin batch sign' -l deterministic -d 'Signs without random bytes'
 complete -c slh -n '__slh_begin batch sign' -F
@@ -102,6 +116,7 @@ complete -c slh -n '__slh_begin batch verify' -l receipt -r -F -d 'The receipt; 
 complete -c slh -n '__slh_begin batch verify' -l json -d 'Tells the verdict as an object of JSON'
 complete -c slh -n '__slh_begin batch verify' -F
 complete -c slh -n '__slh_begin manifest seal' -l key -r -F -d 'The signing key'
+complete -c slh -n '__slh_begin manifest seal' -l passphrase-file -r -F -d 'The passphrase of an encrypted key: the first line of a file'
 complete -c slh -n '__slh_begin manifest seal' -l deterministic -d 'Signs without random bytes'
 complete -c slh -n '__slh_begin manifest seal' -l output -r -F -d 'Where the manifest goes'
 complete -c slh -n '__slh_begin manifest seal' -a '(__fish_complete_directories)'
@@ -113,6 +128,7 @@ complete -c slh -n '__slh_begin manifest check' -l strict -d 'Refuses a file bel
 complete -c slh -n '__slh_begin manifest check' -l json -d 'Tells the verdict as an object of JSON'
 complete -c slh -n '__slh_begin manifest check' -a '(__fish_complete_directories)'
 complete -c slh -n '__slh_begin chain delegate' -l key -r -F -d 'The signing key'
+complete -c slh -n '__slh_begin chain delegate' -l passphrase-file -r -F -d 'The passphrase of an encrypted key: the first line of a file'
 complete -c slh -n '__slh_begin chain delegate' -l subject -r -F -d 'The key that may act'
 complete -c slh -n '__slh_begin chain delegate' -l name -x -d 'The name it acts under, 1 to 64 bytes'
 complete -c slh -n '__slh_begin chain delegate' -l depth -x -d 'How deep it may delegate, 0 to 15'
@@ -139,6 +155,8 @@ complete -c slh -n '__slh_begin ring master' -F
 complete -c slh -n '__slh_begin ring key' -l set -x -a 'SLH-DSA-SHA2-128s SLH-DSA-SHA2-128f SLH-DSA-SHA2-192s SLH-DSA-SHA2-192f SLH-DSA-SHA2-256s SLH-DSA-SHA2-256f' -d 'The parameter set'
 complete -c slh -n '__slh_begin ring key' -l master -r -F -d 'The master secret'
 complete -c slh -n '__slh_begin ring key' -l path -x -d 'Up to 8 numbers with slashes, or a dot'
+complete -c slh -n '__slh_begin ring key' -l passphrase-file -r -F -d 'Encrypts NAME.key by a passphrase, the first line of a file'
+complete -c slh -n '__slh_begin ring key' -l iterations -x -d 'How often a passphrase is hashed, up to 10000000; 600000 if it is left out'
 complete -c slh -n '__slh_begin ring key' -F
 complete -c slh -n '__slh_begin ring record' -l set -x -a 'SLH-DSA-SHA2-128s SLH-DSA-SHA2-128f SLH-DSA-SHA2-192s SLH-DSA-SHA2-192f SLH-DSA-SHA2-256s SLH-DSA-SHA2-256f' -d 'The parameter set'
 complete -c slh -n '__slh_begin ring record' -l master -r -F -d 'The master secret'
@@ -146,10 +164,12 @@ complete -c slh -n '__slh_begin ring record' -l output -r -F -d 'Where it goes, 
 complete -c slh -n '__slh_begin ring restore' -l master -r -F -d 'The master secret'
 complete -c slh -n '__slh_begin ring restore' -F
 complete -c slh -n '__slh_begin log init' -l key -r -F -d 'The signing key'
+complete -c slh -n '__slh_begin log init' -l passphrase-file -r -F -d 'The passphrase of an encrypted key: the first line of a file'
 complete -c slh -n '__slh_begin log init' -l origin -x -d 'The name of the log'
 complete -c slh -n '__slh_begin log init' -l deterministic -d 'Signs without random bytes'
 complete -c slh -n '__slh_begin log init' -a '(__fish_complete_directories)'
 complete -c slh -n '__slh_begin log append' -l key -r -F -d 'The signing key'
+complete -c slh -n '__slh_begin log append' -l passphrase-file -r -F -d 'The passphrase of an encrypted key: the first line of a file'
 complete -c slh -n '__slh_begin log append' -l lines -d 'Adds each line of a file as an entry, without its end'
 complete -c slh -n '__slh_begin log append' -l deterministic -d 'Signs without random bytes'
 complete -c slh -n '__slh_begin log append' -a '(__fish_complete_directories)'

@@ -36,6 +36,7 @@ _slh_batch() {
             _arguments -S \
                 '(- *)'{-h,--help}'[Print help]' \
                 '--key=[The signing key]:NAME.key:_files -g "*.key"' \
+                '--passphrase-file=[The passphrase of an encrypted key\: the first line of a file]:FILE:_files' \
                 '--head=[Where the head of the batch goes]:HEAD:_files' \
                 '--deterministic[Signs without random bytes]' \
                 '*:FILE:_files'
@@ -74,6 +75,7 @@ _slh_manifest() {
             _arguments -S \
                 '(- *)'{-h,--help}'[Print help]' \
                 '--key=[The signing key]:NAME.key:_files -g "*.key"' \
+                '--passphrase-file=[The passphrase of an encrypted key\: the first line of a file]:FILE:_files' \
                 '--deterministic[Signs without random bytes]' \
                 '--output=[Where the manifest goes]:MANIFEST:_files' \
                 '1:FOLDER:_files -/'
@@ -115,6 +117,7 @@ _slh_chain() {
             _arguments -S \
                 '(- *)'{-h,--help}'[Print help]' \
                 '--key=[The signing key]:NAME.key:_files -g "*.key"' \
+                '--passphrase-file=[The passphrase of an encrypted key\: the first line of a file]:FILE:_files' \
                 '--subject=[The key that may act]:OTHER.pub:_files -g "*.pub"' \
                 '--name=[The name it acts under, 1 to 64 bytes]:TEXT: ' \
                 '--depth=[How deep it may delegate, 0 to 15]:NUMBER: ' \
@@ -183,6 +186,8 @@ _slh_ring() {
                 '--set=[The parameter set]:SET:_slh_set' \
                 '--master=[The master secret]:FILE:_files' \
                 '--path=[Up to 8 numbers with slashes, or a dot]:PATH: ' \
+                '--passphrase-file=[Encrypts NAME.key by a passphrase, the first line of a file]:FILE:_files' \
+                '--iterations=[How often a passphrase is hashed, up to 10000000; 600000 if it is left out]:NUMBER: ' \
                 '1:NAME:_files'
             ;;
         record)
@@ -227,6 +232,7 @@ _slh_log() {
             _arguments -S \
                 '(- *)'{-h,--help}'[Print help]' \
                 '--key=[The signing key]:NAME.key:_files -g "*.key"' \
+                '--passphrase-file=[The passphrase of an encrypted key\: the first line of a file]:FILE:_files' \
                 '--origin=[The name of the log]:ORIGIN: ' \
                 '--deterministic[Signs without random bytes]' \
                 '1:FOLDER:_files -/'
@@ -235,6 +241,7 @@ _slh_log() {
             _arguments -S \
                 '(- *)'{-h,--help}'[Print help]' \
                 '--key=[The signing key]:NAME.key:_files -g "*.key"' \
+                '--passphrase-file=[The passphrase of an encrypted key\: the first line of a file]:FILE:_files' \
                 '--lines[Adds each line of a file as an entry, without its end]' \
                 '--deterministic[Signs without random bytes]' \
                 '1:FOLDER:_files -/' \
@@ -288,6 +295,7 @@ _slh() {
     local curcontext=$curcontext state
     local -a line commands=(
         'keygen:Makes a key of random bytes\: NAME.key, which is secret, and NAME.pub'
+        'key:Writes a signing key anew\: encrypted, in the open, or by another passphrase'
         'public:Writes the verifying key of a signing key'
         'sign:Signs a file; the signature goes to FILE.sig'
         'verify:Verifies the signatures of files\: accepted (0) or invalid (1)'
@@ -315,18 +323,31 @@ _slh() {
             _arguments -S \
                 '(- *)'{-h,--help}'[Print help]' \
                 '--set=[The parameter set; SLH-DSA-SHA2-128s if it is left out]:SET:_slh_set' \
+                '--passphrase-file=[Encrypts NAME.key by a passphrase, the first line of a file]:FILE:_files' \
+                '--iterations=[How often a passphrase is hashed, up to 10000000; 600000 if it is left out]:NUMBER: ' \
                 '1:NAME:_files'
+            ;;
+        key)
+            _arguments -S \
+                '(- *)'{-h,--help}'[Print help]' \
+                '--key=[The signing key]:NAME.key:_files -g "*.key"' \
+                '--passphrase-file=[The passphrase of an encrypted key\: the first line of a file]:FILE:_files' \
+                '--new-passphrase-file=[Encrypts the key by a passphrase, the first line of a file]:FILE:_files' \
+                '--iterations=[How often a passphrase is hashed, up to 10000000; 600000 if it is left out]:NUMBER: ' \
+                '--output=[Where the key goes, where no file is]:NAME.key:_files -g "*.key"'
             ;;
         public)
             _arguments -S \
                 '(- *)'{-h,--help}'[Print help]' \
                 '--key=[The signing key]:NAME.key:_files -g "*.key"' \
+                '--passphrase-file=[The passphrase of an encrypted key\: the first line of a file]:FILE:_files' \
                 '--output=[Where it goes, in place of standard output]:FILE:_files'
             ;;
         sign)
             _arguments -S \
                 '(- *)'{-h,--help}'[Print help]' \
                 '--key=[The signing key]:NAME.key:_files -g "*.key"' \
+                '--passphrase-file=[The passphrase of an encrypted key\: the first line of a file]:FILE:_files' \
                 '(--context-hex)--context=[The context, at most 255 bytes]:TEXT: ' \
                 '(--context)--context-hex=[The context in hexadecimal]:HEX: ' \
                 '--prehash=[Signs this digest of the file]:HASH:_slh_hash' \
@@ -354,6 +375,7 @@ _slh() {
             _arguments -S \
                 '(- *)'{-h,--help}'[Print help]' \
                 '--key=[The signing key]:NAME.key:_files -g "*.key"' \
+                '--passphrase-file=[The passphrase of an encrypted key\: the first line of a file]:FILE:_files' \
                 '--signature=[The signature; FILE.sig if it is left out]:FILE.sig:_files -g "*.sig"' \
                 '(--context-hex)--context=[The context, at most 255 bytes]:TEXT: ' \
                 '(--context)--context-hex=[The context in hexadecimal]:HEX: ' \
@@ -365,6 +387,7 @@ _slh() {
             _arguments -S \
                 '(- *)'{-h,--help}'[Print help]' \
                 '--key=[The signing key]:NAME.key:_files -g "*.key"' \
+                '--passphrase-file=[The passphrase of an encrypted key\: the first line of a file]:FILE:_files' \
                 '--signature=[The signature; FILE.sig if it is left out]:FILE.sig:_files -g "*.sig"' \
                 '--evidence=[What an audit printed after foreign]:WORDS: ' \
                 '(--context-hex)--context=[The context, at most 255 bytes]:TEXT: ' \
@@ -376,6 +399,7 @@ _slh() {
         inspect)
             _arguments -S \
                 '(- *)'{-h,--help}'[Print help]' \
+                '--passphrase-file=[The passphrase of an encrypted key\: the first line of a file]:FILE:_files' \
                 '1:FILE:_files'
             ;;
         batch) _slh_batch ;;

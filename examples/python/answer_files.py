@@ -3,7 +3,7 @@
     answer_files.py FOLDER    writes them there
 
 All are of the set SLH-DSA-SHA2-128f, by second_reading.py. Those below `known` are what the commands of
-the stored run have to write; the others are read by them.
+the stored run have to write; the others are read by them. Keys under a passphrase are encrypted by libcrypto.
 """
 
 import base64
@@ -13,6 +13,7 @@ import sys
 from pathlib import Path
 from struct import pack
 
+import encrypted_keys as encrypted
 import second_reading as second
 
 NOTES = b"Version 1.2 is out.\n"
@@ -70,6 +71,10 @@ def key_line(value):
     return second.SET + b" " + value.hex().encode() + b"\n"
 
 
+def private_der(key):
+    return bytes.fromhex(f"3052020100{OID}0440") + key
+
+
 def private_pem(key):
     return second.pem("PRIVATE KEY", f"3052020100{OID}0440", key)
 
@@ -91,6 +96,29 @@ def keys(key, daily):
         "two.keys": line + line,
         "known/daily.key": private_pem(b"".join(daily)),
         "known/daily.pub": public_pem(second.verifying(daily)),
+    }
+
+
+def locked(key, hello):
+    """Keys under a passphrase, one by another cipher and one of too many iterations, and passphrases."""
+    words, longest = b"correct horse", b"x" * 1024
+    own = private_der(b"".join(key))
+    first = encrypted.encrypt(own, words, 2048)
+    files = {
+        "locked.key": first,
+        "locked.aes128.key": encrypted.encrypt(own, words, 2048, "AES-128-CBC"),
+        "locked.des3.key": encrypted.encrypt(own, words, 2048, "DES-EDE3-CBC"),
+        "locked.hello.key": encrypted.encrypt(private_der(b"".join(hello)), words, 2048),
+        "locked.long.key": encrypted.encrypt(own, longest, 2048),
+        "locked.slow.key": encrypted.with_count(first, bytes.fromhex("02043b9aca00")),
+    }
+    return {name: encrypted.pem_of(file, encrypted.ENCRYPTED).encode() for name, file in files.items()} | {
+        "passphrase": words + b"\n",
+        "passphrase.crlf": words + b"\r\nand another line\r\n",
+        "passphrase.empty": b"\n" + words,
+        "passphrase.long": longest + b"x",
+        "passphrase.longest": longest,
+        "passphrase.other": b"wrong horse\n",
     }
 
 
@@ -197,7 +225,7 @@ def main(folder):
     master = bytes(range(32))
     key, daily = second.derived(master, 1), second.derived(master, 2)
     hello, files = keys(key, daily)
-    files |= signatures(key, hello) | envelopes(key, hello) | groups(key, daily)
+    files |= locked(key, hello) | signatures(key, hello) | envelopes(key, hello) | groups(key, daily)
     files |= small_logs(key) | long_log(key)
     for name, value in files.items():
         path = Path(folder) / name

@@ -11,7 +11,7 @@ use Rattle.aes.specs.Cipher.{inverse_cipher}
 use Rattle.aes.specs.Schedule.{IsKeyLength}
 use Rattle.aes.proofs.Padding.{by_rest, last_of}
 use Rattle.aes.proofs.Bytes.{AllBytes, IsBlock}
-use Rattle.aes.proofs.Blocks.{added_block, added_undone, dropped_bytes, taken_bytes}
+use Rattle.aes.proofs.Blocks.{added_block, added_undone, dropped_bytes, joined_bytes, taken_bytes}
 use Rattle.aes.proofs.Undone.{cipher_block, cipher_undone}
 
 -- what is encrypted: a key, an initial vector, a message
@@ -42,6 +42,13 @@ length-blocks key iv m zero g within = refl
 length-blocks key iv m (suc n) g within =
     let last = chained_block key iv m (suc n) g within in
     omega (arith, length-append (cbc_blocks key iv m n) (chained key iv m (suc n)), last.size, length-blocks key iv m n g (omega arith))
+
+pub blocks_bytes : (key iv m : List ℕ) (n : ℕ) → Given key iv m → 16 * n ≤ length m → AllBytes (cbc_blocks key iv m n)
+unfolding cbc_blocks
+blocks_bytes key iv m zero g within = tt
+blocks_bytes key iv m (suc n) g within =
+    let last = chained_block key iv m (suc n) g within in
+    joined_bytes (cbc_blocks key iv m n) (chained key iv m (suc n)) (blocks_bytes key iv m n g (omega arith)) last.bytes
 
 block_of : (key iv m : List ℕ) (n j : ℕ) → Given key iv m → 16 * n ≤ length m → j < n
     → block_at (cbc_blocks key iv m n) j ≡ chained key iv m (suc j)

@@ -46,18 +46,18 @@ sized_long a b bytes h =
     let high : (a == 0) ≡ false = differs a 0 h in
     rw (some, three, high) refl
 
-short_bytes : (n : ℕ) → n < 128 → length_bytes n ≡ n ∷ []
+pub short_bytes : (n : ℕ) → n < 128 → length_bytes n ≡ n ∷ []
 unfolding length_bytes
 short_bytes n h = let low : nat_lt n 128 ≡ true = lt-ltb n 128 h in rw low refl
 
-middle_bytes : (n : ℕ) → 128 ≤ n → n < 256 → length_bytes n ≡ 0x81 ∷ n ∷ []
+pub middle_bytes : (n : ℕ) → 128 ≤ n → n < 256 → length_bytes n ≡ 0x81 ∷ n ∷ []
 unfolding length_bytes
 middle_bytes n h g =
     let high : nat_lt n 128 ≡ false = le-ltb n 128 h in
     let low : nat_lt n 256 ≡ true = lt-ltb n 256 g in
     rw (high, low) refl
 
-long_bytes : (n : ℕ) → 256 ≤ n → length_bytes n ≡ 0x82 ∷ n / 256 ∷ n % 256 ∷ []
+pub long_bytes : (n : ℕ) → 256 ≤ n → length_bytes n ≡ 0x82 ∷ n / 256 ∷ n % 256 ∷ []
 unfolding length_bytes
 long_bytes n h =
     let high : nat_lt n 128 ≡ false = le-ltb n 128 (omega arith) in
@@ -125,18 +125,18 @@ number_four : (a b c d : ℕ) → a < 128 → (a ≡ 0 → 128 ≤ b)
 unfolding number_of
 number_four a b c d h g = let low : nat_le 128 a ≡ false = not_le 128 a h in rw (low, shortest a b g) refl
 
-one_byte : (n : ℕ) → n < 0x80 → number_bytes n ≡ n % 256 ∷ []
+pub one_byte : (n : ℕ) → n < 0x80 → number_bytes n ≡ n % 256 ∷ []
 unfolding number_bytes
 one_byte n h = let low : nat_lt n 0x80 ≡ true = lt-ltb n 0x80 h in rw low refl
 
-two_bytes : (n : ℕ) → 0x80 ≤ n → n < 0x8000 → number_bytes n ≡ n / 256 % 256 ∷ n % 256 ∷ []
+pub two_bytes : (n : ℕ) → 0x80 ≤ n → n < 0x8000 → number_bytes n ≡ n / 256 % 256 ∷ n % 256 ∷ []
 unfolding number_bytes
 two_bytes n g h =
     let high : nat_lt n 0x80 ≡ false = le-ltb n 0x80 g in
     let low : nat_lt n 0x8000 ≡ true = lt-ltb n 0x8000 h in
     rw (high, low) refl
 
-three_bytes : (n : ℕ) → 0x8000 ≤ n → n < 0x800000 → number_bytes n ≡ n / 65536 % 256 ∷ n / 256 % 256 ∷ n % 256 ∷ []
+pub three_bytes : (n : ℕ) → 0x8000 ≤ n → n < 0x800000 → number_bytes n ≡ n / 65536 % 256 ∷ n / 256 % 256 ∷ n % 256 ∷ []
 unfolding number_bytes
 three_bytes n g h =
     let first : nat_lt n 0x80 ≡ false = le-ltb n 0x80 (omega arith) in
@@ -144,7 +144,7 @@ three_bytes n g h =
     let low : nat_lt n 0x800000 ≡ true = lt-ltb n 0x800000 h in
     rw (first, high, low) refl
 
-four_bytes_of : (n : ℕ) → 0x800000 ≤ n → number_bytes n ≡ n / 16777216 ∷ n / 65536 % 256 ∷ n / 256 % 256 ∷ n % 256 ∷ []
+pub four_bytes_of : (n : ℕ) → 0x800000 ≤ n → number_bytes n ≡ n / 16777216 ∷ n / 65536 % 256 ∷ n / 256 % 256 ∷ n % 256 ∷ []
 unfolding number_bytes
 four_bytes_of n g =
     let first : nat_lt n 0x80 ≡ false = le-ltb n 0x80 (omega arith) in

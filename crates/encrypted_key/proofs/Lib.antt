@@ -1,4 +1,5 @@
 pub mod Elements
+pub mod FileBytes
 pub mod Files
 pub mod Opening
 pub mod Written

@@ -4,7 +4,6 @@ use Rattle.std.proofs.lemmas.List.{length-replicate}
 use Rattle.std.proofs.Math.Seq.{take-append_seam}
 use Rattle.aes.specs.Bytes.{AreBytes}
 use Rattle.aes.specs.Cbc.{padded, padding_count}
-use Rattle.aes.specs.Schedule.{IsKeyLength}
 use Rattle.aes.proofs.Blocks.{joined_bytes}
 use Rattle.aes.proofs.Bytes.{AllBytes, a_block, all_bytes}
 use Rattle.aes.proofs.Messages.{Given, cbc_back, length-blocks, unpadded}
@@ -48,6 +47,28 @@ front_of_padded : (m : List ℕ) → take (length m) (padded m) ≡ m
 unfolding padded
 front_of_padded m = take-append_seam m (replicate (padding_count (length m)) (padding_count (length m)))
 
+-- what is encrypted of a private key
+pub given_of : (passphrase salt iv m : List ℕ) (count : ℕ) → length iv ≡ 16 → AreBytes iv → AreBytes m
+    → Given (pbkdf2 passphrase salt count 32) iv (padded m)
+given_of passphrase salt iv m count hv iv_bytes bytes =
+    let key = pbkdf2 passphrase salt count 32 in
+    let long : length key ≡ 32 = length-key passphrase salt count 32 (omega arith) in
+    record {
+      size = inr (inr long);
+      key_bytes = all_bytes key (key_bytes passphrase salt count 32 (omega arith));
+      iv_block = a_block iv hv iv_bytes;
+      bytes = padded_bytes m (all_bytes m bytes);
+    }
+
+pub length-text : (passphrase salt iv m : List ℕ) (count : ℕ) → length iv ≡ 16 → AreBytes iv → AreBytes m
+    → length (text_of passphrase salt count iv m) ≡ 16 * (length m / 16) + 16
+length-text passphrase salt iv m count hv iv_bytes bytes =
+    let key = pbkdf2 passphrase salt count 32 in
+    let n = length (padded m) / 16 in
+    let blocks : length (padded m) ≡ 16 * (length m / 16) + 16 = length-padded m in
+    let within : 16 * n ≤ length (padded m) = omega arith in
+    length-blocks key iv (padded m) n (given_of passphrase salt iv m count hv iv_bytes bytes) within ∙ omega (arith, blocks)
+
 pub decrypted_of_encrypted : (passphrase salt iv m : List ℕ) (count : ℕ) → length salt ≡ 16 → length iv ≡ 16
     → AreBytes iv → 1 ≤ count → count ≤ max_iterations → AreBytes m → is_private_key m ≡ true
     → decrypted passphrase (encrypted passphrase salt count iv m) ≡ Ok m
@@ -55,19 +76,11 @@ decrypted_of_encrypted passphrase salt iv m count hs hv iv_bytes some most bytes
     let key = pbkdf2 passphrase salt count 32 in
     let text = text_of passphrase salt count iv m in
     let t = told Aes256 salt count iv text in
-    let long : length key ≡ 32 = length-key passphrase salt count 32 (omega arith) in
-    let size : IsKeyLength (length key) = inr (inr long) in
-    let whole_key : AllBytes key = all_bytes key (key_bytes passphrase salt count 32 (omega arith)) in
-    let whole : AllBytes (padded m) = padded_bytes m (all_bytes m bytes) in
-    let block = a_block iv hv iv_bytes in
-    let g : Given key iv (padded m) = record { size = size; key_bytes = whole_key; iv_block = block; bytes = whole } in
-    let n = length (padded m) / 16 in
-    let blocks : length (padded m) ≡ 16 * (length m / 16) + 16 = length-padded m in
-    let within : 16 * n ≤ length (padded m) = omega arith in
-    let text_len : length text ≡ 16 * (length m / 16) + 16 = length-blocks key iv (padded m) n g within ∙ omega (arith, blocks) in
-    let even : length (padded m) % 16 ≡ 0 = omega (arith, blocks) in
+    let g = given_of passphrase salt iv m count hv iv_bytes bytes in
+    let text_len = length-text passphrase salt iv m count hv iv_bytes bytes in
+    let even : length (padded m) % 16 ≡ 0 = omega (arith, length-padded m) in
     let given : Gives passphrase (padded m) t = record {
-      is = sym (cbc_back key iv (padded m) size whole_key block whole even);
+      is = sym (cbc_back key iv (padded m) g.size g.key_bytes g.iv_block g.bytes even);
     } in
     let rest : is_private_key (take (length m) (padded m)) ≡ true = ap is_private_key (front_of_padded m) ∙ is in
     ap (λ r. onward r (opened passphrase)) (told_of_file salt iv text count (length m / 16) hs hv some most text_len)

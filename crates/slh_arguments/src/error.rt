@@ -31,6 +31,10 @@ pub enum WordError {
     NothingBeside,
     #[error("it is of one file")]
     OneFile,
+    #[error("not a number from 1 to 10000000")]
+    Iterations,
+    #[error("there is no passphrase that it goes with")]
+    NoPassphrase,
     #[error("not all files were verified")]
     Unverified,
     #[error("a word of the command line has control characters")]

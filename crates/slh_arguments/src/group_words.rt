@@ -3,8 +3,9 @@ use crate::log_words::log;
 use crate::names;
 use crate::verbs::{GroupVerb, Verb};
 use crate::words::{
-    CONTEXT, CONTEXT_HEX, DETERMINISTIC, FILE, Group, JSON, KEY_TEXT, Kind, NAME, OUTPUT, PREHASH,
-    SET, SIGNATURE, SIGNING_KEY, Subcommand, VERIFYING_KEY, Word,
+    CONTEXT, CONTEXT_HEX, DETERMINISTIC, ENCRYPTED_BY, FILE, Group, ITERATIONS, JSON, KEY_TEXT,
+    Kind, NAME, OUTPUT, PASSPHRASE_FILE, PREHASH, SET, SIGNATURE, SIGNING_KEY, Subcommand,
+    VERIFYING_KEY, Word,
 };
 
 /// The commands that have commands below them.
@@ -17,7 +18,13 @@ const BATCH_SIGN: Subcommand = Subcommand {
     verb: Verb::Group(GroupVerb::BatchSign),
     about: "Signs many files at once: FILE.receipt for each",
     example: "Example:\n    slh batch sign --key release.key *.txt",
-    words: &[SIGNING_KEY, HEAD_OUTPUT, DETERMINISTIC, FILES],
+    words: &[
+        SIGNING_KEY,
+        PASSPHRASE_FILE,
+        HEAD_OUTPUT,
+        DETERMINISTIC,
+        FILES,
+    ],
 };
 
 const BATCH_VERIFY: Subcommand = Subcommand {
@@ -43,7 +50,13 @@ const MANIFEST_SEAL: Subcommand = Subcommand {
     about: "Signs the regular files below a folder, up to 4096",
     example: "Example:\n    \
               slh manifest seal --key release.key --output folder.manifest folder",
-    words: &[SIGNING_KEY, DETERMINISTIC, MANIFEST_OUTPUT, FOLDER],
+    words: &[
+        SIGNING_KEY,
+        PASSPHRASE_FILE,
+        DETERMINISTIC,
+        MANIFEST_OUTPUT,
+        FOLDER,
+    ],
 };
 
 const MANIFEST_CHECK: Subcommand = Subcommand {
@@ -82,6 +95,7 @@ const CHAIN_DELEGATE: Subcommand = Subcommand {
               release --output release.chain",
     words: &[
         SIGNING_KEY,
+        PASSPHRASE_FILE,
         SUBJECT,
         LINK_NAME,
         DEPTH,
@@ -151,7 +165,7 @@ const RING_KEY: Subcommand = Subcommand {
     example: "Example:\n    \
               slh ring key --set SLH-DSA-SHA2-128f --master products.master --path \
               2/2026 product2",
-    words: &[SET, MASTER, PATH, NAME],
+    words: &[SET, MASTER, PATH, ENCRYPTED_BY, ITERATIONS, NAME],
 };
 
 const RING_RECORD: Subcommand = Subcommand {

@@ -1,6 +1,6 @@
 //! The words of the command `slh`, in tables, the parser that they make, and what they stand for,
-//! which several groups of commands share: the inputs that they name, the randomness of signatures,
-//! the files of a pair of keys, and what is told of a signature. docs/SLH.md has them.
+//! which several groups of commands share: the inputs that they name, passphrases, the randomness of
+//! signatures, the files of a pair of keys, and what is told of a signature. docs/SLH.md has them.
 //!
 //! Each row of the tables has a [`Verb`], and [`chosen`] finds that of the words at hand.
 #![tactic(auto)]
@@ -11,6 +11,7 @@ mod group_words;
 mod log_words;
 pub mod names;
 mod pairs;
+mod passphrases;
 mod randomness;
 mod values;
 mod verbs;
@@ -20,6 +21,7 @@ mod words;
 pub use claims::{Claim, own_claim};
 pub use error::WordError;
 pub use pairs::{pair_name, public_file, verifying_file, write_pair};
+pub use passphrases::{Encryption, passphrase, secret_file};
 pub use randomness::Randomness;
 pub use slh_host as host;
 pub use slh_host::bytes;

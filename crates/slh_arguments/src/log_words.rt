@@ -2,8 +2,8 @@
 use crate::names;
 use crate::verbs::{LogVerb, Verb};
 use crate::words::{
-    DETERMINISTIC, FILE, Group, JSON, KEY_TEXT, Kind, OUTPUT, SIGNING_KEY, Subcommand,
-    VERIFYING_KEY, Word,
+    DETERMINISTIC, FILE, Group, JSON, KEY_TEXT, Kind, OUTPUT, PASSPHRASE_FILE, SIGNING_KEY,
+    Subcommand, VERIFYING_KEY, Word,
 };
 
 const LOG_INIT: Subcommand = Subcommand {
@@ -12,7 +12,7 @@ const LOG_INIT: Subcommand = Subcommand {
     about: "Begins a log without entries in a folder",
     example: "Example:\n    \
               slh log init --key log.key --origin example.org/releases releases",
-    words: &[SIGNING_KEY, ORIGIN, DETERMINISTIC, LOG],
+    words: &[SIGNING_KEY, PASSPHRASE_FILE, ORIGIN, DETERMINISTIC, LOG],
 };
 
 const LOG_APPEND: Subcommand = Subcommand {
@@ -20,7 +20,14 @@ const LOG_APPEND: Subcommand = Subcommand {
     verb: Verb::Log(LogVerb::Append),
     about: "Adds each file as an entry, and signs the head again",
     example: "Example:\n    slh log append --key log.key releases notes.txt",
-    words: &[SIGNING_KEY, LINES, DETERMINISTIC, LOG, ENTRIES],
+    words: &[
+        SIGNING_KEY,
+        PASSPHRASE_FILE,
+        LINES,
+        DETERMINISTIC,
+        LOG,
+        ENTRIES,
+    ],
 };
 
 const LOG_PROVE: Subcommand = Subcommand {

@@ -31,6 +31,8 @@ pub const HEAD: &str = "head";
 
 pub const INDEX: &str = "index";
 
+pub const ITERATIONS: &str = "iterations";
+
 pub const JSON: &str = "json";
 
 pub const KEY: &str = "key";
@@ -47,11 +49,15 @@ pub const NAME: &str = "name";
 
 pub const NEW: &str = "new";
 
+pub const NEW_PASSPHRASE_FILE: &str = "new-passphrase-file";
+
 pub const OLD: &str = "old";
 
 pub const ORIGIN: &str = "origin";
 
 pub const OUTPUT: &str = "output";
+
+pub const PASSPHRASE_FILE: &str = "passphrase-file";
 
 pub const PATH: &str = "path";
 

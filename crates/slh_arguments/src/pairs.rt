@@ -1,11 +1,10 @@
 //! The files of a pair of keys.
 use crate::error::WordError;
 use crate::names;
+use crate::passphrases::{Encryption, secret_file};
 use crate::values::required;
 use clap::ArgMatches;
-use slh_host::bytes::{
-    ByteString, Key, Outcome, SecretText, Set, signing_key_file, verifying_key, verifying_key_file,
-};
+use slh_host::bytes::{ByteString, Key, Outcome, Set, verifying_key, verifying_key_file};
 use slh_host::{Failure, outputs};
 
 /// The NAME that the words give a new pair. That of a set is none, since it was meant to be a set,
@@ -46,17 +45,14 @@ pub fn public_file<'a>(
     verifying_file(rt, &verifying_key(rt.alloc(), key)?, name)
 }
 
-// The file of a signing key.
-fn secret_file<'a>(rt: &HostRuntime, key: &Key, name: &'a str) -> Result<SecretText, Failure<'a>> {
-    match signing_key_file(rt.alloc(), key) {
-        Ok(secret) => Ok(secret),
-        Err(error) => Err(Failure::told(name, error)),
-    }
-}
-
 /// Writes the files of a pair, NAME.key and NAME.pub, neither of which may be there.
-pub fn write_pair<'a>(rt: &HostRuntime, name: &'a str, key: &Key) -> Result<Outcome, Failure<'a>> {
-    let secret = secret_file(rt, key, name)?;
+pub fn write_pair<'a>(
+    rt: &HostRuntime,
+    name: &'a str,
+    key: &Key,
+    encryption: Option<&Encryption>,
+) -> Result<Outcome, Failure<'a>> {
+    let secret = secret_file(rt, key, encryption, name)?;
     let public = public_file(rt, key, name)?;
     outputs::put_pair(rt, name, &secret, public.as_slice())?;
     Ok(Outcome::Done)

@@ -1,10 +1,11 @@
 //! What the words of a command stand for.
 use crate::error::WordError;
 use crate::names;
+use crate::passphrases::passphrase;
 use clap::ArgMatches;
 use slh_host::bytes::{
-    ByteString, Key, Kind, MAX_CONTEXT, Mode, Set, batch, chain, digits_of, log, manifest,
-    read_key, read_signature, read_signing_key,
+    ByteString, Key, KeyFileError, Kind, MAX_CONTEXT, Mode, Set, batch, chain, digits_of, log,
+    manifest, read_key, read_signature, read_signing_key, read_signing_key_under,
 };
 use slh_host::{Failure, files};
 
@@ -24,8 +25,10 @@ const RESERVED_CONTEXTS: [&[u8]; 4] = [
 ];
 
 /// What names an input, in any command.
-const INPUTS: [&str; 13] = [
+const INPUTS: [&str; 15] = [
     names::KEY,
+    names::PASSPHRASE_FILE,
+    names::NEW_PASSPHRASE_FILE,
     names::SIGNATURE,
     names::HEAD,
     names::RECEIPT,
@@ -161,13 +164,30 @@ pub fn verifying_key<'a>(rt: &HostRuntime, words: &ArgMatches<'a>) -> Result<Key
     }
 }
 
-/// The signing key of `--key`, whose root is that of its own seeds.
+/// The signing key of `--key`, whose root is that of its own seeds. Where it is encrypted it is
+/// decrypted with the passphrase of `--passphrase-file`.
 pub fn signing_key<'a>(rt: &HostRuntime, words: &ArgMatches<'a>) -> Result<Key, Failure<'a>> {
     let path = required(words, names::KEY)?;
     let file = files::read_limited(rt, path)?;
-    match read_signing_key(rt.alloc(), file.as_slice()) {
+    let key = match read_signing_key(rt.alloc(), file.as_slice()) {
+        Err(KeyFileError::Encrypted) => decrypted(rt, words, file.as_slice())?,
+        key => key,
+    };
+    match key {
         Ok(key) => Ok(key),
         Err(error) => Err(Failure::told(path, error)),
+    }
+}
+
+// The signing key of a file with an encrypted one.
+fn decrypted<'a>(
+    rt: &HostRuntime,
+    words: &ArgMatches<'a>,
+    file: &[u8],
+) -> Result<Result<Key, KeyFileError>, Failure<'a>> {
+    match passphrase(rt, words, names::PASSPHRASE_FILE)? {
+        Some(passphrase) => Ok(read_signing_key_under(rt.alloc(), &passphrase, file)),
+        None => Ok(Err(KeyFileError::Encrypted)),
     }
 }
 

@@ -13,6 +13,7 @@ pub enum Verb {
 #[derive(Clone, Copy, Debug, PartialEq, Eq)]
 pub enum FileVerb {
     Keygen,
+    Key,
     Public,
     Sign,
     Verify,

@@ -100,6 +100,34 @@ pub const SIGNING_KEY: Word = Word {
     help: "The signing key",
 };
 
+pub const PASSPHRASE_FILE: Word = Word {
+    kind: Kind::Optional,
+    name: names::PASSPHRASE_FILE,
+    value: "FILE",
+    help: "The passphrase of an encrypted key: the first line of a file",
+};
+
+pub const ENCRYPTED_BY: Word = Word {
+    kind: Kind::Optional,
+    name: names::PASSPHRASE_FILE,
+    value: "FILE",
+    help: "Encrypts NAME.key by a passphrase, the first line of a file",
+};
+
+const NEW_PASSPHRASE_FILE: Word = Word {
+    kind: Kind::Optional,
+    name: names::NEW_PASSPHRASE_FILE,
+    value: "FILE",
+    help: "Encrypts the key by a passphrase, the first line of a file",
+};
+
+pub const ITERATIONS: Word = Word {
+    kind: Kind::Optional,
+    name: names::ITERATIONS,
+    value: "NUMBER",
+    help: "How often a passphrase is hashed, up to 10000000; 600000 if it is left out",
+};
+
 pub const VERIFYING_KEY: Word = Word {
     kind: Kind::Key,
     name: names::KEY,
@@ -226,6 +254,13 @@ const PAYLOAD: Word = Word {
     help: "Where an envelope's payload goes once it is accepted; - is standard output",
 };
 
+const KEY_OUTPUT: Word = Word {
+    kind: Kind::Required,
+    name: names::OUTPUT,
+    value: "NAME.key",
+    help: "Where the key goes, where no file is",
+};
+
 const EVIDENCE: Word = Word {
     kind: Kind::Required,
     name: names::EVIDENCE,
@@ -238,7 +273,22 @@ const KEYGEN: Subcommand = Subcommand {
     verb: Verb::File(FileVerb::Keygen),
     about: "Makes a key of random bytes: NAME.key, which is secret, and NAME.pub",
     example: "Example:\n    slh keygen --set SLH-DSA-SHA2-128f release",
-    words: &[KEYGEN_SET, NAME],
+    words: &[KEYGEN_SET, ENCRYPTED_BY, ITERATIONS, NAME],
+};
+
+const KEY: Subcommand = Subcommand {
+    name: "key",
+    verb: Verb::File(FileVerb::Key),
+    about: "Writes a signing key anew: encrypted, in the open, or by another passphrase",
+    example: "Example:\n    \
+              slh key --key release.key --new-passphrase-file passphrase --output locked.key",
+    words: &[
+        SIGNING_KEY,
+        PASSPHRASE_FILE,
+        NEW_PASSPHRASE_FILE,
+        ITERATIONS,
+        KEY_OUTPUT,
+    ],
 };
 
 const PUBLIC: Subcommand = Subcommand {
@@ -246,7 +296,7 @@ const PUBLIC: Subcommand = Subcommand {
     verb: Verb::File(FileVerb::Public),
     about: "Writes the verifying key of a signing key",
     example: "Example:\n    slh public --key release.key --output release.pub",
-    words: &[SIGNING_KEY, OUTPUT],
+    words: &[SIGNING_KEY, PASSPHRASE_FILE, OUTPUT],
 };
 
 const SIGN: Subcommand = Subcommand {
@@ -256,6 +306,7 @@ const SIGN: Subcommand = Subcommand {
     example: "Example:\n    slh sign --key release.key --audit notes.txt",
     words: &[
         SIGNING_KEY,
+        PASSPHRASE_FILE,
         CONTEXT,
         CONTEXT_HEX,
         PREHASH,
@@ -294,6 +345,7 @@ const AUDIT_COMMAND: Subcommand = Subcommand {
               slh audit --key release.key --signature notes.txt.sig notes.txt",
     words: &[
         SIGNING_KEY,
+        PASSPHRASE_FILE,
         SIGNATURE,
         CONTEXT,
         CONTEXT_HEX,
@@ -311,6 +363,7 @@ const EVIDENCE_COMMAND: Subcommand = Subcommand {
               --evidence 'early 0 1' notes.txt",
     words: &[
         SIGNING_KEY,
+        PASSPHRASE_FILE,
         SIGNATURE,
         EVIDENCE,
         CONTEXT,
@@ -326,13 +379,14 @@ const INSPECT: Subcommand = Subcommand {
     verb: Verb::File(FileVerb::Inspect),
     about: "Tells what a key or a signature is, and nothing that is secret",
     example: "Example:\n    slh inspect release.key",
-    words: &[FILE],
+    words: &[PASSPHRASE_FILE, FILE],
 };
 
 // (in a function of its own, a table stands in no other function's proof)
 fn subcommands() -> &'static [Subcommand] {
     &[
         KEYGEN,
+        KEY,
         PUBLIC,
         SIGN,
         VERIFY,
@@ -422,7 +476,9 @@ fn arg_of<'a>(alloc: Global, word: &'static Word) -> Result<Arg<'a>, AllocError>
         Kind::Operand | Kind::OptionalOperand => Ok(with_value(arg, word)),
         Kind::Operands => Ok(with_value(arg, word).num_args(1usize..)),
         Kind::Context => with_value(arg.long(word.name), word).conflicts_with(names::CONTEXT_HEX),
-        Kind::Envelope => with_value(arg.long(word.name), word).conflicts_with_all(&WAYS_OF_SIGNING),
+        Kind::Envelope => with_value(arg.long(word.name), word).conflicts_with_all(
+            &WAYS_OF_SIGNING,
+        ),
         Kind::Payload => with_value(arg.long(word.name), word).requires_arg(names::DSSE),
         Kind::Key => with_value(arg.long(word.name), word).conflicts_with(names::KEY_TEXT),
         _ => Ok(with_value(arg.long(word.name), word)),

@@ -7,6 +7,7 @@ pub mod RoundTrip
 pub mod Genuine
 pub mod ReadBack
 pub mod OwnKeys
+pub mod UnderPassphrase
 pub mod WordsBack
 mod Following
 mod Read

@@ -64,7 +64,7 @@ pub begins : (kind : Kind) (lines : List ℕ) → first_place begin_mark (framed
 begins Signing lines = refl
 begins Verifying lines = refl
 
-cut_behind : (mark front back : List ℕ) → no_dash front ≡ true → first_place (45 ∷ mark) back ≡ Some 0
+pub cut_behind : (mark front back : List ℕ) → no_dash front ≡ true → first_place (45 ∷ mark) back ≡ Some 0
     → cut_at (45 ∷ mark) (front ++ back) ≡ Some (front, drop (length (45 ∷ mark)) back)
 cut_behind mark front back plain here =
     let place : first_place (45 ∷ mark) (front ++ back) ≡ Some (0 + length front) =
@@ -91,7 +91,7 @@ take_two a n d =
     let whole : take a (take (a + n) d) ++ drop a (take (a + n) d) ≡ take (a + n) d = take-append-drop a (take (a + n) d) in
     sym (rw (take-take a (a + n) d (omega arith), drop-take a n d) at whole)
 
-undashed_lines : (k : ℕ) (bytes : List ℕ) → are_symbols bytes ≡ true → no_dash (first_lines k bytes) ≡ true
+pub undashed_lines : (k : ℕ) (bytes : List ℕ) → are_symbols bytes ≡ true → no_dash (first_lines k bytes) ≡ true
 undashed_lines zero bytes plain = refl
 undashed_lines (suc k) bytes plain =
     let line = undashed (take 64 (drop (64 * k) bytes)) (taken 64 (drop (64 * k) bytes) (dropped (64 * k) bytes plain)) in
@@ -121,7 +121,7 @@ pub file_block : (kind : Kind) (bytes : List ℕ) → are_symbols bytes ≡ true
     → block_in (framed kind (lines_of_64 bytes)) ≡ Ok (label kind, 10 ∷ lines_of_64 bytes)
 file_block kind bytes plain = read_block kind (lines_of_64 bytes) (undashed_lines (div_ceil (length bytes) 64) bytes plain)
 
-read_der : (kind : Kind) (set : Set) (key : List ℕ) → length key ≡ key_len kind set → der_key kind (der_of kind set key) ≡ Ok (key_with set key)
+pub read_der : (kind : Kind) (set : Set) (key : List ℕ) → length key ≡ key_len kind set → der_key kind (der_of kind set key) ≡ Ok (key_with set key)
 read_der kind set key sized =
     let der = der_of kind set key in
     let whole : der ≡ head_at kind set ++ key = sym (head_at_is kind set key sized) in

@@ -24,6 +24,8 @@ pub mod LogHeads
 pub mod LogProofs
 pub mod LogVerdicts
 pub mod Inspection
+pub mod Passphrases
+pub mod Encrypted
 pub mod SignedFiles
 pub mod LogTold
 pub use Rattle.slh_sets.specs.Sets

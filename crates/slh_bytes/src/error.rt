@@ -1,4 +1,5 @@
 //! Why a file gave no key, and how that is told.
+use encrypted_key::EncryptedKeyError;
 use std::alloc::AllocError;
 
 /// Why a text is no key file of the kind that is wanted.
@@ -16,9 +17,21 @@ pub enum KeyFileError {
     /// A second block begins behind the first.
     #[error("more than one PEM block")]
     SecondBlock,
-    /// The block is a signing key under a password.
-    #[error("the key is encrypted, which slh does not read")]
+    /// The block is a signing key under a passphrase, and none is given.
+    #[error("the key is encrypted: give its passphrase by --passphrase-file")]
     Encrypted,
+    /// What is encrypted isn't in the form of an encrypted key.
+    #[error("not the bytes of an encrypted key")]
+    Form,
+    /// The key is encrypted by another scheme.
+    #[error("encrypted by another scheme than slh reads: see KEYS.md")]
+    Scheme,
+    /// It asks for more iterations than are taken, or for none.
+    #[error("asks for more than 10000000 iterations, or for none")]
+    Iterations,
+    /// Under the passphrase there is no private key.
+    #[error("not decrypted: the passphrase is wrong, or the file is damaged")]
+    Passphrase,
     /// It has the other key of a pair.
     #[error("the other key of a pair: see slh inspect")]
     OtherKind,
@@ -53,5 +66,22 @@ impl From<AllocError> for KeyFileError {
 
     fn from(_: AllocError) -> Self {
         KeyFileError::Memory
+    }
+}
+
+impl From<EncryptedKeyError> for KeyFileError {
+    ghost use Rattle.std.specs.Prelude.{◌≡◌};
+    ghost use Rattle.slh_bytes.specs.Encrypted.{refusal_of};
+
+    ghost from_gives = { λ e f. f ≡ refusal_of e };
+
+    fn from(error: EncryptedKeyError) -> Self {
+        match error {
+            EncryptedKeyError::Form | EncryptedKeyError::Length => KeyFileError::Form,
+            EncryptedKeyError::Scheme => KeyFileError::Scheme,
+            EncryptedKeyError::Iterations => KeyFileError::Iterations,
+            EncryptedKeyError::Passphrase => KeyFileError::Passphrase,
+            EncryptedKeyError::Memory => KeyFileError::Memory,
+        }
     }
 }

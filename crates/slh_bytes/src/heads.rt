@@ -1,5 +1,5 @@
 //! The bytes that stand before a key in DER (RFC 9909).
-ghost use Rattle.std.specs.Prelude.{◌≡◌, ◌++◌, ℕ, List, length};
+ghost use Rattle.std.specs.Prelude.{◌≡◌, ◌≤◌, ◌++◌, ℕ, List, length};
 ghost use Rattle.slh_bytes.specs.Heads.{algorithm, der_of, key_len};
 ghost use Rattle.slh_bytes.specs.declared.key.Kind.TheVariants.{Signing, Verifying};
 
@@ -8,8 +8,9 @@ use slh_sets::Set;
 
 /// The bytes before a key.
 pub(crate) fn head(kind: Kind, set: Set) -> &'static [u8]
-    ensures { (key : List ℕ) → length key ≡ key_len kind set
+    ensures value { (key : List ℕ) → length key ≡ key_len kind set
         → result.now ++ key ≡ der_of kind set key }
+    ensures most { length result.now ≤ 22 }
 {
     match kind {
         Kind::Signing => signing_head(set),
@@ -32,8 +33,9 @@ pub(crate) fn algorithm(set: Set) -> &'static [u8]
 }
 
 fn signing_head(set: Set) -> &'static [u8]
-    ensures { (key : List ℕ) → length key ≡ key_len Signing set
+    ensures value { (key : List ℕ) → length key ≡ key_len Signing set
         → result.now ++ key ≡ der_of Signing set key }
+    ensures most { length result.now ≤ 22 }
 {
     match set {
         Set::Sha2_128s =>
@@ -56,8 +58,9 @@ fn signing_head(set: Set) -> &'static [u8]
 }
 
 fn verifying_head(set: Set) -> &'static [u8]
-    ensures { (key : List ℕ) → length key ≡ key_len Verifying set
+    ensures value { (key : List ℕ) → length key ≡ key_len Verifying set
         → result.now ++ key ≡ der_of Verifying set key }
+    ensures most { length result.now ≤ 22 }
 {
     match set {
         Set::Sha2_128s =>

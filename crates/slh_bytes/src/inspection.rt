@@ -4,15 +4,18 @@ ghost use Rattle.slh_bytes.specs.Inspection.{key_text as spec_key_text, root_tex
 ghost use Rattle.slh_bytes.specs.Inspection.{other_text as spec_other_text};
 ghost use Rattle.slh_bytes.specs.Inspection.{set_text as spec_set_text};
 ghost use Rattle.slh_bytes.specs.Inspection.{signature_text as spec_signature_text};
-ghost use Rattle.slh_bytes.specs.Inspection.{signing_key_text, told_text};
+ghost use Rattle.slh_bytes.specs.Inspection.{signing_key_text, text_by, told_text};
+ghost use Rattle.slh_bytes.specs.Encrypted.{told_text_under};
 ghost use Rattle.slh_bytes.specs.Heads.{key_len};
 ghost use Rattle.slh_bytes.specs.Reading.{key_in};
 ghost use Rattle.slh_bytes.specs.declared.error.KeyFileError.TheVariants.{Memory};
 ghost use Rattle.slh_bytes.specs.declared.key.Kind.TheVariants.{Signing, Verifying};
 
+use crate::encrypted::read_key_under;
 use crate::error::KeyFileError;
 use crate::key::{Key, Kind};
 use crate::making::{has_own_root, verifying_key};
+use crate::passphrase::Passphrase;
 use crate::reading::read_key;
 use crate::signatures::{digits_of, set_of_signature};
 use line_serve::push_hex_line;
@@ -26,7 +29,30 @@ use std::alloc::{AllocError, Global};
 pub fn inspected(alloc: Global, file: &[u8]) -> Result<Option<ByteString>, KeyFileError>
     ensures { (result ≡ told_text file.now) ⊎ (result ≡ Err Memory) }
 {
-    match read_key(alloc, Kind::Signing, file) {
+    told_of(alloc, file, read_key(alloc, Kind::Signing, file))
+}
+
+/// The same, where a signing key may be encrypted under this passphrase.
+pub fn inspected_under(
+    alloc: Global,
+    passphrase: &Passphrase,
+    file: &[u8],
+) -> Result<Option<ByteString>, KeyFileError>
+    ensures { (result ≡ told_text_under passphrase.now file.now) ⊎ (result ≡ Err Memory) }
+{
+    told_of(alloc, file, read_key_under(alloc, passphrase, file))
+}
+
+// What is told of a file's bytes, of which this was read as a signing key.
+fn told_of(
+    alloc: Global,
+    file: &[u8],
+    read: Result<Key, KeyFileError>,
+) -> Result<Option<ByteString>, KeyFileError>
+    requires { IfOk read (λ key. length key.bytes ≡ key_len Signing key.set) }
+    ensures { (result ≡ text_by file.now read) ⊎ (result ≡ Err Memory) }
+{
+    match read {
         Ok(key) => Ok(Some(signing_text(alloc, &key)?)),
         Err(KeyFileError::OtherKind) => other_text(alloc, file),
         Err(KeyFileError::NoKey) => Ok(signature_text(alloc, file)?),

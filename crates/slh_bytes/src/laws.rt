@@ -1,11 +1,13 @@
 //! What is written is read, and nothing else; what is made is read; what is signed is genuine; what
 //! is printed of it is read; and what two readings of one file can't answer: as contracts.
-ghost use Rattle.std.specs.Prelude.{◌≡◌, ℕ, List, Bool, Option, Ok, Err, Some, IsTrue, length};
+ghost use Rattle.std.specs.Prelude.{◌≡◌, ◌≤◌, ℕ, List, Bool, Option, Ok, Err, Some, IsTrue, length};
 ghost use Rattle.base64.specs.Engines.{standard};
 ghost use Rattle.base64.specs.GeneralPurpose.{IsBytes, encode_of};
 ghost use Rattle.slh_bytes.specs.Blocks.{block_in};
+ghost use Rattle.slh_bytes.specs.Encrypted.{encrypted_key_file, key_under};
 ghost use Rattle.slh_bytes.specs.Heads.{der_of, key_len};
 ghost use Rattle.slh_bytes.specs.Jobs.{MadeIsGenuine};
+ghost use Rattle.encrypted_key.specs.Reading.{max_iterations};
 ghost use Rattle.slh_audit.specs.declared.evidence.Evidence.{Evidence};
 ghost use Rattle.slh_bytes.specs.Lines.{squeezed, words_of};
 ghost use Rattle.slh_bytes.specs.Made.{MadeIsOwn, MadeIsRead};
@@ -13,6 +15,7 @@ ghost use Rattle.slh_bytes.specs.Reading.{key_in, key_with, pem_key};
 ghost use Rattle.slh_bytes.specs.Writing.{key_file};
 ghost use Rattle.slh_bytes.specs.declared.key.Key.{Key as AnyKey};
 ghost use Rattle.slh_bytes.specs.declared.key.Kind.{Kind as KeyKind};
+ghost use Rattle.slh_bytes.specs.declared.key.Kind.TheVariants.{Signing};
 ghost use Rattle.slh_core.specs.Parameters.{Scheme};
 ghost use Rattle.slh_bytes.specs.Answers.{IsSignedTwice};
 ghost use Rattle.slh_bytes.specs.declared.read_error.ReadError.TheVariants.{Changed};
@@ -97,6 +100,16 @@ pub fn made_is_read(set: Set)
 pub fn printed_evidence_is_read()
     ensures { (evidence : Evidence) → HasNumbers evidence
         → evidence_in (words_of (evidence_text evidence)) ≡ Some evidence }
+{}
+
+/// The text of the file of a signing key under a passphrase is read as this key with the same
+/// passphrase, for each set, whatever the salt, the initial vector and the count of iterations.
+pub fn encrypted_is_read()
+    ensures { (passphrase salt iv key : List ℕ) (count : ℕ) (set : KeySet)
+        → length salt ≡ 16 → IsBytes salt → length iv ≡ 16 → IsBytes iv
+        → 1 ≤ count → count ≤ max_iterations → IsBytes key → length key ≡ key_len Signing set
+        → key_under passphrase (encrypted_key_file passphrase salt count iv set key)
+        ≡ Ok (key_with set key) }
 {}
 
 /// Inputs that have the same bytes are never told to have different ones.

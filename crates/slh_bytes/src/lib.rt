@@ -4,7 +4,7 @@
 //! RFC 9909, as OpenSSL 3.5 writes it, or a line `SET KEY` in hexadecimal. Text around the block and
 //! blanks and ends of lines within it don't count, and each other thing has its refusal,
 //! [`KeyFileError`]. Signatures are their bytes, or hexadecimal digits of them. What stands in the
-//! file of a secret is a [`SecretText`].
+//! file of a secret is a [`SecretText`]. A signing key may be encrypted under a [`Passphrase`].
 //!
 //! A key's file:
 //!
@@ -72,6 +72,7 @@ mod batches;
 mod blocks;
 mod chains;
 pub mod clones;
+mod encrypted;
 mod envelopes;
 mod error;
 mod evidence;
@@ -88,6 +89,7 @@ mod log_verdicts;
 mod making;
 mod manifests;
 mod outcome;
+mod passphrase;
 mod places;
 mod printable;
 mod read_error;
@@ -105,12 +107,13 @@ mod writing;
 pub use auditing::{audit, check_evidence};
 pub use batches::{Receipts, SealError, seal_batch};
 pub use chains::{LinkText, WalkError, last_key, links_of, new_link};
+pub use encrypted::{encrypted_key_file, read_key_under, read_signing_key_under};
 pub use envelopes::{envelope_of, open_envelope};
 pub use error::KeyFileError;
 pub use evidence::evidence_of;
 pub use gathering::gather;
 pub use input::{Fallible, Input};
-pub use inspection::inspected;
+pub use inspection::{inspected, inspected_under};
 pub use key::{Key, Kind};
 pub use line_serve::{push_hex, push_hex_line, push_number};
 pub use lines::has_line;
@@ -122,6 +125,7 @@ pub use log_verdicts::{
 pub use making::{has_own_root, made_key, verifying_key};
 pub use manifests::{Checked, check_manifest, entry_name, first_unnamed, seal_manifest};
 pub use outcome::Outcome;
+pub use passphrase::{Iterations, Passphrase, PassphraseError};
 pub use places::place_of;
 pub use printable::{Printable, shown};
 pub use read_error::{ReadError, refusal_text};

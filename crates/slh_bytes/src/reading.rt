@@ -1,8 +1,8 @@
 //! Key files read.
-ghost use Rattle.std.specs.Prelude.{◌≡◌, ◌⊎◌, ◌≤◌, IfOk, IfSome, Err, length, not};
+ghost use Rattle.std.specs.Prelude.{◌≡◌, ◌⊎◌, ◌≤◌, IfOk, IfSome, Ok, Err, length, not};
 ghost use Rattle.std.specs.List.{find};
 ghost use Rattle.slh_bytes.specs.Heads.{is_der, key_len};
-ghost use Rattle.slh_bytes.specs.Jobs.{own_key};
+ghost use Rattle.slh_bytes.specs.Jobs.{own_key as spec_own_key};
 ghost use Rattle.slh_sets.specs.Sets.{all_sets};
 ghost use Rattle.slh_bytes.specs.Lines.{is_blank as spec_is_blank, squeezed};
 ghost use Rattle.slh_bytes.specs.Reading.{body_key, der_key, der_error as spec_der_error};
@@ -39,9 +39,16 @@ pub fn read_key(alloc: Global, kind: Kind, text: &[u8]) -> Result<Key, KeyFileEr
 /// The signing key of a key file, which is used only where it is the one that its own seeds make.
 /// `Root`: its root is another.
 pub fn read_signing_key(alloc: Global, text: &[u8]) -> Result<Key, KeyFileError>
-    ensures exact { (result ≡ own_key (key_in Signing text.now)) ⊎ (result ≡ Err Memory) }
+    ensures exact { (result ≡ spec_own_key (key_in Signing text.now)) ⊎ (result ≡ Err Memory) }
 {
-    let key = read_key(alloc, Kind::Signing, text)?;
+    own_key(alloc, read_key(alloc, Kind::Signing, text)?)
+}
+
+/// A signing key of 4n bytes, where it is the one that its own seeds make.
+pub(crate) fn own_key(alloc: Global, key: Key) -> Result<Key, KeyFileError>
+    requires { length key.bytes ≡ key_len Signing key.set }
+    ensures { (result ≡ spec_own_key (Ok key)) ⊎ (result ≡ Err Memory) }
+{
     match has_own_root(alloc, &key) {
         Ok(true) => Ok(key),
         Ok(false) => Err(KeyFileError::Root),
@@ -101,8 +108,8 @@ fn read_body(alloc: Global, kind: Kind, body: &[u8]) -> Result<Key, KeyFileError
     }
 }
 
-// The key whose DER these bytes are.
-fn read_der(alloc: Global, kind: Kind, der: &[u8]) -> Result<Key, KeyFileError>
+/// The key whose DER these bytes are.
+pub(crate) fn read_der(alloc: Global, kind: Kind, der: &[u8]) -> Result<Key, KeyFileError>
     ensures value { (result ≡ der_key kind der.now) ⊎ (result ≡ Err Memory) }
     ensures length { IfOk result (λ key. length key.bytes ≡ key_len kind key.set) }
 {

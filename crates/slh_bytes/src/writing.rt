@@ -1,5 +1,7 @@
 //! Key files written.
-ghost use Rattle.std.specs.Prelude.{◌≡◌, ◌⊎◌, ◌↔◌, ◌≢◌, ◌++◌, IfOk, IfErr, OnOk, Ok, Err, length, codes};
+ghost use Rattle.std.specs.Prelude.{◌≡◌, ◌⊎◌, ◌↔◌, ◌≢◌, ◌≤◌, ◌++◌, IfOk, IfErr, OnOk, Ok, Err, length, codes};
+ghost use Rattle.base64.specs.Engines.{standard};
+ghost use Rattle.base64.specs.GeneralPurpose.{encode_of};
 ghost use Rattle.slh_bytes.specs.Heads.{der_of, key_len};
 ghost use Rattle.slh_bytes.specs.Reading.{key_in};
 ghost use Rattle.slh_bytes.specs.Writing.{key_file, lines_of_64};
@@ -46,15 +48,41 @@ fn encode_key(alloc: Global, kind: Kind, key: &Key) -> Result<ByteString, KeyFil
         ↔ (length key.now.bytes ≢ key_len kind key.now.set) }
     ensures other { IfErr result (λ e. (e ≡ Length) ⊎ (e ≡ Memory)) }
 {
+    let der = key_der(alloc, kind, key)?;
+    let text = block_text(alloc, kind.begin_line(), der.as_slice(), kind.end_line())?;
+    Ok(text)
+}
+
+/// The DER of a key. `Length`: it isn't a key of its kind and set.
+pub(crate) fn key_der(alloc: Global, kind: Kind, key: &Key) -> Result<ByteString, KeyFileError>
+    ensures value { IfOk result (λ der. der ≡ der_of kind key.now.set key.now.bytes) }
+    ensures most { IfOk result (λ der. length der ≤ 150) }
+    ensures length { (result ≡ Err Length)
+        ↔ (length key.now.bytes ≢ key_len kind key.now.set) }
+    ensures other { IfErr result (λ e. (e ≡ Length) ⊎ (e ≡ Memory)) }
+{
     if key.bytes.len() != kind.key_len(key.set) {
         return Err(KeyFileError::Length);
     }
     let mut der = ByteString::from_slice(alloc, head(kind, key.set))?;
     der.push_slice(key.bytes.as_slice())?;
-    let symbols = STANDARD.encode(alloc, der.as_slice())?;
-    let mut text = ByteString::from_slice(alloc, kind.begin_line())?;
+    Ok(der)
+}
+
+/// The Base64 of bytes in lines of 64 symbols, between two lines.
+pub(crate) fn block_text(
+    alloc: Global,
+    begin_line: &[u8],
+    bytes: &[u8],
+    end_line: &[u8],
+) -> Result<ByteString, AllocError>
+    ensures { IfOk result (λ text. text ≡ begin_line.now
+        ++ lines_of_64 (encode_of standard bytes.now) ++ end_line.now) }
+{
+    let symbols = STANDARD.encode(alloc, bytes)?;
+    let mut text = ByteString::from_slice(alloc, begin_line)?;
     push_lines(&mut text, symbols.as_bytes())?;
-    text.push_slice(kind.end_line())?;
+    text.push_slice(end_line)?;
     Ok(text)
 }
 

@@ -1,7 +1,7 @@
 //! Which command is which function.
 use crate::audits::{audit, evidence};
 use crate::inspecting::inspect;
-use crate::keys::{keygen, public};
+use crate::keys::{key, keygen, public};
 use crate::signatures::{sign, verify};
 use clap::ArgMatches;
 use slh_arguments::FileVerb;
@@ -16,6 +16,7 @@ pub fn run<'a>(
 ) -> Result<Outcome, Failure<'a>> {
     match verb {
         FileVerb::Keygen => keygen(rt, words),
+        FileVerb::Key => key(rt, words),
         FileVerb::Public => public(rt, words),
         FileVerb::Sign => sign(rt, words),
         FileVerb::Verify => verify(rt, words),

@@ -13,6 +13,8 @@ pub enum FileError {
     NoKeyOrSignature,
     #[error("the machine computed wrongly, and no signature is written")]
     Fault,
+    #[error("a signing key goes to a file of mode 600")]
+    KeyNeedsFile,
     #[error("no regular file: --output says where its signature goes")]
     NowhereBeside,
 }

@@ -15,6 +15,9 @@ use slh_arguments::{
 use std::alloc::Global;
 use std::fs::File;
 
+// What names an input of `sign`, which its output isn't written over.
+const SIGN_INPUTS: [&str; 3] = [names::KEY, names::PASSPHRASE_FILE, names::FILE];
+
 /// Signs a file. The signature goes to `--output`, else to FILE.sig, or from standard input to
 /// standard output; with `--dsse` an envelope.
 pub fn sign<'a>(rt: &HostRuntime, words: &ArgMatches<'a>) -> Result<Outcome, Failure<'a>> {
@@ -39,7 +42,7 @@ pub(crate) fn check_output_of<'a>(
     end: &'static str,
 ) -> Result<(), Failure<'a>> {
     if let Some(output) = words.get_str(names::OUTPUT) {
-        return check_output(rt, words, &[names::KEY, names::FILE], output);
+        return check_output(rt, words, &SIGN_INPUTS, output);
     }
     if path == files::STANDARD {
         return Ok(());
@@ -48,7 +51,7 @@ pub(crate) fn check_output_of<'a>(
         return Err(Failure::told(path, FileError::NowhereBeside));
     }
     let output = format!(in rt.alloc(); "{path}{end}")?;
-    check_output(rt, words, &[names::KEY, names::FILE], output.as_str())
+    check_output(rt, words, &SIGN_INPUTS, output.as_str())
 }
 
 // The signature of a file, in the way that the words ask for.

@@ -126,6 +126,9 @@ fn is_twice(ids: &[FileId], id: FileId) -> bool {
     before || ids.get(at.saturating_add(1)) == Some(&id)
 }
 
+// What names an input of `batch sign` besides its files, which no output is written over.
+const SIGN_INPUTS: [&str; 2] = [names::KEY, names::PASSPHRASE_FILE];
+
 // A receipt goes beside its file, so each file is a regular one with a name, stands once, and is not
 // another one's receipt.
 fn check_names<'a>(
@@ -147,7 +150,7 @@ fn check_names<'a>(
             return Err(Failure::told(*path, Refusal::Twice));
         }
         let output = format!(in rt.alloc(); "{path}{RECEIPT_END}")?;
-        check_output(rt, words, &[names::KEY], output.as_str())?;
+        check_output(rt, words, &SIGN_INPUTS, output.as_str())?;
         if let Some(id) = FileId::of(rt, output.as_str())
             && ids.binary_search(&id).is_ok()
         {
@@ -168,7 +171,7 @@ fn are_one_place(rt: &HostRuntime, path: &str, other: &str) -> Result<bool, Allo
     }
 }
 
-// The head goes to no place of the key, of a file or of a receipt.
+// The head goes to no place of the key, of its passphrase, of a file or of a receipt.
 fn check_head<'a>(
     rt: &HostRuntime,
     words: &ArgMatches<'a>,
@@ -177,7 +180,7 @@ fn check_head<'a>(
     let Some(head) = words.get_str(names::HEAD) else {
         return Ok(());
     };
-    check_output(rt, words, &[names::KEY], head)?;
+    check_output(rt, words, &SIGN_INPUTS, head)?;
     for path in paths {
         let receipt = format!(in rt.alloc(); "{path}{RECEIPT_END}")?;
         if files::are_one(rt, head, *path) || are_one_place(rt, head, receipt.as_str())? {
@@ -193,6 +196,7 @@ pub fn sign<'s, 'a>(
     words: &'s ArgMatches<'a>,
 ) -> Result<Outcome, Failure<'a>> {
     let paths = required_all(words, names::FILES)?;
+    check_inputs(words, &[])?;
     check_names(rt, words, paths)?;
     check_head(rt, words, paths)?;
     let key = signing_key(rt, words)?;

@@ -51,7 +51,8 @@ fn chain<'a>(rt: &HostRuntime, path: &'a str) -> Result<ByteString, Failure<'a>>
 pub fn delegate<'a>(rt: &HostRuntime, words: &ArgMatches<'a>) -> Result<Outcome, Failure<'a>> {
     check_inputs(words, &[])?;
     let output = required(words, names::OUTPUT)?;
-    check_output(rt, words, &[names::KEY, names::SUBJECT], output)?;
+    let inputs = [names::KEY, names::PASSPHRASE_FILE, names::SUBJECT];
+    check_output(rt, words, &inputs, output)?;
     let links = delegated(rt, words)?;
     outputs::put(rt, output, links.as_slice())?;
     Ok(Outcome::Done)

@@ -194,9 +194,10 @@ fn entry_failure<'a>(
 
 /// Signs the regular files below a folder.
 pub fn seal<'a>(rt: &HostRuntime, words: &ArgMatches<'a>) -> Result<Outcome, Failure<'a>> {
+    check_inputs(words, &[])?;
     let path = folder_path(rt, words)?;
     let output = required(words, names::OUTPUT)?;
-    check_output(rt, words, &[names::KEY], output)?;
+    check_output(rt, words, &[names::KEY, names::PASSPHRASE_FILE], output)?;
     let manifest = sealed(rt, words, path, output)?;
     outputs::put(rt, output, &manifest)?;
     Ok(Outcome::Done)

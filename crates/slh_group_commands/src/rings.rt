@@ -10,7 +10,8 @@ use slh_arguments::bytes::{
 };
 use slh_arguments::host::{Failure, files, outputs, random};
 use slh_arguments::{
-    check_inputs, check_output, names, pair_name, required, required_all, set_of, write_pair,
+    Encryption, check_inputs, check_output, names, pair_name, required, required_all, set_of,
+    write_pair,
 };
 use std::alloc::{AllocError, Global};
 
@@ -60,13 +61,15 @@ pub fn make_master<'a>(rt: &HostRuntime, words: &ArgMatches<'a>) -> Result<Outco
 
 /// Makes the key at a path again, and writes it as `keygen` does.
 pub fn key<'a>(rt: &HostRuntime, words: &ArgMatches<'a>) -> Result<Outcome, Failure<'a>> {
+    check_inputs(words, &[])?;
     let text = required(words, names::PATH)?;
     let Some(path) = Path::from_text(text.as_bytes()) else {
         return Err(Failure::told(text, Refusal::NotPath));
     };
     let name = pair_name(words)?;
+    let encryption = Encryption::new(rt, words, names::PASSPHRASE_FILE)?;
     let key = derived(rt, words, &path)?;
-    write_pair(rt, name, &key)
+    write_pair(rt, name, &key, encryption.as_ref())
 }
 
 fn derived<'a>(rt: &HostRuntime, words: &ArgMatches<'a>, path: &Path) -> Result<Key, Failure<'a>> {

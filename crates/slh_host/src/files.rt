@@ -22,6 +22,16 @@ enum Source {
     File(File),
 }
 
+impl Source {
+    // A file, or standard input where the path is `-`.
+    fn open(rt: &HostRuntime, path: &str) -> io::Result<Source> {
+        if path == STANDARD {
+            return Ok(Source::Standard(rt.reader()));
+        }
+        Ok(Source::File(fs::open(rt, path)?))
+    }
+}
+
 impl Read for Source {
     fn read(&mut self, buf: &mut [u8]) -> io::Result<usize> {
         match self {
@@ -49,18 +59,13 @@ impl Read for Reader {
 impl Reader {
     /// A file, or standard input where the path is `-`.
     pub fn open<'a>(rt: &HostRuntime, path: &'a str) -> Result<Reader, Failure<'a>> {
-        let source = if path == STANDARD {
-            Source::Standard(rt.reader())
-        } else {
-            match fs::open(rt, path) {
-                Ok(file) => Source::File(file),
-                Err(error) => return Err(Failure::told(path, error)),
-            }
-        };
-        Ok(Reader {
-            source,
-            progress: Progress::new(rt),
-        })
+        match Source::open(rt, path) {
+            Ok(source) => Ok(Reader {
+                source,
+                progress: Progress::new(rt),
+            }),
+            Err(error) => Err(Failure::told(path, error)),
+        }
     }
 
     /// The regular file that it is, which can be read twice, or the reader again.
@@ -152,6 +157,46 @@ pub fn read_beside<'a>(
         Ok(bytes) => Ok(bytes),
         Err(error) => Err(Failure::beside(path, end, error)),
     }
+}
+
+// An input up to its first line feed, and what was read at once with that. So whoever types a line
+// need not end the input.
+#[derive(Drop)]
+struct FirstLine {
+    source: Source,
+    is_over: bool,
+}
+
+impl Read for FirstLine {
+    fn read(&mut self, buf: &mut [u8]) -> io::Result<usize> {
+        if self.is_over {
+            return Ok(0);
+        }
+        let count = self.source.read(buf)?;
+        self.is_over = buf[..count].contains(&b'\n');
+        Ok(count)
+    }
+}
+
+/// The first bytes of a file, or of standard input where the path is `-`: its first line with what
+/// stands behind it, or a part of that line, up to so many bytes.
+pub fn read_first_line<'a>(
+    rt: &HostRuntime,
+    path: &'a str,
+    most: u64,
+) -> Result<ByteString, Failure<'a>> {
+    match first_line(rt, path, most) {
+        Ok(bytes) => Ok(bytes),
+        Err(error) => Err(Failure::told(path, error)),
+    }
+}
+
+fn first_line(rt: &HostRuntime, path: &str, most: u64) -> io::Result<ByteString> {
+    let line = FirstLine {
+        source: Source::open(rt, path)?,
+        is_over: false,
+    };
+    gather(rt.alloc(), &mut line.take(most))
 }
 
 /// The first bytes of a file, up to so many.

@@ -70,6 +70,7 @@ pub fn init<'s, 'a>(
     rt: &'s HostRuntime,
     words: &'s ArgMatches<'a>,
 ) -> Result<Outcome, Failure<'a>> {
+    check_inputs(words, &[])?;
     let folder = LogFolder::of(rt, words)?;
     let checkpoint = first_checkpoint(folder, words)?;
     need_folder(folder, "")?;
