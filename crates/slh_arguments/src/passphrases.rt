@@ -2,9 +2,8 @@
 use crate::error::WordError;
 use crate::names;
 use clap::ArgMatches;
-use slh_host::bytes::{
-    Iterations, Key, Passphrase, SecretText, encrypted_key_file, signing_key_file,
-};
+use slh_host::bytes::passphrase::{Iterations, Passphrase};
+use slh_host::bytes::{Key, SecretText, encrypted_key_file, signing_key_file};
 use slh_host::{Failure, files, random};
 
 // How many first bytes of a file tell its passphrase: the longest one, and the end of its line.

@@ -4,7 +4,8 @@
 //! RFC 9909, as OpenSSL 3.5 writes it, or a line `SET KEY` in hexadecimal. Text around the block and
 //! blanks and ends of lines within it don't count, and each other thing has its refusal,
 //! [`KeyFileError`]. Signatures are their bytes, or hexadecimal digits of them. What stands in the
-//! file of a secret is a [`SecretText`]. A signing key may be encrypted under a [`Passphrase`].
+//! file of a secret is a [`SecretText`]. A signing key may be encrypted under a
+//! [`Passphrase`](passphrase::Passphrase).
 //!
 //! A key's file:
 //!
@@ -89,7 +90,7 @@ mod log_verdicts;
 mod making;
 mod manifests;
 mod outcome;
-mod passphrase;
+pub mod passphrase;
 mod places;
 mod printable;
 mod read_error;
@@ -125,7 +126,6 @@ pub use log_verdicts::{
 pub use making::{has_own_root, made_key, verifying_key};
 pub use manifests::{Checked, check_manifest, entry_name, first_unnamed, seal_manifest};
 pub use outcome::Outcome;
-pub use passphrase::{Iterations, Passphrase, PassphraseError};
 pub use places::place_of;
 pub use printable::{Printable, shown};
 pub use read_error::{ReadError, refusal_text};
