@@ -1,5 +1,5 @@
 -- The file of a signing key under a passphrase is read as its key.
-use Rattle.std.proofs.Common.{◌≡◌, ℕ, ◌*◌, ◌+◌, ◌<◌, ◌≤◌, List, [], ◌∷◌, ◌++◌, length, length-append, true, false, nat_lt, nat_eq, Some, Ok, Err, is_some, codes, refl, sym, ap, ◌∙◌, subst, arith, inl, inr, if◌then◌else◌}
+use Rattle.std.proofs.Common.{◌≡◌, ℕ, ◌<◌, ◌≤◌, List, [], ◌∷◌, ◌++◌, length, length-append, true, false, nat_lt, Some, Ok, Err, is_some, codes, refl, sym, ap, ◌∙◌, subst, arith, inl, inr, if◌then◌else◌}
 use Rattle.std.specs.Int.{div_ceil}
 use Rattle.std.proofs.lemmas.Bool.{cases_lt, le-ltb, lt-ltb}
 use Rattle.base64.specs.Engines.{standard}
@@ -7,7 +7,7 @@ use Rattle.base64.specs.GeneralPurpose.{IsBytes, decode_of, encode_of}
 use Rattle.base64.proofs.EngineFacts.{decode_of-encode_of}
 use Rattle.encrypted_key.specs.Der.{alone, element as der_element}
 use Rattle.encrypted_key.specs.Form.{sequence}
-use Rattle.encrypted_key.specs.Reading.{begins_key, decrypted, if_begins, is_private_key, max_iterations}
+use Rattle.encrypted_key.specs.Reading.{if_begins, is_private_key, max_iterations}
 use Rattle.encrypted_key.specs.Writing.{encrypted}
 use Rattle.encrypted_key.proofs.Elements.{alone_element, middle_bytes, short_bytes}
 use Rattle.encrypted_key.proofs.FileBytes.{file_bytes}
@@ -17,7 +17,7 @@ use Rattle.slh_sets.specs.declared.set.Set.TheVariants.{Sha2_128s, Sha2_128f}
 use Rattle.slh_sets.specs.declared.set.Set.TheVariants.{Sha2_192s, Sha2_192f}
 use Rattle.slh_sets.specs.declared.set.Set.TheVariants.{Sha2_256s, Sha2_256f}
 use Rattle.slh_bytes.specs.Blocks.{begin_mark, behind, block_in, checked_block}
-use Rattle.slh_bytes.specs.Encrypted.{block_key_under, decoded_key_under, encrypted_begin_line, encrypted_block, encrypted_end_line, encrypted_key_file, key_under, key_under_by, opened_key}
+use Rattle.slh_bytes.specs.Encrypted.{block_key_under, decoded_key_under, encrypted_begin_line, encrypted_end_line, encrypted_key_file, key_under, key_under_by, opened_key}
 use Rattle.slh_bytes.specs.Heads.{algorithm, der_length, der_of, element, key_len}
 use Rattle.slh_bytes.specs.Lines.{line_key}
 use Rattle.slh_bytes.specs.Places.{cut_at, first_place}
@@ -25,7 +25,7 @@ use Rattle.slh_bytes.specs.Reading.{block_key, key_in, key_with, pem_key}
 use Rattle.slh_bytes.specs.Writing.{lines_of_64}
 use Rattle.slh_bytes.specs.declared.error.KeyFileError.TheVariants.{Encrypted, NoEnd}
 use Rattle.slh_bytes.specs.declared.key.Kind.TheVariants.{Signing}
-use Rattle.slh_bytes.proofs.HeadTable.{der_bytes, head_at, head_at_is}
+use Rattle.slh_bytes.proofs.HeadTable.{der_bytes, head_at_is}
 use Rattle.slh_bytes.proofs.RoundTrip.{cut_behind, lines_squeezed, read_der, undashed_lines}
 use Rattle.slh_bytes.proofs.Symbols.{base64_symbols, no_dash}
 

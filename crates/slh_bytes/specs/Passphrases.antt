@@ -1,5 +1,5 @@
 -- The passphrase of a file: its first line. How many iterations a key is derived by.
-use Rattle.std.specs.Prelude.{◌==◌, ◌-◌, ℕ, nat_lt, List, [], ◌∷◌, length, take, drop, codes}
+use Rattle.std.specs.Prelude.{◌==◌, ◌-◌, ℕ, nat_lt, List, length, take, drop, codes}
 use Rattle.std.specs.Prelude.{Option, None, Some, Result, Ok, Err, if◌then◌else◌, ◌||◌}
 use Rattle.std.specs.Str.{bytes_eq}
 use Rattle.encrypted_key.specs.Reading.{max_iterations}
