@@ -1,68 +1,23 @@
 //! How evidence stands on a line.
-ghost use Rattle.std.specs.Prelude.{◌≡◌, ◌++◌, length, OnOk};
+ghost use Rattle.std.specs.Prelude.{◌≡◌, ◌==◌, ◌+◌, ◌<◌, ◌++◌, length, OnOk};
+ghost use Rattle.std.specs.Prelude.{if◌then◌else◌, None, Some};
 ghost use Rattle.line_serve.specs.Fields.{contents};
-ghost use Rattle.slh_audit.specs.declared.evidence.Evidence.TheVariants.{ForsNode, ChainStep};
-ghost use Rattle.slh_audit.specs.declared.evidence.Evidence.TheVariants.{Leaf, TreeNode, Early};
 ghost use Rattle.slh_jobs.specs.EvidenceWords.{evidence_in, evidence_text, spaced};
-ghost use Rattle.slh_jobs.specs.EvidenceWords.{one_number, two_numbers, three_numbers};
 
 use line_serve::{ByteString, field_at, number_at, push_number};
 use slh_audit::Evidence;
 use std::alloc::AllocError;
 
-fn read_fors_node(words: &[&[u8]]) -> Option<Evidence>
-    ensures { result ≡ two_numbers (contents words.now) (λ x y. ForsNode x y) }
+// `None`: behind the kind stand more numbers, or fewer.
+fn check_count(words: &[&[u8]], numbers: usize) -> Option<()>
+    requires { numbers < 4 }
+    ensures { result ≡ (if length words.now == numbers + 1 then Some tt else None) }
 {
-    if words.len() != 3 {
-        return None;
+    if words.len() == numbers + 1 {
+        Some(())
+    } else {
+        None
     }
-    let tree = number_at(words, 1)?;
-    let height = number_at(words, 2)?;
-    Some(Evidence::ForsNode { tree, height })
-}
-
-fn read_tree_node(words: &[&[u8]]) -> Option<Evidence>
-    ensures { result ≡ two_numbers (contents words.now) (λ x y. TreeNode x y) }
-{
-    if words.len() != 3 {
-        return None;
-    }
-    let layer = number_at(words, 1)?;
-    let height = number_at(words, 2)?;
-    Some(Evidence::TreeNode { layer, height })
-}
-
-fn read_early(words: &[&[u8]]) -> Option<Evidence>
-    ensures { result ≡ two_numbers (contents words.now) (λ x y. Early x y) }
-{
-    if words.len() != 3 {
-        return None;
-    }
-    let layer = number_at(words, 1)?;
-    let chain = number_at(words, 2)?;
-    Some(Evidence::Early { layer, chain })
-}
-
-fn read_chain_step(words: &[&[u8]]) -> Option<Evidence>
-    ensures { result ≡ three_numbers (contents words.now) (λ x y z. ChainStep x y z) }
-{
-    if words.len() != 4 {
-        return None;
-    }
-    let layer = number_at(words, 1)?;
-    let chain = number_at(words, 2)?;
-    let step = number_at(words, 3)?;
-    Some(Evidence::ChainStep { layer, chain, step })
-}
-
-fn read_leaf(words: &[&[u8]]) -> Option<Evidence>
-    ensures { result ≡ one_number (contents words.now) (λ x. Leaf x) }
-{
-    if words.len() != 2 {
-        return None;
-    }
-    let layer = number_at(words, 1)?;
-    Some(Evidence::Leaf { layer })
 }
 
 /// The evidence of these words: a kind, and its numbers. `None`: no such kind, more numbers or fewer
@@ -72,21 +27,33 @@ pub fn read_evidence(words: &[&[u8]]) -> Option<Evidence>
 {
     let kind = field_at(words, 0);
     if kind == b"fors-node".as_slice() {
-        read_fors_node(words)
+        check_count(words, 2)?;
+        let tree = number_at(words, 1)?;
+        let height = number_at(words, 2)?;
+        Some(Evidence::ForsNode { tree, height })
     } else if kind == b"fors-roots".as_slice() {
-        if words.len() == 1 {
-            Some(Evidence::ForsRoots)
-        } else {
-            None
-        }
+        check_count(words, 0)?;
+        Some(Evidence::ForsRoots)
     } else if kind == b"chain-step".as_slice() {
-        read_chain_step(words)
+        check_count(words, 3)?;
+        let layer = number_at(words, 1)?;
+        let chain = number_at(words, 2)?;
+        let step = number_at(words, 3)?;
+        Some(Evidence::ChainStep { layer, chain, step })
     } else if kind == b"leaf".as_slice() {
-        read_leaf(words)
+        check_count(words, 1)?;
+        let layer = number_at(words, 1)?;
+        Some(Evidence::Leaf { layer })
     } else if kind == b"tree-node".as_slice() {
-        read_tree_node(words)
+        check_count(words, 2)?;
+        let layer = number_at(words, 1)?;
+        let height = number_at(words, 2)?;
+        Some(Evidence::TreeNode { layer, height })
     } else if kind == b"early".as_slice() {
-        read_early(words)
+        check_count(words, 2)?;
+        let layer = number_at(words, 1)?;
+        let chain = number_at(words, 2)?;
+        Some(Evidence::Early { layer, chain })
     } else {
         None
     }
