@@ -1,13 +1,15 @@
 -- What the exports answer, from what is said in the set of a number.
-use Rattle.std.proofs.Common.{◌≡◌, ℕ, Option, None, Some, Result, Err, ap, subst}
+use Rattle.std.proofs.Common.{◌≡◌, ℕ, [], ◌∷◌, Option, None, Some, Result, Err, ap, subst}
 use Rattle.std.specs.Option.{option_map}
 use Rattle.std.specs.Prelude.{IfSome, MatchOption}
 use Rattle.slh_audit.specs.declared.evidence.Evidence.{Evidence}
 use Rattle.slh_audit.specs.declared.evidence.Verdict.{Verdict}
 use Rattle.slh_core.specs.Parameters.{Scheme}
+use Rattle.slh_core.specs.Refusals.{first_refusal}
+use Rattle.slh_dsa.specs.declared.error.Error.{Error}
 use Rattle.slh_frames.specs.declared.frame.Mode.{Mode}
 use Rattle.slh_dsa_c.specs.Evidence.{IfForeign}
-use Rattle.slh_dsa_c.specs.Status.{audit_number, in_mode, in_set}
+use Rattle.slh_dsa_c.specs.Status.{audit_number, in_mode, in_set, number_of_refusal}
 use Rattle.slh_sets.specs.Sets.{scheme_for}
 use Rattle.slh_sets.specs.declared.set.Set.{Set}
 
@@ -16,6 +18,12 @@ pub status_in : (found : Option Set) (number : Scheme → ℕ) (status : ℕ)
     → MatchOption found (status ≡ 9) (λ set. status ≡ number (scheme_for set)) → status ≡ in_set (option_map scheme_for found) number
 status_in None number status told = told
 status_in (Some set) number status told = told
+
+-- what a call by a key's bytes answers, once they are a key
+pub status_behind : (key call : Option Error) (status : ℕ) → key ≡ None → status ≡ number_of_refusal call
+    → status ≡ number_of_refusal (first_refusal (key ∷ call ∷ []))
+status_behind key None status none told = rw none told
+status_behind key (Some refusal) status none told = rw none told
 
 -- what is said of the bytes
 pub some_in : (found : Option Set) (P : Scheme → Type 0) → IfSome found (λ set. P (scheme_for set)) → IfSome (option_map scheme_for found) P

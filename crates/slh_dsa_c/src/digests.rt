@@ -1,58 +1,42 @@
 //! Signing and verifying by the digest of a message.
-ghost use Rattle.std.specs.Prelude.{◌≡◌, ◌≢◌, length, None, Some, IfSome, OnOk, OnErr};
+ghost use Rattle.std.specs.Prelude.{◌≡◌, ◌≢◌, length, None, Some, IfSome};
 ghost use Rattle.std.specs.Option.{option_copied};
 ghost use Rattle.slh_dsa_c.specs.Numbers.{mode_numbered};
-ghost use Rattle.slh_dsa_c.specs.Status.{in_mode, number_of_refusal, sign_digest_refusal_by_key};
+ghost use Rattle.slh_dsa_c.specs.Status.{number_of_refusal, sign_digest_refusal_by_key};
 ghost use Rattle.slh_dsa_c.specs.Status.{sign_digest_status, verify_digest_error_by_key};
 ghost use Rattle.slh_dsa_c.specs.Status.{verify_digest_status};
 ghost use Rattle.slh_sets.specs.Sets.{scheme_numbered};
 ghost use Rattle.slh_stream.specs.Digests.{digest_frame};
-ghost use Rattle.slh_core.specs.Refusals.{RefusedExactly};
 ghost use Rattle.slh_trees.specs.Signing.{signature_of};
 
-use crate::mode::mode_of;
-use crate::set::{read_in_set, write_in_set};
-use crate::status::{OK, UNKNOWN_MODE, UNKNOWN_SET, number_of};
-use slh_dsa::{Error, Mode, SetSizes, SigningKey, VerifyingKey};
-use slh_sets::{OnSet, SetSuite, WriteOnSet};
+use crate::mode::{mode_of, read_in_mode};
+use crate::status::{LENGTH, OK, UNKNOWN_MODE, UNKNOWN_SET, number_of, status_of};
+use slh_dsa::{Mode, SigningKey, VerifyingKey};
+use slh_sets::{OnSet, Set, SetSuite, WriteOnSet};
 use slh_stream::{sign_digest, verify_digest};
 
 // A signature to verify by the digest of its message.
 #[derive(Drop)]
 struct VerifyDigest<'a> {
-    mode: u32,
+    mode: Mode,
     public: &'a [u8],
     digest: &'a [u8],
     ctx: &'a [u8],
     sig: &'a [u8],
 }
 
-// Verifies by a key of bytes.
-fn verify_by<P: SetSizes>(mode: Mode, call: VerifyDigest) -> Result<(), Error>
-    ensures { let c = call.entry in RefusedExactly result
-        (verify_digest_error_by_key P.scheme mode
-        c.public.now c.ctx.now c.digest.now c.sig.now) }
-{
-    let key = VerifyingKey::<P>::try_from(call.public)?;
-    verify_digest(&key, mode, call.digest, call.ctx, call.sig)
-}
-
 impl<'a> OnSet for VerifyDigest<'a> {
     type Out = u32;
 
-    ghost gives = { λ c Z _ result. result ≡ in_mode (mode_numbered c.mode) (λ m. number_of_refusal
-        (verify_digest_error_by_key Z m c.public.now c.ctx.now c.digest.now c.sig.now)) };
+    ghost gives = { λ c Z _ result. result ≡ number_of_refusal
+        (verify_digest_error_by_key Z c.mode c.public.now c.ctx.now c.digest.now c.sig.now) };
 
+    #[tactic(auto, using(crate::proofs::Sets::status_behind))]
     fn on<P: SetSuite>(self) -> u32 {
-        match mode_of(self.mode) {
-            Some(mode) => {
-                match verify_by::<P>(mode, self) {
-                    Ok(()) => OK,
-                    Err(error) => number_of(error),
-                }
-            }
-            None => UNKNOWN_MODE,
-        }
+        let Ok(key) = VerifyingKey::<P>::try_from(self.public) else {
+            return LENGTH;
+        };
+        status_of(verify_digest(&key, self.mode, self.digest, self.ctx, self.sig))
     }
 }
 
@@ -69,62 +53,45 @@ pub extern "C" fn slh_dsa_sha2_verify_digest(
 ) -> u32
     ensures { result ≡ verify_digest_status set mode public.now ctx.now digest.now sig.now }
 {
-    let call = VerifyDigest {
+    let call = |mode| VerifyDigest {
         mode,
         public,
         digest,
         ctx,
         sig,
     };
-    read_in_set(set, call, UNKNOWN_SET)
+    read_in_mode(set, mode, call)
 }
 
 // A message to sign by its digest.
 #[derive(Drop)]
 struct SignDigest<'a> {
-    mode: u32,
+    mode: Mode,
     key: &'a [u8],
     digest: &'a [u8],
     ctx: &'a [u8],
     opt_rand: Option<&'a [u8]>,
 }
 
-// Signs by a key of bytes.
-fn sign_by<P: SetSizes>(mode: Mode, call: SignDigest, sig: &mut [u8]) -> Result<(), Error>
-    ensures refusal { let c = call.entry in let opt_rand = option_copied c.opt_rand in
-        RefusedExactly result (sign_digest_refusal_by_key P.scheme mode
-        c.key.now c.ctx.now opt_rand c.digest.now (length sig.old)) }
-    ensures value { let c = call.entry in let opt_rand = option_copied c.opt_rand in
-        let message = digest_frame mode c.ctx.now c.digest.now in
-        OnOk result (sig.new ≡ signature_of P.scheme c.key.now opt_rand message) }
-    ensures same { OnErr result (sig.new ≡ sig.old) }
-{
-    let key = SigningKey::<P>::try_from(call.key)?;
-    sign_digest(&key, mode, call.digest, call.ctx, call.opt_rand, sig)
-}
-
 impl<'a> WriteOnSet for SignDigest<'a> {
     type Out = u32;
 
     ghost gives = { λ c Z len status. let opt_rand = option_copied c.opt_rand in
-        status ≡ in_mode (mode_numbered c.mode) (λ m. number_of_refusal
-        (sign_digest_refusal_by_key Z m c.key.now c.ctx.now opt_rand c.digest.now len)) };
+        status ≡ number_of_refusal
+        (sign_digest_refusal_by_key Z c.mode c.key.now c.ctx.now opt_rand c.digest.now len) };
 
     ghost wrote = { λ status. status ≡ 0 };
 
     ghost writes = { λ c Z sig. let opt_rand = option_copied c.opt_rand in
-        IfSome (mode_numbered c.mode) (λ m.
-        sig ≡ signature_of Z c.key.now opt_rand (digest_frame m c.ctx.now c.digest.now)) };
+        sig ≡ signature_of Z c.key.now opt_rand (digest_frame c.mode c.ctx.now c.digest.now) };
 
     fn write<P: SetSuite>(self, out: &mut [u8]) -> u32 {
-        match mode_of(self.mode) {
-            Some(mode) => {
-                match sign_by::<P>(mode, self, out) {
-                    Ok(()) => OK,
-                    Err(error) => number_of(error),
-                }
-            }
-            None => UNKNOWN_MODE,
+        let Ok(key) = SigningKey::<P>::try_from(self.key) else {
+            return LENGTH;
+        };
+        match sign_digest(&key, self.mode, self.digest, self.ctx, self.opt_rand, out) {
+            Ok(()) => OK,
+            Err(error) => number_of(error),
         }
     }
 }
@@ -147,6 +114,12 @@ fn sign_in_set(
         sig.new ≡ signature_of Z key.now opt_rand (digest_frame m ctx.now digest.now))) }
     ensures same { result ≢ 0 → sig.new ≡ sig.old }
 {
+    let Some(set) = Set::from_number(set) else {
+        return UNKNOWN_SET;
+    };
+    let Some(mode) = mode_of(mode) else {
+        return UNKNOWN_MODE;
+    };
     let call = SignDigest {
         mode,
         key,
@@ -154,7 +127,7 @@ fn sign_in_set(
         ctx,
         opt_rand,
     };
-    write_in_set(set, call, sig, UNKNOWN_SET)
+    set.run_into(call, sig)
 }
 
 /// Signs a message by its digest, of 32 bytes in the mode of SHA-256 and 64 in that of SHA-512

@@ -3,21 +3,25 @@
 ghost use Rattle.std.specs.Prelude.{◌≡◌};
 ghost use Rattle.slh_dsa_c.specs.Status.{verify_number, verify_status};
 
-use crate::verify::{Verify, status_by};
-use slh_dsa::{SetSizes, Sha2_128f, Sha2_128s, Sha2_192f, Sha2_192s, Sha2_256f, Sha2_256s};
+use crate::mode::mode_of;
+use crate::status::{LENGTH, UNKNOWN_MODE, status_of};
+use slh_dsa::{
+    SetSizes, Sha2_128f, Sha2_128s, Sha2_192f, Sha2_192s, Sha2_256f, Sha2_256s, VerifyingKey,
+};
 
 // The status of a signature in a set.
+#[tactic(auto, using(crate::proofs::Sets::status_behind),
+    unfolding(crate::specs::Status::verify_error_by_key))]
 fn verify_in<P: SetSizes>(mode: u32, public: &[u8], msg: &[u8], ctx: &[u8], sig: &[u8]) -> u32
     ensures { result ≡ verify_number P.scheme mode public.now ctx.now msg.now sig.now }
 {
-    let call = Verify {
-        mode,
-        public,
-        msg,
-        ctx,
-        sig,
+    let Some(mode) = mode_of(mode) else {
+        return UNKNOWN_MODE;
     };
-    status_by::<P>(call)
+    let Ok(key) = VerifyingKey::<P>::try_from(public) else {
+        return LENGTH;
+    };
+    status_of(key.hash_verify(mode, msg, ctx, sig))
 }
 
 /// As `slh_dsa_sha2_verify`, in SLH-DSA-SHA2-128s.

@@ -4,66 +4,40 @@ ghost use Rattle.std.specs.Prelude.{◌≡◌};
 ghost use Rattle.slh_dsa_c.specs.Status.{number_of_refusal, verify_error_by_key, verify_number};
 ghost use Rattle.slh_dsa_c.specs.Status.{verify_status};
 ghost use Rattle.slh_frames.specs.declared.frame.Mode.TheVariants.{Pure};
-ghost use Rattle.slh_core.specs.Refusals.{RefusedExactly};
 
 use crate::mode::mode_of;
 use crate::one_by_one::OneByOne;
-use crate::status::{OK, UNKNOWN_MODE, number_of};
+use crate::status::{LENGTH, UNKNOWN_MODE, status_of};
 use slh_dsa::{
-    Error, Mode, SetSizes, Sha2_128f, Sha2_128s, Sha2_192f, Sha2_192s, Sha2_256f, Sha2_256s,
-    VerifyingKey,
+    SetSizes, Sha2_128f, Sha2_128s, Sha2_192f, Sha2_192s, Sha2_256f, Sha2_256s, VerifyingKey,
 };
 
-// Verifies by a key of bytes.
-#[tactic(auto, unfolding(crate::specs::Status::verify_error_by_key))]
-fn small_by<P: SetSizes>(
-    mode: Mode,
-    public: &[u8],
-    msg: &[u8],
-    ctx: &[u8],
-    sig: &[u8],
-) -> Result<(), Error>
-    ensures { RefusedExactly result
-        (verify_error_by_key P.scheme mode public.now ctx.now msg.now sig.now) }
-{
-    let key = VerifyingKey::<P>::try_from(public)?;
-    key.verify_small(mode, msg, ctx, sig)
-}
-
 // The status of a signature in a set.
+#[tactic(auto, using(crate::proofs::Sets::status_behind),
+    unfolding(crate::specs::Status::verify_error_by_key))]
 fn small_in<P: SetSizes>(mode: u32, public: &[u8], msg: &[u8], ctx: &[u8], sig: &[u8]) -> u32
     ensures { result ≡ verify_number P.scheme mode public.now ctx.now msg.now sig.now }
 {
-    match mode_of(mode) {
-        Some(mode) => {
-            match small_by::<P>(mode, public, msg, ctx, sig) {
-                Ok(()) => OK,
-                Err(error) => number_of(error),
-            }
-        }
-        None => UNKNOWN_MODE,
-    }
-}
-
-// Verifies a message as it is by a key of bytes.
-#[tactic(auto, unfolding(crate::specs::Status::verify_error_by_key))]
-fn pure_by<P: SetSizes>(public: &[u8], msg: &[u8], ctx: &[u8], sig: &[u8]) -> Result<(), Error>
-    ensures { RefusedExactly result
-        (verify_error_by_key P.scheme Pure public.now ctx.now msg.now sig.now) }
-{
-    let key = VerifyingKey::<P>::try_from(public)?;
-    key.verify_pure(msg, ctx, sig)
+    let Some(mode) = mode_of(mode) else {
+        return UNKNOWN_MODE;
+    };
+    let Ok(key) = VerifyingKey::<P>::try_from(public) else {
+        return LENGTH;
+    };
+    status_of(key.verify_small(mode, msg, ctx, sig))
 }
 
 // The status of a signature of a message as it is in a set.
+#[tactic(auto, using(crate::proofs::Sets::status_behind),
+    unfolding(crate::specs::Status::verify_error_by_key))]
 fn pure_in<P: SetSizes>(public: &[u8], msg: &[u8], ctx: &[u8], sig: &[u8]) -> u32
     ensures { result ≡ number_of_refusal
         (verify_error_by_key P.scheme Pure public.now ctx.now msg.now sig.now) }
 {
-    match pure_by::<P>(public, msg, ctx, sig) {
-        Ok(()) => OK,
-        Err(error) => number_of(error),
-    }
+    let Ok(key) = VerifyingKey::<P>::try_from(public) else {
+        return LENGTH;
+    };
+    status_of(key.verify_pure(msg, ctx, sig))
 }
 
 /// As `slh_dsa_sha2_128s_verify`, in less code and more time.
