@@ -1,4 +1,3 @@
-mod Sets
 mod Verified
 pub mod TrueKeys
 pub mod Entries

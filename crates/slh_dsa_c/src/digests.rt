@@ -10,7 +10,7 @@ ghost use Rattle.slh_stream.specs.Digests.{digest_frame};
 ghost use Rattle.slh_trees.specs.Signing.{signature_of};
 
 use crate::mode::{mode_of, read_in_mode};
-use crate::status::{LENGTH, OK, UNKNOWN_MODE, UNKNOWN_SET, number_of, status_of};
+use crate::status::{LENGTH, OK, UNKNOWN_MODE, UNKNOWN_SET, number_of, number_of_answer};
 use slh_dsa::{Mode, SigningKey, VerifyingKey};
 use slh_sets::{OnSet, Set, SetSuite, WriteOnSet};
 use slh_stream::{sign_digest, verify_digest};
@@ -31,12 +31,11 @@ impl<'a> OnSet for VerifyDigest<'a> {
     ghost gives = { λ c Z _ result. result ≡ number_of_refusal
         (verify_digest_error_by_key Z c.mode c.public.now c.ctx.now c.digest.now c.sig.now) };
 
-    #[tactic(auto, using(crate::proofs::Sets::status_behind))]
     fn on<P: SetSuite>(self) -> u32 {
         let Ok(key) = VerifyingKey::<P>::try_from(self.public) else {
             return LENGTH;
         };
-        status_of(verify_digest(&key, self.mode, self.digest, self.ctx, self.sig))
+        number_of_answer(verify_digest(&key, self.mode, self.digest, self.ctx, self.sig))
     }
 }
 

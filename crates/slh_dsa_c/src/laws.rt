@@ -25,7 +25,8 @@ impl OnSet for Accepts {
 
     ghost gives = { λ _ Z _ _.
         (mode : SigningMode) (key context message : List ℕ) (opt_rand : Option (List ℕ))
-        → IsTrueKey Z key → length key ≡ 4 * Z.n → length context ≤ MAX_CONTEXT → length message ≤ MAX_MESSAGE
+        → IsTrueKey Z key → length key ≡ 4 * Z.n
+        → length context ≤ MAX_CONTEXT → length message ≤ MAX_MESSAGE
         → hash_verify_error Z mode (drop (2 * Z.n) key) context message
         (signature_of Z key opt_rand (mode_frame mode context message)) ≡ None };
 

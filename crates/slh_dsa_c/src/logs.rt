@@ -1,16 +1,14 @@
 //! Heads of logs, and proofs that are checked against them.
-ghost use Rattle.std.specs.Prelude.{◌≡◌, ◌≢◌, length, IfErr, IfOk, Some};
-ghost use Rattle.slh_dsa_c.specs.Logs.{IsOpened, growth_number, growth_status, log_open_number};
-ghost use Rattle.slh_dsa_c.specs.Logs.{log_open_status, open_number, presence_number};
-ghost use Rattle.slh_dsa_c.specs.Logs.{presence_status};
-ghost use Rattle.slh_dsa_c.specs.Status.{status_of};
+ghost use Rattle.std.specs.Prelude.{◌≡◌, ◌≢◌, length, Some};
+ghost use Rattle.slh_dsa_c.specs.Logs.{IsOpened, growth_number, growth_status, log_open_status};
+ghost use Rattle.slh_dsa_c.specs.Logs.{open_number, presence_number, presence_status};
 ghost use Rattle.slh_log.specs.Reading.{read_root, read_size};
 
 use crate::status::{
     EMPTY, FORM, INVALID, LENGTH, MESSAGE_TOO_LONG, NO_ENTRY, OK, ORIGIN, SMALLER, UNKNOWN_SET,
     UNSIGNED,
 };
-use slh_dsa::{SetSizes, VerifyingKey};
+use slh_dsa::VerifyingKey;
 use slh_log::{
     Checkpoint, GrowthError, OpenError, PresenceError, check_growth, check_presence, open_in,
     text_of,
@@ -85,35 +83,6 @@ struct Open<'a> {
     checkpoint: &'a [u8],
 }
 
-// Opens a checkpoint by a key of bytes, in a buffer that is long enough.
-fn open_by<P: SetSizes>(call: Open<'_>, scratch: &mut [u8]) -> Result<CHead, u32>
-    ensures status { let c = call.entry in status_of result ≡ log_open_number P.scheme P.set_name
-        c.public.now c.origin.now c.checkpoint.now (length scratch.old) }
-    ensures size { let c = call.entry in
-        IfOk result (λ head. read_size c.checkpoint.now ≡ Some head.size) }
-    ensures root { let c = call.entry in
-        IfOk result (λ head. read_root c.checkpoint.now ≡ Some head.root) }
-    ensures refused { IfErr result (λ number. number ≢ 0) }
-{
-    let Ok(key) = VerifyingKey::<P>::try_from(call.public) else {
-        return Err(LENGTH);
-    };
-    if scratch.len() < 4 || scratch.len() - 4 < P::SIG_LEN {
-        return Err(LENGTH);
-    }
-    let signed = &mut scratch[..4 + P::SIG_LEN];
-    match open_in(&key, text_of(call.origin), call.checkpoint, signed) {
-        Ok(head) => {
-            let root = head.root;
-            Ok(CHead {
-                size: head.size,
-                root,
-            })
-        }
-        Err(error) => Err(number_of_open(error)),
-    }
-}
-
 impl<'a> OnSetInScratch for Open<'a> {
     type Out = Result<CHead, u32>;
 
@@ -121,7 +90,23 @@ impl<'a> OnSetInScratch for Open<'a> {
         c.checkpoint.now len result };
 
     fn on<P: SetSuite>(self, scratch: &mut [u8]) -> Result<CHead, u32> {
-        open_by::<P>(self, scratch)
+        let Ok(key) = VerifyingKey::<P>::try_from(self.public) else {
+            return Err(LENGTH);
+        };
+        if scratch.len() < 4 || scratch.len() - 4 < P::SIG_LEN {
+            return Err(LENGTH);
+        }
+        let signed = &mut scratch[..4 + P::SIG_LEN];
+        match open_in(&key, text_of(self.origin), self.checkpoint, signed) {
+            Ok(head) => {
+                let root = head.root;
+                Ok(CHead {
+                    size: head.size,
+                    root,
+                })
+            }
+            Err(error) => Err(number_of_open(error)),
+        }
     }
 }
 

@@ -75,19 +75,6 @@ struct Begin<'a> {
     opt_rand: Option<&'a [u8]>,
 }
 
-impl<'a> Begin<'a> {
-    fn first<P: SetSuite>(&self) -> Result<SuspendedPass, Error>
-        ensures refusal { let c = self.now in RefusedExactly result
-            (begin_refusal P.scheme c.key.now c.ctx.now (option_copied c.opt_rand)) }
-        ensures begun { let c = self.now in IfOk result (λ state.
-            IsFirstAside P.N.USIZE state c.key.now (option_copied c.opt_rand) c.ctx.now []) }
-    {
-        let key = SigningKey::<P>::try_from(self.key)?;
-        let pass = FirstPass::new(&key, self.ctx, self.opt_rand)?;
-        Ok(SuspendedPass::new(pass))
-    }
-}
-
 impl<'a> OnSet for Begin<'a> {
     type Out = Result<SuspendedPass, u32>;
 
@@ -98,8 +85,11 @@ impl<'a> OnSet for Begin<'a> {
         (λ e. (e ≡ number) × (e ≢ 0)) };
 
     fn on<P: SetSuite>(self) -> Result<SuspendedPass, u32> {
-        match self.first::<P>() {
-            Ok(state) => Ok(state),
+        let Ok(key) = SigningKey::<P>::try_from(self.key) else {
+            return Err(LENGTH);
+        };
+        match FirstPass::new(&key, self.ctx, self.opt_rand) {
+            Ok(pass) => Ok(SuspendedPass::new(pass)),
             Err(error) => Err(number_of(error)),
         }
     }

@@ -14,7 +14,7 @@ ghost use Rattle.slh_frames.specs.declared.message.TheConstants.{MAX_MESSAGE};
 
 use crate::mode::mode_of;
 use crate::set::read_in_set;
-use crate::status::{MESSAGE_TOO_LONG, OK, STATE, UNKNOWN_MODE, UNKNOWN_SET, number_of};
+use crate::status::{LENGTH, MESSAGE_TOO_LONG, OK, STATE, UNKNOWN_MODE, UNKNOWN_SET, number_of};
 use slh_dsa::{Error, Mode, VerifyingKey};
 use slh_sets::{OnSet, SetSuite};
 use slh_stream::{MessageVerifier, SuspendedVerifier};
@@ -52,20 +52,6 @@ struct Begin<'a> {
     sig: &'a [u8],
 }
 
-impl<'a> Begin<'a> {
-    fn in_mode<P: SetSuite>(&self, mode: Mode) -> Result<SuspendedVerifier, Error>
-        ensures refusal { let c = self.now in RefusedExactly result
-            (begin_refusal P.scheme c.public.now c.ctx.now c.sig.now) }
-        ensures key { let c = self.now in IfOk result (λ _. length c.public.now ≡ 2 * P.scheme.n) }
-        ensures begun { let c = self.now in IfOk result (λ state. IsSuspended P.N.USIZE state mode
-            c.public.now c.ctx.now (take P.N.USIZE c.sig.now) []) }
-    {
-        let key = VerifyingKey::<P>::try_from(self.public)?;
-        let verifier = MessageVerifier::new(&key, mode, self.ctx, self.sig)?;
-        Ok(SuspendedVerifier::new(verifier))
-    }
-}
-
 impl<'a> OnSet for Begin<'a> {
     type Out = Result<SuspendedVerifier, u32>;
 
@@ -75,12 +61,15 @@ impl<'a> OnSet for Begin<'a> {
         (λ e. (e ≡ number) × (e ≢ 0)) };
 
     fn on<P: SetSuite>(self) -> Result<SuspendedVerifier, u32> {
-        match mode_of(self.mode) {
-            Some(mode) => match self.in_mode::<P>(mode) {
-                Ok(state) => Ok(state),
-                Err(error) => Err(number_of(error)),
-            },
-            None => Err(UNKNOWN_MODE),
+        let Some(mode) = mode_of(self.mode) else {
+            return Err(UNKNOWN_MODE);
+        };
+        let Ok(key) = VerifyingKey::<P>::try_from(self.public) else {
+            return Err(LENGTH);
+        };
+        match MessageVerifier::new(&key, mode, self.ctx, self.sig) {
+            Ok(verifier) => Ok(SuspendedVerifier::new(verifier)),
+            Err(error) => Err(number_of(error)),
         }
     }
 }

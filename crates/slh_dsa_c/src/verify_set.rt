@@ -4,14 +4,13 @@ ghost use Rattle.std.specs.Prelude.{◌≡◌};
 ghost use Rattle.slh_dsa_c.specs.Status.{verify_number, verify_status};
 
 use crate::mode::mode_of;
-use crate::status::{LENGTH, UNKNOWN_MODE, status_of};
+use crate::status::{LENGTH, UNKNOWN_MODE, number_of_answer};
 use slh_dsa::{
     SetSizes, Sha2_128f, Sha2_128s, Sha2_192f, Sha2_192s, Sha2_256f, Sha2_256s, VerifyingKey,
 };
 
 // The status of a signature in a set.
-#[tactic(auto, using(crate::proofs::Sets::status_behind),
-    unfolding(crate::specs::Status::verify_error_by_key))]
+#[tactic(auto, unfolding(crate::specs::Status::verify_error_by_key))]
 fn verify_in<P: SetSizes>(mode: u32, public: &[u8], msg: &[u8], ctx: &[u8], sig: &[u8]) -> u32
     ensures { result ≡ verify_number P.scheme mode public.now ctx.now msg.now sig.now }
 {
@@ -21,7 +20,7 @@ fn verify_in<P: SetSizes>(mode: u32, public: &[u8], msg: &[u8], ctx: &[u8], sig:
     let Ok(key) = VerifyingKey::<P>::try_from(public) else {
         return LENGTH;
     };
-    status_of(key.hash_verify(mode, msg, ctx, sig))
+    number_of_answer(key.hash_verify(mode, msg, ctx, sig))
 }
 
 /// As `slh_dsa_sha2_verify`, in SLH-DSA-SHA2-128s.

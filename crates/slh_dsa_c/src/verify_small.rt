@@ -7,14 +7,13 @@ ghost use Rattle.slh_frames.specs.declared.frame.Mode.TheVariants.{Pure};
 
 use crate::mode::mode_of;
 use crate::one_by_one::OneByOne;
-use crate::status::{LENGTH, UNKNOWN_MODE, status_of};
+use crate::status::{LENGTH, UNKNOWN_MODE, number_of_answer};
 use slh_dsa::{
     SetSizes, Sha2_128f, Sha2_128s, Sha2_192f, Sha2_192s, Sha2_256f, Sha2_256s, VerifyingKey,
 };
 
 // The status of a signature in a set.
-#[tactic(auto, using(crate::proofs::Sets::status_behind),
-    unfolding(crate::specs::Status::verify_error_by_key))]
+#[tactic(auto, unfolding(crate::specs::Status::verify_error_by_key))]
 fn small_in<P: SetSizes>(mode: u32, public: &[u8], msg: &[u8], ctx: &[u8], sig: &[u8]) -> u32
     ensures { result ≡ verify_number P.scheme mode public.now ctx.now msg.now sig.now }
 {
@@ -24,12 +23,11 @@ fn small_in<P: SetSizes>(mode: u32, public: &[u8], msg: &[u8], ctx: &[u8], sig: 
     let Ok(key) = VerifyingKey::<P>::try_from(public) else {
         return LENGTH;
     };
-    status_of(key.verify_small(mode, msg, ctx, sig))
+    number_of_answer(key.verify_small(mode, msg, ctx, sig))
 }
 
 // The status of a signature of a message as it is in a set.
-#[tactic(auto, using(crate::proofs::Sets::status_behind),
-    unfolding(crate::specs::Status::verify_error_by_key))]
+#[tactic(auto, unfolding(crate::specs::Status::verify_error_by_key))]
 fn pure_in<P: SetSizes>(public: &[u8], msg: &[u8], ctx: &[u8], sig: &[u8]) -> u32
     ensures { result ≡ number_of_refusal
         (verify_error_by_key P.scheme Pure public.now ctx.now msg.now sig.now) }
@@ -37,7 +35,7 @@ fn pure_in<P: SetSizes>(public: &[u8], msg: &[u8], ctx: &[u8], sig: &[u8]) -> u3
     let Ok(key) = VerifyingKey::<P>::try_from(public) else {
         return LENGTH;
     };
-    status_of(key.verify_pure(msg, ctx, sig))
+    number_of_answer(key.verify_pure(msg, ctx, sig))
 }
 
 /// As `slh_dsa_sha2_128s_verify`, in less code and more time.

@@ -1,5 +1,0 @@
-use Rattle.std.proofs.Common.{[]}
-use Rattle.slh_dsa_c.proofs.sign_pieces.Begin.first.Goals as goal
-
-pub returns-clause-begun : goal.returns-clause-begun
-returns-clause-begun g c = c.new-2.ensures _ _ _ [] (rw c.in_ok-key.ensures.value at c.in_ok-pass.ensures.empty)
