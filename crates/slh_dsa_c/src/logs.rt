@@ -6,7 +6,7 @@ ghost use Rattle.slh_log.specs.Reading.{read_root, read_size};
 
 use crate::status::{
     EMPTY, FORM, INVALID, LENGTH, MESSAGE_TOO_LONG, NO_ENTRY, OK, ORIGIN, SMALLER, UNKNOWN_SET,
-    UNSIGNED,
+    UNSIGNED, tell,
 };
 use slh_dsa::VerifyingKey;
 use slh_log::{
@@ -135,13 +135,7 @@ pub extern "C" fn slh_log_open(
     let Some(set) = Set::from_number(set) else {
         return UNKNOWN_SET;
     };
-    match set.run_in_scratch(call, scratch) {
-        Ok(opened) => {
-            *head = opened;
-            OK
-        }
-        Err(number) => number,
-    }
+    tell(set.run_in_scratch(call, scratch), head)
 }
 
 /// Checks by an inclusion proof, of 32 bytes a digest, that entry `index` of a log is `entry` (RFC 9162,

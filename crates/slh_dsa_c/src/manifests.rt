@@ -6,7 +6,7 @@ ghost use Rattle.slh_dsa_c.specs.Status.{status_of};
 ghost use Rattle.slh_manifest.specs.Checking.{count_of, entries_of, has_entries};
 
 use crate::set::read_in_set;
-use crate::status::{FORM, INVALID, LENGTH, NO_ENTRY, OK, UNKNOWN_SET};
+use crate::status::{FORM, INVALID, LENGTH, NO_ENTRY, OK, UNKNOWN_SET, tell};
 use slh_dsa::VerifyingKey;
 use slh_manifest::{CheckError, Manifest};
 use slh_sets::{OnSet, SetSuite};
@@ -138,21 +138,6 @@ fn entry_named(manifest: &[u8], name: &[u8]) -> Result<CEntry, u32>
     match number_of_name(&opened, name) {
         Some(number) => entry_at(manifest, number),
         None => Err(NO_ENTRY),
-    }
-}
-
-// Writes what was found.
-fn tell(found: Result<CEntry, u32>, entry: &mut CEntry) -> u32
-    ensures status { result ≡ status_of found }
-    ensures value { IfOk found (λ e. entry.new ≡ e) }
-    ensures same { result ≢ 0 → entry.new ≡ entry.old }
-{
-    match found {
-        Ok(found) => {
-            *entry = found;
-            OK
-        }
-        Err(number) => number,
     }
 }
 

@@ -20,7 +20,7 @@ ghost use Rattle.slh_core.specs.Refusals.{RefusedExactly, context_refusal, messa
 ghost use Rattle.slh_trees.specs.Signing.{signature_of};
 
 use crate::set::{read_in_set, write_in_set};
-use crate::status::{CHANGED, LENGTH, MESSAGE_TOO_LONG, OK, STATE, UNKNOWN_SET, number_of};
+use crate::status::{CHANGED, LENGTH, MESSAGE_TOO_LONG, OK, STATE, UNKNOWN_SET, number_of, tell};
 use slh_dsa::{Error, SigningKey};
 use slh_sets::{OnSet, SetSuite, WriteOnSet};
 use slh_stream::{FirstPass, PassError, SuspendedPass};
@@ -227,13 +227,8 @@ pub extern "C" fn slh_dsa_sha2_sign_update(signer: &mut CSigner, piece: &[u8]) -
         state: signer.state.copy(),
         piece,
     };
-    match read_in_set(signer.set, call, Err(STATE)) {
-        Ok(state) => {
-            signer.state = state;
-            OK
-        }
-        Err(number) => number,
-    }
+    let absorbed = read_in_set(signer.set, call, Err(STATE));
+    tell(absorbed, &mut signer.state)
 }
 
 // A pass that is over, by number.

@@ -14,7 +14,9 @@ ghost use Rattle.slh_frames.specs.declared.message.TheConstants.{MAX_MESSAGE};
 
 use crate::mode::mode_of;
 use crate::set::read_in_set;
-use crate::status::{LENGTH, MESSAGE_TOO_LONG, OK, STATE, UNKNOWN_MODE, UNKNOWN_SET, number_of};
+use crate::status::{
+    LENGTH, MESSAGE_TOO_LONG, OK, STATE, UNKNOWN_MODE, UNKNOWN_SET, number_of, tell,
+};
 use slh_dsa::{Error, Mode, VerifyingKey};
 use slh_sets::{OnSet, SetSuite};
 use slh_stream::{MessageVerifier, SuspendedVerifier};
@@ -156,13 +158,8 @@ pub extern "C" fn slh_dsa_sha2_verify_update(verifier: &mut CVerifier, piece: &[
         state: verifier.state.copy(),
         piece,
     };
-    match read_in_set(verifier.set, call, Err(STATE)) {
-        Ok(state) => {
-            verifier.state = state;
-            OK
-        }
-        Err(number) => number,
-    }
+    let absorbed = read_in_set(verifier.set, call, Err(STATE));
+    tell(absorbed, &mut verifier.state)
 }
 
 // A verification whose message has come.
