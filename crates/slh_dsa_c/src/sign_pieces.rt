@@ -1,6 +1,6 @@
 //! Signing a message that comes in pieces, twice.
 ghost use Rattle.std.specs.Prelude.{◌≡◌, ◌≢◌, ◌*◌, ◌<◌, ℕ, List, [], ◌++◌, Option, length};
-ghost use Rattle.std.specs.Prelude.{IfOk, IfSome, MatchOption, MatchResult, OnOk, OnErr};
+ghost use Rattle.std.specs.Prelude.{IfSome, MatchOption, MatchResult, OnOk};
 ghost use Rattle.std.specs.Prelude.{None, Some, Err};
 ghost use Rattle.std.specs.Option.{option_copied};
 ghost use Rattle.slh_dsa_c.specs.SignPieces.{HasOtherLength, IsAside, IsNone, IsOtherKey, Signs};
@@ -15,7 +15,7 @@ ghost use Rattle.slh_frames.specs.Frames.{frame};
 ghost use Rattle.slh_frames.specs.declared.message.TheConstants.{MAX_MESSAGE};
 ghost use Rattle.slh_sets.specs.Sets.{scheme_numbered};
 ghost use Rattle.slh_stream.specs.Passes.{randomizer_for};
-ghost use Rattle.slh_stream.specs.SuspendedPass.{IsBlank, IsEnded, IsFirstAside, IsSecondAside};
+ghost use Rattle.slh_stream.specs.SuspendedPass.{IsBlank, IsEnded, IsSecondAside};
 ghost use Rattle.slh_core.specs.Refusals.{RefusedExactly, context_refusal, message_refusal};
 ghost use Rattle.slh_trees.specs.Signing.{signature_of};
 

@@ -1,15 +1,14 @@
 //! Verifying a message that comes in pieces.
 ghost use Rattle.std.specs.Prelude.{◌≡◌, ◌≢◌, ◌*◌, ◌<◌, ℕ, List, [], ◌++◌, length, take};
-ghost use Rattle.std.specs.Prelude.{IfOk, MatchOption, MatchResult, None, Err};
+ghost use Rattle.std.specs.Prelude.{MatchOption, MatchResult, None, Err};
 ghost use Rattle.slh_dsa_c.specs.Numbers.{mode_numbered};
 ghost use Rattle.slh_dsa_c.specs.VerifyPieces.{HasOtherLength, HasOtherRandomizer, IsNone, StandsIn, Verifies};
-ghost use Rattle.slh_dsa_c.specs.VerifyPieces.{Accepts, IsOverfull, begin_number, begin_refusal, begin_status};
+ghost use Rattle.slh_dsa_c.specs.VerifyPieces.{Accepts, IsOverfull, begin_number, begin_status};
 ghost use Rattle.slh_dsa_c.specs.VerifyPieces.{update_number};
 ghost use Rattle.slh_dsa_c.specs.Status.{number_of_refusal, verify_error_by_key, verify_number};
 ghost use Rattle.slh_dsa_c.specs.Status.{verify_status};
 ghost use Rattle.slh_stream.specs.Suspended.{IsAccepted, IsBlank, IsSuspended};
 ghost use Rattle.slh_trees.specs.Checking.{signature_size};
-ghost use Rattle.slh_core.specs.Refusals.{RefusedExactly};
 ghost use Rattle.slh_frames.specs.declared.message.TheConstants.{MAX_MESSAGE};
 
 use crate::mode::mode_of;
