@@ -25,8 +25,8 @@
 //
 // # Secrets
 //
-// The library is not constant-time, and leaves copies of a key on the stack of a call. What the
-// package allocates for a key, for its seeds, for random bytes and for signing in pieces is written
+// The library is not constant-time. It clears the stack that its calls took. What the package
+// allocates for a key, for its seeds, for random bytes and for signing in pieces is written
 // over with zeros: a key when nobody refers to it any more or by [PrivateKey.Clear], the others when
 // the call ends. What a caller copies isn't ([PrivateKey.Bytes], [MarshalPKCS8PrivateKey]).
 //

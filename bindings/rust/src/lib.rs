@@ -24,7 +24,7 @@
 //!
 //! **Secrets.** The library is not constant-time. A [`SigningKey`] lies on the heap, and its bytes
 //! are cleared when it is dropped, as are the random bytes that were made for it. What a caller
-//! copies isn't ([`SigningKey::to_bytes`]), nor is the stack of a call.
+//! copies isn't ([`SigningKey::to_bytes`]). The library clears the stack of its calls.
 //!
 //! **Threads.** All types are `Send` and `Sync`, and calls share nothing. A call takes up to 112 kB
 //! of the thread's stack.
