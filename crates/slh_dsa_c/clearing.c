@@ -8,6 +8,9 @@
 /* Less than the stack that a call may take, by what stands above: what is left is for these frames. */
 #define FRAMES 4096
 
+/* More than the calls of signing in pieces take, but for the last one, which signs. */
+#define PIECES_STACK_BYTES 36864
+
 /* Writes over so much of the stack below the function that calls it. */
 #define CLEARS(name, bytes)                                    \
     static __attribute__((noinline)) void name(void)           \
@@ -20,7 +23,7 @@
 
 CLEARS(clear_keygen, SLH_DSA_KEYGEN_STACK_BYTES)
 CLEARS(clear_sign, SLH_DSA_SIGN_STACK_BYTES)
-CLEARS(clear_pieces, SLH_DSA_VERIFY_STACK_BYTES)
+CLEARS(clear_pieces, PIECES_STACK_BYTES)
 CLEARS(clear_audit, SLH_DSA_AUDIT_STACK_BYTES)
 CLEARS(clear_check_evidence, SLH_DSA_CHECK_EVIDENCE_STACK_BYTES)
 

@@ -214,27 +214,27 @@ static const struct call {
     const char *name;
     void *(*run)(void *);
     slh_dsa_status wanted;
-    int ends_state;
+    int has_mode, ends_state;
 } calls[] = {
-    {"nothing", nothing, SLH_DSA_OK, 0},
-    {"keygen", keygen, SLH_DSA_OK, 0},
-    {"public", tell_public, SLH_DSA_OK, 0},
-    {"check_key", check_key, SLH_DSA_OK, 0},
-    {"sign_digest", sign_digest, SLH_DSA_OK, 0},
-    {"sign_digest_deterministic", sign_digest_deterministic, SLH_DSA_OK, 0},
-    {"sign_deterministic", sign_deterministic, SLH_DSA_OK, 0},
-    {"sign", sign, SLH_DSA_OK, 0},
-    {"audit", audit, SLH_DSA_OK, 0},
-    {"check_evidence", check_evidence, SLH_DSA_NOT_SHOWN, 0},
-    {"sign_begin_deterministic", sign_begin_deterministic, SLH_DSA_OK, 0},
-    {"sign_begin", sign_begin, SLH_DSA_OK, 0},
-    {"sign_update", sign_update, SLH_DSA_OK, 0},
-    {"sign_again", sign_again, SLH_DSA_OK, 0},
-    {"sign_update", sign_update, SLH_DSA_OK, 0},
-    {"sign_finish", sign_finish, SLH_DSA_OK, 1},
-    {"sign_update", sign_update, SLH_DSA_STATE, 1},
-    {"sign_again", sign_again, SLH_DSA_STATE, 1},
-    {"sign_finish", sign_finish, SLH_DSA_STATE, 1},
+    {"nothing", nothing, SLH_DSA_OK, 0, 0},
+    {"keygen", keygen, SLH_DSA_OK, 0, 0},
+    {"public", tell_public, SLH_DSA_OK, 0, 0},
+    {"check_key", check_key, SLH_DSA_OK, 0, 0},
+    {"sign_digest", sign_digest, SLH_DSA_OK, 0, 0},
+    {"sign_digest_deterministic", sign_digest_deterministic, SLH_DSA_OK, 0, 0},
+    {"sign_deterministic", sign_deterministic, SLH_DSA_OK, 1, 0},
+    {"sign", sign, SLH_DSA_OK, 1, 0},
+    {"audit", audit, SLH_DSA_OK, 1, 0},
+    {"check_evidence", check_evidence, SLH_DSA_NOT_SHOWN, 1, 0},
+    {"sign_begin_deterministic", sign_begin_deterministic, SLH_DSA_OK, 0, 0},
+    {"sign_begin", sign_begin, SLH_DSA_OK, 0, 0},
+    {"sign_update", sign_update, SLH_DSA_OK, 0, 0},
+    {"sign_again", sign_again, SLH_DSA_OK, 0, 0},
+    {"sign_update", sign_update, SLH_DSA_OK, 0, 0},
+    {"sign_finish", sign_finish, SLH_DSA_OK, 0, 1},
+    {"sign_update", sign_update, SLH_DSA_STATE, 0, 1},
+    {"sign_again", sign_again, SLH_DSA_STATE, 0, 1},
+    {"sign_finish", sign_finish, SLH_DSA_STATE, 0, 1},
 };
 
 static void run_painted(void *(*call)(void *))
@@ -286,7 +286,8 @@ int main(void)
         memcpy(key, seeds, 3 * n);
         for (mode = SLH_DSA_PURE; mode <= SLH_DSA_PREHASH_SHA512; mode++)
             for (size_t i = 0; i < sizeof calls / sizeof *calls; i++)
-                bad |= is_bad(&calls[i]);
+                if (mode == SLH_DSA_PURE || calls[i].has_mode)
+                    bad |= is_bad(&calls[i]);
     }
     return bad;
 }
