@@ -11,6 +11,9 @@
     parts ENVELOPE TEXT SIG       the text that is signed, and the first signature, by json and base64 alone
     wrap KEY PUB TYPE BODY ENVELOPE    an envelope by a signer of securesystemslib and by json
     unwrap PUB ENVELOPE           whether a key of securesystemslib verifies it, read by json
+    foreign OWNER ID ENVELOPE OUT      with a signature by OWNER's key of in-toto, ed25519, alone, under this id
+                                       (`own`: its own)
+    beside OWNER ENVELOPE OUT     with that signature, under its own id, before the others
 """
 
 import base64
@@ -21,7 +24,7 @@ from pathlib import Path
 from in_toto.models.layout import Layout, Step
 from in_toto.models.metadata import Metablock
 from securesystemslib import exceptions, interface
-from securesystemslib.signer import Signature, Signer
+from securesystemslib.signer import Signature, Signer, SSlibSigner
 
 import slh_dsa
 from slh_dsa.securesystemslib import SlhKey
@@ -135,6 +138,26 @@ def unwrap(public, envelope):
     print("good")
 
 
+def foreign_signature(owner, envelope):
+    signer = SSlibSigner(interface.import_ed25519_privatekey_from_file(owner))
+    made = signer.sign(parts_of(envelope)[0])
+    return {"keyid": made.keyid, "sig": base64.b64encode(bytes.fromhex(made.signature)).decode()}
+
+
+def foreign(owner, identifier, envelope, out):
+    fields = json.loads(Path(envelope).read_text())
+    fields["signatures"] = [foreign_signature(owner, envelope)]
+    if identifier != "own":
+        fields["signatures"][0]["keyid"] = identifier
+    Path(out).write_text(json.dumps(fields))
+
+
+def beside(owner, envelope, out):
+    fields = json.loads(Path(envelope).read_text())
+    fields["signatures"].insert(0, foreign_signature(owner, envelope))
+    Path(out).write_text(json.dumps(fields))
+
+
 if __name__ == "__main__":
-    verbs = layout, sign, check, key, id_, shorten, seal, open_, parts, wrap, unwrap
+    verbs = layout, sign, check, key, id_, shorten, seal, open_, parts, wrap, unwrap, foreign, beside
     {each.__name__.rstrip("_"): each for each in verbs}[sys.argv[1]](*sys.argv[2:])
