@@ -37,6 +37,11 @@ func TestNotesOfEachSet(t *testing.T) {
 					t.Errorf("opened with byte %d changed", at)
 				}
 			}
+			for _, cut := range []int{1, 2, 5, 100, len(signed) / 2, len(signed) - 3} {
+				if _, err := note.Open(signed[:len(signed)-cut], known); err == nil {
+					t.Errorf("opened without its last %d bytes", cut)
+				}
+			}
 			other := must(slhdsa.NewNoteSigner("example.org/other", must(slhdsa.GenerateKey(set, nil))))
 			if _, err := note.Open(signed, note.VerifierList(other.Verifier())); err == nil {
 				t.Error("opened by another key")
