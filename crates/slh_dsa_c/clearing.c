@@ -1,7 +1,8 @@
 /*
- * The calls of slh_dsa.h that get a secret: each is the proved one, and behind it the stack that it
- * took is written over, so that no copy of a key stays there. examples/c/build gives the proved ones
- * names that begin with `uncleared_`, and puts this beside them into the archive.
+ * The calls of slh_dsa.h that get a secret, but for slh_dsa_sha2_public, which copies none: each is the
+ * proved one, and behind it the stack that it took is written over, so that no copy of a key stays
+ * there. examples/c/build gives the proved ones names that begin with `uncleared_`, and puts this
+ * beside them into the archive.
  */
 #include "slh_dsa.h"
 
@@ -44,11 +45,6 @@ CLEARED(slh_dsa_sha2_keygen, clear_keygen,
          uint8_t *verifying_key, size_t verifying_key_bytes),
         (set, seeds, seeds_bytes, signing_key, signing_key_bytes, verifying_key,
          verifying_key_bytes))
-
-CLEARED(slh_dsa_sha2_public, clear_pieces,
-        (slh_dsa_set set, const uint8_t *signing_key, size_t signing_key_bytes,
-         uint8_t *verifying_key, size_t verifying_key_bytes),
-        (set, signing_key, signing_key_bytes, verifying_key, verifying_key_bytes))
 
 CLEARED(slh_dsa_sha2_check_key, clear_keygen,
         (slh_dsa_set set, const uint8_t *signing_key, size_t signing_key_bytes),
