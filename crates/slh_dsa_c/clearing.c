@@ -13,13 +13,13 @@
 #define PIECES_STACK_BYTES 36864
 
 /* Writes over so much of the stack below the function that calls it. */
-#define CLEARS(name, bytes)                                    \
-    static __attribute__((noinline)) void name(void)           \
-    {                                                          \
-        volatile uint64_t room[((bytes) - FRAMES) / 8];        \
-                                                               \
+#define CLEARS(name, bytes)                                     \
+    static __attribute__((noinline)) void name(void)            \
+    {                                                           \
+        volatile uint64_t room[((bytes) - FRAMES) / 8];         \
+                                                                \
         for (size_t i = 0; i < sizeof room / sizeof *room; i++) \
-            room[i] = 0;                                       \
+            room[i] = 0;                                        \
     }
 
 CLEARS(clear_keygen, SLH_DSA_KEYGEN_STACK_BYTES)
@@ -29,14 +29,14 @@ CLEARS(clear_audit, SLH_DSA_AUDIT_STACK_BYTES)
 CLEARS(clear_check_evidence, SLH_DSA_CHECK_EVIDENCE_STACK_BYTES)
 
 /* Defines a call: the proved one with these arguments, and then `clear`. */
-#define CLEARED(name, clear, parameters, arguments)                \
-    __typeof__(name) uncleared_##name;                             \
-    slh_dsa_status name parameters                                 \
-    {                                                              \
-        const slh_dsa_status status = uncleared_##name arguments;  \
-                                                                   \
-        clear();                                                   \
-        return status;                                             \
+#define CLEARED(name, clear, parameters, arguments)               \
+    __typeof__(name) uncleared_##name;                            \
+    slh_dsa_status name parameters                                \
+    {                                                             \
+        const slh_dsa_status status = uncleared_##name arguments; \
+                                                                  \
+        clear();                                                  \
+        return status;                                            \
     }
 
 CLEARED(slh_dsa_sha2_keygen, clear_keygen,

@@ -15,7 +15,7 @@
 
 #include "slh_dsa.h"
 
-enum { STACK = 1 << 18, PAINT = 0xa5, SETS = 6, RUN = 8, MAX_N = 32, MAX_HIDDEN = 64 };
+enum { STACK = 1 << 18, PAINT = 0xa5, SETS = 6, RUN = 8, MAX_HIDDEN = 64 };
 
 static _Alignas(4096) uint8_t stack[STACK];
 static uint8_t key[SLH_DSA_MAX_SIGNING_KEY_BYTES], public_key[SLH_DSA_MAX_VERIFYING_KEY_BYTES];
