@@ -21,7 +21,7 @@ _slh() {
         manifest) words='seal check --help' ;;
         chain) words='delegate walk show verify --help' ;;
         ring) words='master key record restore --help' ;;
-        log) words='init append prove verify growth check --help' ;;
+        log) words='init append prune prove verify growth check --help' ;;
         help)
             words='keygen key public sign verify audit evidence inspect batch manifest chain ring
                 log' ;;
@@ -62,8 +62,10 @@ _slh() {
         'ring key') words='--set --master --path --passphrase-file --iterations --help' ;;
         'ring record') words='--set --master --output --help' ;;
         'ring restore') words='--master --help' ;;
-        'log init') words='--key --passphrase-file --origin --deterministic --help' ;;
-        'log append') words='--key --passphrase-file --lines --deterministic --help' ;;
+        'log init') words='--key --passphrase-file --origin --last --deterministic --help' ;;
+        'log append')
+            words='--key --passphrase-file --last --lines --break-lock --deterministic --help' ;;
+        'log prune') words='--key --passphrase-file --last --break-lock --help' ;;
         'log prove') words='--from --output --help' ;;
         'log verify') words='--key --key-text --origin --checkpoint --proof --json --help' ;;
         'log growth') words='--key --key-text --origin --old --new --proof --json --help' ;;

@@ -214,6 +214,7 @@ _slh_log() {
     local -a line commands=(
         'init:Begins a log without entries in a folder'
         'append:Adds each file as an entry, and signs the head again'
+        'prune:Removes partial tiles that became full, and what no head counts'
         'prove:Writes the proof that an entry is in the log, or that the log grew'
         'verify:Tells whether a file is an entry of the log of a proof\: accepted (0) or invalid (1)'
         'growth:Tells whether a log kept all entries of an older checkpoint\: accepted (0) or invalid (1)'
@@ -234,6 +235,7 @@ _slh_log() {
                 '--key=[The signing key]:NAME.key:_files -g "*.key"' \
                 '--passphrase-file=[The passphrase of an encrypted key\: the first line of a file]:FILE:_files' \
                 '--origin=[The name of the log]:ORIGIN: ' \
+                '--last=[The head that was signed last; NAME.key.ORIGIN.last if it is left out]:FILE:_files' \
                 '--deterministic[Signs without random bytes]' \
                 '1:FOLDER:_files -/'
             ;;
@@ -242,10 +244,21 @@ _slh_log() {
                 '(- *)'{-h,--help}'[Print help]' \
                 '--key=[The signing key]:NAME.key:_files -g "*.key"' \
                 '--passphrase-file=[The passphrase of an encrypted key\: the first line of a file]:FILE:_files' \
+                '--last=[The head that was signed last; NAME.key.ORIGIN.last if it is left out]:FILE:_files' \
                 '--lines[Adds each line of a file as an entry, without its end]' \
+                '--break-lock[Takes the lock of a process of this host that is gone]' \
                 '--deterministic[Signs without random bytes]' \
                 '1:FOLDER:_files -/' \
                 '*:FILE:_files'
+            ;;
+        prune)
+            _arguments -S \
+                '(- *)'{-h,--help}'[Print help]' \
+                '--key=[The signing key]:NAME.key:_files -g "*.key"' \
+                '--passphrase-file=[The passphrase of an encrypted key\: the first line of a file]:FILE:_files' \
+                '--last=[The head that was signed last; NAME.key.ORIGIN.last if it is left out]:FILE:_files' \
+                '--break-lock[Takes the lock of a process of this host that is gone]' \
+                '1:FOLDER:_files -/'
             ;;
         prove)
             _arguments -S \

@@ -44,7 +44,7 @@ head_separate folder files ps head at =
 
 -- ---- what is written below the folder
 
-stand : (folder : List ℕ) (files : List Named) (ps : List Piece) (n : Files)
+pub stand : (folder : List ℕ) (files : List Named) (ps : List Piece) (n : Files)
     → map (λ p. p.path.now) ps ≡ map (below folder) (names_of files)
     → map (λ p. p.bytes.now) ps ≡ map (λ file. file.bytes) files → AreWhole ps n
     → AllByRecursion (λ file. IsWhole file.bytes (n (below folder file.name))) files
@@ -88,7 +88,7 @@ same_in a p n same = record {
   others = λ q path part. same q;
 }
 
-written_in : (a : Files) (p : Piece) (n : Files) → IsSeparate p → IsWrittenPiece a p n → IsWritingPiece a p n
+pub written_in : (a : Files) (p : Piece) (n : Files) → IsSeparate p → IsWrittenPiece a p n → IsWritingPiece a p n
 written_in a p n apart written = record {
   at = inr written.whole;
   beside = inl (written.others p.part.now apart);
@@ -110,7 +110,7 @@ next_same : (n : Files) (next : Option Piece) (head : Piece) → IsWritingNext n
 next_same n None head = same_in n head n (λ q. refl)
 next_same n (Some p) head = same_in n p n (λ q. refl)
 
-moment : (m n : Files) (ps : List Piece) (head : Piece) (result : Result Written PublishError)
+pub moment : (m n : Files) (ps : List Piece) (head : Piece) (result : Result Written PublishError)
     → ((i : ℕ) (p : Piece) → slice_get ps i ≡ Some p → IsSeparate p) → IsSeparate head → Publishes m ps head result n
     → IsPublishing m ps head n
 moment m n ps head (Ok written) each apart done = (

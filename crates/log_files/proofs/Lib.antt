@@ -1,9 +1,9 @@
 mod Steps
-mod Kept
+pub mod Kept
 mod Levels
 mod Separate
 mod TileNames
 mod Apart
-mod OwnNames
+pub mod OwnNames
 mod FullNames
 pub mod HeadLast

@@ -12,7 +12,14 @@ const LOG_INIT: Subcommand = Subcommand {
     about: "Begins a log without entries in a folder",
     example: "Example:\n    \
               slh log init --key log.key --origin example.org/releases releases",
-    words: &[SIGNING_KEY, PASSPHRASE_FILE, ORIGIN, DETERMINISTIC, LOG],
+    words: &[
+        SIGNING_KEY,
+        PASSPHRASE_FILE,
+        ORIGIN,
+        LAST,
+        DETERMINISTIC,
+        LOG,
+    ],
 };
 
 const LOG_APPEND: Subcommand = Subcommand {
@@ -23,11 +30,21 @@ const LOG_APPEND: Subcommand = Subcommand {
     words: &[
         SIGNING_KEY,
         PASSPHRASE_FILE,
+        LAST,
         LINES,
+        BREAK_LOCK,
         DETERMINISTIC,
         LOG,
         ENTRIES,
     ],
+};
+
+const LOG_PRUNE: Subcommand = Subcommand {
+    name: "prune",
+    verb: Verb::Log(LogVerb::Prune),
+    about: "Removes partial tiles that became full, and what no head counts",
+    example: "Example:\n    slh log prune --key log.key releases",
+    words: &[SIGNING_KEY, PASSPHRASE_FILE, LAST, BREAK_LOCK, LOG],
 };
 
 const LOG_PROVE: Subcommand = Subcommand {
@@ -73,7 +90,7 @@ pub fn log() -> Group {
         name: "log",
         about: "A signed log that only grows",
         subcommands: &[
-            LOG_INIT, LOG_APPEND, LOG_PROVE, LOG_VERIFY, LOG_GROWTH, LOG_CHECK,
+            LOG_INIT, LOG_APPEND, LOG_PRUNE, LOG_PROVE, LOG_VERIFY, LOG_GROWTH, LOG_CHECK,
         ],
     }
 }
@@ -125,6 +142,20 @@ const LINES: Word = Word {
     name: names::LINES,
     value: "",
     help: "Adds each line of a file as an entry, without its end",
+};
+
+const LAST: Word = Word {
+    kind: Kind::Optional,
+    name: names::LAST,
+    value: "FILE",
+    help: "The head that was signed last; NAME.key.ORIGIN.last if it is left out",
+};
+
+const BREAK_LOCK: Word = Word {
+    kind: Kind::Flag,
+    name: names::BREAK_LOCK,
+    value: "",
+    help: "Takes the lock of a process of this host that is gone",
 };
 
 const FROM: Word = Word {

@@ -3,6 +3,8 @@
 
 pub const AUDIT: &str = "audit";
 
+pub const BREAK_LOCK: &str = "break-lock";
+
 pub const CHAIN: &str = "chain";
 
 pub const CHECKPOINT: &str = "checkpoint";
@@ -38,6 +40,8 @@ pub const JSON: &str = "json";
 pub const KEY: &str = "key";
 
 pub const KEY_TEXT: &str = "key-text";
+
+pub const LAST: &str = "last";
 
 pub const LINES: &str = "lines";
 

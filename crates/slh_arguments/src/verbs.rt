@@ -44,6 +44,7 @@ pub enum GroupVerb {
 pub enum LogVerb {
     Init,
     Append,
+    Prune,
     Prove,
     Check,
     Verify,

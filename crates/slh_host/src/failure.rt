@@ -18,6 +18,8 @@ pub enum Failure<'a> {
     Beside(&'a str, &'static str, Error),
     /// What is wrong with a file below a folder.
     Entry(&'a str, String, Error),
+    /// What is wrong with a file whose name the command made.
+    Named(String, Error),
     /// There is no memory.
     Memory,
 }
@@ -47,6 +49,11 @@ impl<'a> Failure<'a> {
     pub fn entry<E: std::error::Error>(folder: &'a str, name: String, error: E) -> Self {
         Failure::Entry(folder, name, Error::from(error))
     }
+
+    /// What is wrong with a file whose name the command made.
+    pub fn named<E: std::error::Error>(name: String, error: E) -> Self {
+        Failure::Named(name, Error::from(error))
+    }
 }
 
 impl From<AllocError> for Failure<'_> {
@@ -70,6 +77,7 @@ impl fmt::Display for Failure<'_> {
                     Printable(name.as_str())
                 )
             }
+            Failure::Named(name, error) => write!(f, "{}: {error}", Printable(name.as_str())),
             Failure::Memory => f.write_str("out of memory"),
         }
     }

@@ -1,68 +1,61 @@
 //! `slh log init` and `slh log append`.
-ghost use Rattle.std.specs.Prelude.{◌≡◌, IfOk, Ok, OnOk, string_bytes};
+ghost use Rattle.std.specs.Prelude.{IfOk, OnOk, string_bytes};
 ghost use Rattle.log_files.specs.Names.{HaveFullNames};
-ghost use Rattle.slh_arguments.specs.Randomness.{random_of};
-ghost use Rattle.slh_arguments.specs.Texts.{signed_checkpoint};
-ghost use Rattle.slh_arguments.specs.LogHeads.{IsHeadBy, public_half};
-ghost use Rattle.slh_arguments.specs.Sets.{name_of, scheme_for};
+ghost use Rattle.slh_log_commands.specs.Writing.{IsBeside};
 
 use crate::error::Refusal;
+use crate::growth::growth_proof;
+use crate::last::{Last, check_last, last_head, path_of};
+use crate::leftovers::{Leftovers, remove_left};
 use crate::lock;
-use crate::log_folder::{Head, LogFolder};
-use crate::resuming::resume;
-use crate::watching::refused_head;
+use crate::log_folder::{CHECKPOINT, LogFolder};
+use crate::proving::unproved;
+use crate::resuming::{push_signed, resume};
+use crate::signing::{own_checkpoint, sign_after, signed};
 use crate::writing::{make_checkpoint, need_folder, write_files};
 use clap::ArgMatches;
 use log_files::{AppendError, Appending};
 use merkle_tree::{Sha256, TreeHash};
-use slh_arguments::bytes::log::{Checkpoint, CheckpointError};
-use slh_arguments::bytes::{
-    Key, KeyFileError, Outcome, SignHeadError, open_head, sign_head, verifying_half,
-};
+use slh_arguments::bytes::log::Checkpoint;
+use slh_arguments::bytes::{Key, Outcome};
 use slh_arguments::host::{Failure, files};
-use slh_arguments::{Randomness, check_inputs, names, required, required_all, signing_key};
-
-// Why a checkpoint isn't made. The randomizer has as many bytes as its set's have.
-fn unsigned(error: CheckpointError) -> Failure<'static> {
-    match error {
-        CheckpointError::Origin => Failure::option(names::ORIGIN, Refusal::Origin),
-        CheckpointError::Randomizer | CheckpointError::Memory => Failure::Memory,
-    }
-}
-
-// The checkpoint of a head.
-fn signed<'a>(
-    folder: LogFolder<'_, 'a>,
-    key: &Key,
-    origin: &str,
-    head: Checkpoint,
-    randomness: &Randomness,
-) -> Result<Vec<u8>, Failure<'a>>
-    ensures { let set = key.now.set in let Z = scheme_for set in
-        IfOk result (λ note. note.items ≡ signed_checkpoint Z (name_of set) key.now.bytes
-        (random_of Z.n randomness.now) origin.now head.size head.root) }
-{
-    let (bytes, random) = (key.bytes.as_slice(), randomness.of_set(key.set));
-    match sign_head(folder.rt.alloc(), key.set, bytes, origin, head, random) {
-        Ok(checkpoint) => Ok(checkpoint),
-        Err(SignHeadError::Key) => Err(Failure::option(names::KEY, KeyFileError::Length)),
-        Err(SignHeadError::Head(error)) => Err(unsigned(error)),
-    }
-}
+use slh_arguments::{
+    Randomness, WordError, check_inputs, names, required, required_all, signing_key,
+};
 
 // The checkpoint of no entries.
 fn first_checkpoint<'a>(
     folder: LogFolder<'_, 'a>,
     words: &ArgMatches<'a>,
+    key: &Key,
 ) -> Result<Vec<u8>, Failure<'a>> {
     let origin = required(words, names::ORIGIN)?;
-    let key = signing_key(folder.rt, words)?;
     let randomness = Randomness::new(folder.rt, words)?;
     let head = Checkpoint {
         size: 0,
         root: Sha256::empty(),
     };
-    signed(folder, &key, origin, head, &randomness)
+    signed(folder, key, origin, head, &randomness)
+}
+
+// Remembers the checkpoint of a log without entries, and makes it, where the key signed no other
+// head of that log.
+fn begin<'a>(
+    folder: LogFolder<'_, 'a>,
+    words: &ArgMatches<'a>,
+    key: &Key,
+    checkpoint: &[u8],
+) -> Result<(), Failure<'a>> {
+    if folder.has_name(CHECKPOINT)? {
+        return Err(Failure::told(folder.path, Refusal::Exists));
+    }
+    let origin = required(words, names::ORIGIN)?;
+    let path = path_of(folder.rt, words, origin)?;
+    let last = last_head(folder, key, origin, path, checkpoint)?;
+    if last.head.size > 0 {
+        return Err(last.told(folder.rt.alloc(), Refusal::Begun));
+    }
+    make_checkpoint(folder, checkpoint)
 }
 
 /// Begins a log in a folder.
@@ -72,11 +65,13 @@ pub fn init<'s, 'a>(
 ) -> Result<Outcome, Failure<'a>> {
     check_inputs(words, &[])?;
     let folder = LogFolder::of(rt, words)?;
-    let checkpoint = first_checkpoint(folder, words)?;
+    let key = signing_key(rt, words)?;
+    path_of(rt, words, required(words, names::ORIGIN)?)?;
+    let checkpoint = first_checkpoint(folder, words, &key)?;
     need_folder(folder, "")?;
-    lock::take(folder)?;
-    let made = make_checkpoint(folder, checkpoint.as_slice());
-    lock::free_after(folder, made)
+    let lock = lock::take(folder, false)?;
+    let made = begin(folder, words, &key, checkpoint.as_slice());
+    lock::free_after(folder, lock, made)
 }
 
 // Adds an entry.
@@ -135,35 +130,19 @@ fn push_file<'a>(
     push(log, path, bytes.as_slice())
 }
 
-// What a log's head says, where the key signed it.
-fn own_checkpoint<'a>(
-    folder: LogFolder<'_, 'a>,
-    key: &Key,
-    head: &Head,
-) -> Result<Checkpoint, Failure<'a>>
-    ensures { let set = key.now.set in
-        IfOk result (λ checkpoint. IsHeadBy (scheme_for set) (name_of set)
-        (public_half key.now.bytes) (string_bytes head.now.origin) head.now.bytes
-        (Ok checkpoint)) }
-{
-    let (origin, bytes) = (head.origin.as_str(), head.bytes.as_slice());
-    match open_head(key.set, verifying_half(key.bytes.as_slice()), origin, bytes) {
-        Ok(checkpoint) => Ok(checkpoint),
-        Err(error) => Err(refused_head(folder.path, error)),
-    }
-}
-
-// The log of a checkpoint with the files added.
+// The log of a checkpoint, with what was signed last and with the files added.
 fn grown<'a>(
     folder: LogFolder<'_, 'a>,
     words: &ArgMatches<'a>,
     checkpoint: &Checkpoint,
+    last: &Last,
     paths: &[&'a str],
 ) -> Result<Appending<Sha256>, Failure<'a>>
     ensures names { IfOk result (λ log.
         HaveFullNames log.tiles.count log.bundles.items log.full_tiles.items) }
 {
     let mut log = resume(folder, checkpoint)?;
+    push_signed(folder, &mut log, last)?;
     let is_lines = words.get_flag(names::LINES);
     for path in paths {
         push_file(folder, &mut log, *path, is_lines)?;
@@ -177,19 +156,41 @@ fn publish<'a>(
     key: &Key,
     origin: &str,
     randomness: &Randomness,
+    last: &Last,
     log: Appending<Sha256>,
 ) -> Result<(), Failure<'a>>
     requires names { HaveFullNames log.tiles.count log.bundles.items log.full_tiles.items }
+    requires beside { IsBeside folder.path.now (string_bytes last.now.path) }
 {
     let head = Checkpoint {
         size: log.len(),
         root: log.root(),
     };
-    let checkpoint = signed(folder, key, origin, head, randomness)?;
-    match log.finish() {
-        Ok(log_files) => write_files(folder, log_files.as_slice(), checkpoint.as_slice()),
-        Err(_) => Err(Failure::Memory),
+    let Ok(log_files) = log.finish() else {
+        return Err(Failure::Memory);
+    };
+    let proof = match growth_proof(folder, log_files.as_slice(), &last.head, &head) {
+        Ok(proof) => proof,
+        Err(error) => return Err(unproved(folder, error)),
+    };
+    let (old, proof) = (last.bytes.as_slice(), proof.as_slice());
+    let checkpoint = sign_after(folder, key, origin, old, proof, head, randomness)?;
+    write_files(
+        folder,
+        log_files.as_slice(),
+        last.path.as_str(),
+        checkpoint.as_slice(),
+    )
+}
+
+// Refuses an entry that would be written over.
+fn check_entries<'a>(rt: &HostRuntime, last: &Last, paths: &[&'a str]) -> Result<(), Failure<'a>> {
+    for path in paths {
+        if files::are_one(rt, path, last.path.as_str()) {
+            return Err(Failure::told(path, WordError::OverInput));
+        }
     }
+    Ok(())
 }
 
 // Adds the files to the log of a folder, whose lock is held.
@@ -202,11 +203,22 @@ fn append_to<'a>(
 ) -> Result<(), Failure<'a>> {
     let head = folder.head()?;
     let checkpoint = own_checkpoint(folder, key, &head)?;
-    let log = grown(folder, words, &checkpoint, paths)?;
-    if log.len() == checkpoint.size {
+    let origin = head.origin.as_str();
+    let path = path_of(folder.rt, words, origin)?;
+    let last = last_head(folder, key, origin, path, head.bytes.as_slice())?;
+    check_entries(folder.rt, &last, paths)?;
+    check_last(folder, &last, &checkpoint)?;
+    let log = grown(folder, words, &checkpoint, &last, paths)?;
+    let (before, size) = (checkpoint.size, log.len());
+    if size == before {
         return Ok(());
     }
-    publish(folder, key, head.origin.as_str(), randomness, log)
+    publish(folder, key, origin, randomness, &last, log)?;
+    let left = Leftovers {
+        signed: size,
+        published: size,
+    };
+    remove_left(folder, left, before)
 }
 
 /// Adds entries to a log, and signs its head.
@@ -220,7 +232,7 @@ pub fn append<'s, 'a>(
     let key = signing_key(rt, words)?;
     let randomness = Randomness::new(rt, words)?;
     folder.head()?;
-    lock::take(folder)?;
+    let lock = lock::take(folder, words.get_flag(names::BREAK_LOCK))?;
     let done = append_to(folder, words, &key, &randomness, paths);
-    lock::free_after(folder, done)
+    lock::free_after(folder, lock, done)
 }

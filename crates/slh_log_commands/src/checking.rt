@@ -133,7 +133,7 @@ fn tell_ahead<'a>(folder: LogFolder<'_, 'a>, size: u64) -> Result<(), Failure<'a
         if folder.has(bundle)? {
             let path = folder.path;
             let _ = eprintln!(folder.rt;
-                "slh: {path}: it is ahead of its checkpoint, and the next append mends it"
+                "slh: {path}: it is ahead of its checkpoint, which the next append or log prune mends"
             );
             return Ok(());
         }

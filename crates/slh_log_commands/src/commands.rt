@@ -1,6 +1,7 @@
 //! Which command is which function.
 use crate::appending::{append, init};
 use crate::checking::check;
+use crate::leftovers::prune;
 use crate::proving::prove;
 use crate::watching::{growth, verify};
 use clap::ArgMatches;
@@ -17,6 +18,7 @@ pub fn run<'a>(
     match verb {
         LogVerb::Init => init(rt, words),
         LogVerb::Append => append(rt, words),
+        LogVerb::Prune => prune(rt, words),
         LogVerb::Prove => prove(rt, words),
         LogVerb::Check => check(rt, words),
         LogVerb::Verify => verify(rt, words),

@@ -49,15 +49,19 @@ pub fn leaves_of<'a>(
     Err(folder.bad_bundle(bundle, Refusal::OtherEntries))
 }
 
-/// The bundle with the entry at an index of a log of `size` entries.
-pub fn bundle_of(entry: u64, size: u64) -> Bundle {
-    let index = entry / 256;
+/// The bundle with an index of a log of `size` entries; behind the last full one it may have none.
+pub fn bundle_at(index: u64, size: u64) -> Bundle {
     let width = if index < size / 256 {
         FULL
     } else {
         (size % 256) as u32
     };
     Bundle { index, width }
+}
+
+/// The bundle with the entry at an index of a log of `size` entries.
+pub fn bundle_of(entry: u64, size: u64) -> Bundle {
+    bundle_at(entry / 256, size)
 }
 
 /// The entry at a place of a bundle.

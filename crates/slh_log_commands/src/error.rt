@@ -13,12 +13,30 @@ pub enum Refusal {
     Full,
     #[error("there is a log already")]
     Exists,
+    #[error("a head with entries was signed of this log, which goes on by append")]
+    Begun,
+    #[error("another run signs after it")]
+    InUse,
+    #[error("it is below the folder, with which it would be restored")]
+    InFolder,
+    #[error("no place for the head that was signed last")]
+    NoPlace,
+    #[error("the head that was signed last has entries that the folder lacks: an old copy of the log")]
+    OldCopy,
+    #[error("the head that was signed last is none of this log, which is a fork of its own")]
+    Fork,
+    #[error("the new head isn't a growth of the one that was signed last")]
+    NotGrown,
     #[error("no log: it has no checkpoint")]
     NoLog,
     #[error("a link or no folder")]
     NoFolder,
     #[error("writes to this log; if it doesn't run any more, remove this file")]
     Held,
+    #[error("it runs, and writes to this log")]
+    Runs,
+    #[error("not known to be of this host, where alone it is seen whether it runs")]
+    OtherHost,
     #[error("not a number in decimal")]
     NotDecimal,
     #[error("the log has no such entry or size")]

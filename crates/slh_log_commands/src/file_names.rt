@@ -1,4 +1,4 @@
-//! The names of files below a log's folder.
+//! The names of files that are written whole.
 ghost use Rattle.std.specs.Prelude.{◌≡◌, ◌≢◌, IfOk, string_bytes};
 ghost use Rattle.log_files.specs.Names.{below};
 ghost use Rattle.whole_files.specs.Parts.{HasPartEnd};
@@ -15,7 +15,19 @@ pub struct Names {
     pub part: String,
 }
 
-/// The names of a file, the second of which is new.
+/// The names of the file at a path, the second of which is new.
+pub fn names_at(rt: &HostRuntime, path: &str) -> Result<Names, Failure<'static>>
+    ensures path { IfOk result (λ names. string_bytes names.path ≡ path.now) }
+    ensures part { IfOk result (λ names. string_bytes names.part ≢ string_bytes names.path) }
+    ensures end { IfOk result (λ names. HasPartEnd (string_bytes names.part)) }
+{
+    let number = u64::from_be_bytes(random::<8>(rt)?);
+    let part = part_name(rt.alloc(), path, number)?;
+    let path = String::from_str(rt.alloc(), path)?;
+    Ok(Names { path, part })
+}
+
+/// The names of a file below a log's folder, the second of which is new.
 pub fn names_of<'a>(folder: LogFolder<'_, 'a>, name: &str) -> Result<Names, Failure<'a>>
     ensures path { IfOk result (λ names.
         string_bytes names.path ≡ below folder.entry.path.now name.now) }
@@ -23,7 +35,5 @@ pub fn names_of<'a>(folder: LogFolder<'_, 'a>, name: &str) -> Result<Names, Fail
     ensures end { IfOk result (λ names. HasPartEnd (string_bytes names.part)) }
 {
     let path = folder.path_of(name)?;
-    let number = u64::from_be_bytes(random::<8>(folder.rt)?);
-    let part = part_name(folder.rt.alloc(), path.as_str(), number)?;
-    Ok(Names { path, part })
+    Ok(names_at(folder.rt, path.as_str())?)
 }

@@ -23,7 +23,7 @@ pub const CHECKPOINT: &str = "checkpoint";
 pub const LOCK: &str = "lock";
 
 /// The most bytes of a checkpoint, with the signatures of others.
-const MAX_CHECKPOINT: u64 = 1 << 20;
+pub const MAX_CHECKPOINT: u64 = 1 << 20;
 
 /// The most bytes of a bundle.
 const MAX_BUNDLE: u64 = 256 * (MAX_ENTRY_LEN as u64 + 2);
@@ -98,6 +98,16 @@ impl<'s, 'a> LogFolder<'s, 'a> {
         })
     }
 
+    /// Whether something stands under a name below the folder.
+    pub fn has_name(&self, name: &str) -> Result<bool, Failure<'a>> {
+        let path = self.path_of(name)?;
+        match fs::symlink_metadata(self.rt, path.as_str()) {
+            Ok(_) => Ok(true),
+            Err(error) if error.kind() == ErrorKind::NotFound => Ok(false),
+            Err(error) => Err(self.told(name, error)),
+        }
+    }
+
     /// The bytes of a bundle.
     pub fn bundle(&self, bundle: Bundle) -> Result<ByteString, Failure<'a>> {
         let name = self.name_of(bundle.path(self.rt.alloc()))?;
@@ -110,8 +120,7 @@ impl<'s, 'a> LogFolder<'s, 'a> {
     /// Whether there is a file of a bundle.
     pub fn has(&self, bundle: Bundle) -> Result<bool, Failure<'a>> {
         let name = self.name_of(bundle.path(self.rt.alloc()))?;
-        let path = self.path_of(name.as_str())?;
-        Ok(fs::metadata(self.rt, path.as_str()).is_ok())
+        self.has_name(name.as_str())
     }
 
     /// The bytes of a tile.
@@ -152,7 +161,8 @@ impl<'s, 'a> LogFolder<'s, 'a> {
         }
     }
 
-    fn name_of(&self, name: Result<String, NameError>) -> Result<String, Failure<'a>> {
+    /// A name, where there was memory for it. The widths and levels of names are those that there are.
+    pub fn name_of(&self, name: Result<String, NameError>) -> Result<String, Failure<'a>> {
         match name {
             Ok(name) => Ok(name),
             Err(_) => Err(Failure::Memory),

@@ -19,8 +19,8 @@ fn number_of<'a>(name: &'static str, word: &'a str) -> Result<u64, Failure<'a>> 
     }
 }
 
-// Why there is no proof.
-fn unproved<'a>(folder: LogFolder<'_, 'a>, error: TileError) -> Failure<'a> {
+/// Why there is no proof.
+pub fn unproved<'a>(folder: LogFolder<'_, 'a>, error: TileError) -> Failure<'a> {
     match error {
         TileError::Range => Failure::told(folder.path, Refusal::NoEntryOrSize),
         TileError::Tile(tile) => folder.bad_tile(tile, Refusal::NoTile),

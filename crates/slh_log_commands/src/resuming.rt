@@ -1,12 +1,15 @@
 //! A log's last tiles and its last bundle, as they stand below its folder.
-ghost use Rattle.std.specs.Prelude.{◌<◌, IfOk};
+ghost use Rattle.std.specs.Prelude.{◌<◌, IfOk, OnOk};
 ghost use Rattle.log_files.specs.Names.{HaveFullNames};
 
-use crate::entries::checked_bundle;
+use crate::entries::{bundle_at, checked_bundle};
 use crate::error::Refusal;
+use crate::last::Last;
 use crate::log_folder::LogFolder;
-use log_files::Appending;
-use log_tiles::{FULL, GrowingTiles, LEVELS, Tile, hash_count, last_bundle, last_tile};
+use log_files::{AppendError, Appending};
+use log_tiles::{
+    Bundle, Entries, FULL, GrowingTiles, LEVELS, Tile, hash_count, last_bundle, last_tile,
+};
 use merkle_tree::{DIGEST_LEN, Sha256};
 use slh_arguments::bytes::log::Checkpoint;
 use slh_arguments::host::Failure;
@@ -95,4 +98,71 @@ pub fn resume<'a>(
         _ => Vec::new(alloc),
     };
     Ok(Appending::new(alloc, tiles, bundle))
+}
+
+// Adds the entries of a bundle that a log hasn't yet, as far as they are there.
+fn push_bundle(log: &mut Appending<Sha256>, bundle: Bundle, bytes: &[u8]) -> Result<(), AppendError>
+    requires names { HaveFullNames log.old.tiles.count log.old.bundles.items
+        log.old.full_tiles.items }
+    ensures names { OnOk result (HaveFullNames log.new.tiles.count log.new.bundles.items
+        log.new.full_tiles.items) }
+{
+    let mut entries = Entries::of(bytes, bundle.width);
+    for place in 0..bundle.width as u64 {
+        let Ok(Some(entry)) = entries.next_entry() else {
+            break;
+        };
+        if log.len() / 256 == bundle.index && log.len() % 256 == place {
+            log.push(entry)?;
+        }
+    }
+    Ok(())
+}
+
+// Adds the entries that a log of `size` has and this one hasn't yet, as far as they are there.
+fn push_bundles<'a>(
+    folder: LogFolder<'_, 'a>,
+    log: &mut Appending<Sha256>,
+    size: u64,
+) -> Result<(), Failure<'a>>
+    requires names { HaveFullNames log.old.tiles.count log.old.bundles.items
+        log.old.full_tiles.items }
+    ensures names { OnOk result (HaveFullNames log.new.tiles.count log.new.bundles.items
+        log.new.full_tiles.items) }
+{
+    for index in log.len() / 256..=size / 256 {
+        let bundle = bundle_at(index, size);
+        if bundle.width == 0 || !folder.has(bundle)? {
+            break;
+        }
+        let bytes = folder.bundle(bundle)?;
+        match push_bundle(log, bundle, bytes.as_slice()) {
+            Ok(()) => (),
+            Err(AppendError::Memory) => return Err(Failure::Memory),
+            Err(_) => return Err(folder.bad_bundle(bundle, Refusal::OtherEntries)),
+        }
+    }
+    Ok(())
+}
+
+/// Adds the entries that the head has which was signed last, and that the checkpoint hasn't yet: an
+/// append wrote them that was cut off before its checkpoint. Without them the folder is an old copy.
+pub fn push_signed<'a>(
+    folder: LogFolder<'_, 'a>,
+    log: &mut Appending<Sha256>,
+    last: &Last,
+) -> Result<(), Failure<'a>>
+    requires names { HaveFullNames log.old.tiles.count log.old.bundles.items
+        log.old.full_tiles.items }
+    ensures names { OnOk result (HaveFullNames log.new.tiles.count log.new.bundles.items
+        log.new.full_tiles.items) }
+{
+    if last.head.size <= log.len() {
+        return Ok(());
+    }
+    push_bundles(folder, log, last.head.size)?;
+    if log.len() != last.head.size || log.root() != last.head.root {
+        return Err(last.told(folder.rt.alloc(), Refusal::OldCopy));
+    }
+    Ok(())
 }

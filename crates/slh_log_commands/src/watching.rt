@@ -13,13 +13,18 @@ use slh_arguments::{check_inputs, names, report, required, verifying_key};
 use std::alloc::Global;
 
 /// Why a checkpoint isn't opened, where that is no verdict.
-pub fn refused_head<'a>(path: &'a str, error: OpenError) -> Failure<'a> {
+pub fn head_refusal(error: OpenError) -> Refusal {
     match error {
-        OpenError::Form => Failure::told(path, Refusal::NotCheckpoint),
-        OpenError::Origin => Failure::told(path, Refusal::OtherOrigin),
-        OpenError::Unsigned => Failure::told(path, Refusal::Unsigned),
-        OpenError::Invalid => Failure::told(path, Refusal::InvalidHead),
+        OpenError::Form => Refusal::NotCheckpoint,
+        OpenError::Origin => Refusal::OtherOrigin,
+        OpenError::Unsigned => Refusal::Unsigned,
+        OpenError::Invalid => Refusal::InvalidHead,
     }
+}
+
+/// The same of the checkpoint at a path.
+pub fn refused_head<'a>(path: &'a str, error: OpenError) -> Failure<'a> {
+    Failure::told(path, head_refusal(error))
 }
 
 // What is told of a checkpoint that isn't opened: that it is invalid, or the refusal.

@@ -1,12 +1,14 @@
 //! Files of a log that are written, and the checkpoint last.
-ghost use Rattle.std.specs.Prelude.{◌≡◌, IfOk, IsTrue, length, map};
+ghost use Rattle.std.specs.Prelude.{◌≡◌, IfOk, IsTrue, length, map, string_bytes};
 ghost use Rattle.log_files.specs.Appending.{named};
-ghost use Rattle.log_files.specs.Names.{AreSuch, IsHeadLast, IsName, StandWhole};
-ghost use Rattle.slh_log_commands.specs.Writing.{AreNamesOf, ArePiecesOf, IsHeadNew};
+ghost use Rattle.log_files.specs.Names.{AreSuch, IsName};
+ghost use Rattle.whole_files.specs.Parts.{HasPartEnd};
+ghost use Rattle.slh_log_commands.specs.Writing.{AreNamesOf, ArePiecesOf, AreWritten, IsBeside};
+ghost use Rattle.slh_log_commands.specs.Writing.{IsHeadNew, StandAll};
 ghost use Rattle.whole_files.specs.Files.{Files};
 
 use crate::error::Refusal;
-use crate::file_names::{Names, names_of};
+use crate::file_names::{Names, names_at, names_of};
 use crate::log_folder::{CHECKPOINT, LogFolder};
 use log_files::{FolderError, LogFile, Piece, PublishError, make_folder, publish};
 use slh_arguments::host::outputs::{known, unwritten};
@@ -91,10 +93,17 @@ pub fn make_checkpoint<'a>(folder: LogFolder<'_, 'a>, bytes: &[u8]) -> Result<()
     }
 }
 
-fn name_at(log_files: &[LogFile], i: usize) -> &str {
+// What is wrong with the file of a log that has this place, or with the one beside it.
+fn piece_failure<'a>(
+    folder: LogFolder<'_, 'a>,
+    log_files: &[LogFile],
+    last: Names,
+    i: usize,
+    error: HostError,
+) -> Failure<'a> {
     match log_files.get(i) {
-        Some(file) => file.name.as_str(),
-        None => CHECKPOINT,
+        Some(file) => folder.told(file.name.as_str(), error),
+        None => Failure::named(last.path, error),
     }
 }
 
@@ -136,26 +145,39 @@ fn pieces_of<'f>(
     Ok(pieces)
 }
 
-// Writes files whole below a folder, in their order, and then the checkpoint.
+// Writes files whole below a folder, in their order, then the checkpoint to the file beside the log,
+// and then the checkpoint itself.
 fn put_files<'a, F: FileSystem>(
     files: &mut F,
     folder: LogFolder<'_, 'a>,
     log_files: &[LogFile],
+    last: &Names,
     checkpoint: &[u8],
 ) -> Result<Result<Written, PublishError>, Failure<'a>>
     requires names { AreSuch IsName (map named log_files.now) }
+    requires beside { IsBeside folder.path.now (string_bytes last.now.path) }
+    requires part { HasPartEnd (string_bytes last.now.part) }
 
-    // Wherever everything stops, the checkpoint has what it had, or it and all files stand whole.
-    requires permitted { IsTrue F.tells → (n : Files) → IsHeadLast (F.files files.old)
-        folder.path.now (map named log_files.now) checkpoint.now n → F.permits n }
-    ensures head_is_last { IsTrue F.tells → IsHeadLast (F.files files.old)
-        folder.entry.path.now (map named log_files.now) checkpoint.now (F.files files.new) }
+    // Wherever everything stops, the checkpoint has what it had, or it, the file beside and all
+    // files of the log stand whole; and the file beside has what it had, or it and all files do.
+    requires permitted { IsTrue F.tells → (n : Files) → AreWritten (F.files files.old)
+        folder.path.now (map named log_files.now) (string_bytes last.now.path) checkpoint.now n
+        → F.permits n }
+    ensures head_is_last { IsTrue F.tells → AreWritten (F.files files.old)
+        folder.entry.path.now (map named log_files.now) (string_bytes last.now.path)
+        checkpoint.now (F.files files.new) }
     ensures done { IsTrue F.tells → IfOk result (λ published. IfOk published (λ _.
-        StandWhole folder.entry.path.now (map named log_files.now) checkpoint.now
-        (F.files files.new))) }
+        StandAll folder.entry.path.now (map named log_files.now) (string_bytes last.now.path)
+        checkpoint.now (F.files files.new))) }
 {
     let names = all_names(folder, log_files)?;
-    let pieces = pieces_of(folder.rt.alloc(), log_files, names.as_slice())?;
+    let mut pieces = pieces_of(folder.rt.alloc(), log_files, names.as_slice())?;
+    let last = Piece {
+        path: last.path.as_str(),
+        part: last.part.as_str(),
+        bytes: checkpoint,
+    };
+    pieces.push(last).map_err(AllocError::from)?;
     let head = names_of(folder, CHECKPOINT)?;
     let head = Piece {
         path: head.path.as_str(),
@@ -165,17 +187,21 @@ fn put_files<'a, F: FileSystem>(
     Ok(publish(files, pieces.as_slice(), &head))
 }
 
-/// Writes files whole, in their order, and then the checkpoint.
+/// Writes files whole, in their order, then the checkpoint to the file beside the log, where the
+/// head is remembered, and then the checkpoint itself.
 pub fn write_files<'a>(
     folder: LogFolder<'_, 'a>,
     log_files: &[LogFile],
+    last: &str,
     checkpoint: &[u8],
 ) -> Result<(), Failure<'a>>
-    requires { AreSuch IsName (map named log_files.now) }
+    requires names { AreSuch IsName (map named log_files.now) }
+    requires beside { IsBeside folder.path.now last.now }
 {
     need_folders(folder, log_files)?;
+    let last = names_at(folder.rt, last)?;
     let mut files = HostFiles::new(folder.rt);
-    let published = put_files(&mut files, folder, log_files, checkpoint)?;
+    let published = put_files(&mut files, folder, log_files, &last, checkpoint)?;
     let fault = known(files.fault.take());
     match published {
         Ok(Written::Settled) => Ok(()),
@@ -185,9 +211,11 @@ pub fn write_files<'a>(
             HostError::Unsettled(fault),
         )),
         Err(PublishError::AtPiece(i, error)) => {
-            Err(folder.told(name_at(log_files, i), unwritten(error, fault)))
+            Err(piece_failure(folder, log_files, last, i, unwritten(error, fault)))
         }
-        Err(PublishError::Unsettled(i)) => Err(folder.told(name_at(log_files, i), fault)),
+        Err(PublishError::Unsettled(i)) => {
+            Err(piece_failure(folder, log_files, last, i, HostError::System(fault)))
+        }
         Err(PublishError::AtHead(error)) => Err(folder.told(CHECKPOINT, unwritten(error, fault))),
     }
 }
