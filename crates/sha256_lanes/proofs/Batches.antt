@@ -7,6 +7,7 @@ use Rattle.sha256_lanes.specs.Eight.{word_in}
 use Rattle.sha256_lanes.specs.Rounds.{next_in}
 use Rattle.sha256_lanes.specs.Sha256.{block_word, constants, fold_blocks, schedule, sum32}
 use Rattle.sha256_lanes.specs.declared.bulk.Schedules.{Schedules}
+use Rattle.sha256_lanes.proofs.Fours.{sum_constant}
 use Rattle.sha256_lanes.proofs.Folding.{fold_blocks-add, fold_blocks-append}
 use Rattle.sha256_lanes.proofs.Schedule.{block_word_is, later_word_is, schedule_same}
 
@@ -62,9 +63,6 @@ filled_next s p t j x filled late within lane is =
     is
     ∙ rw (at 16 (omega arith) (omega arith), at 15 (omega arith) (omega arith), at 7 (omega arith) (omega arith), at 2 (omega arith) (omega arith))
     (sym (later_word_is (block_in p j) 64 t late within))
-
-sum_constant : (w k : ℕ) → sum32 w (k % 2 ^ 32) ≡ sum32 w k
-sum_constant w k = omega arith
 
 -- a word with the constant of its round, which stands in each lane
 pub keyed_is : (w k x j : ℕ) (word : List ℕ) → j < 8 → word_in word j ≡ w → x ≡ sum32 (word_in word j) (word_in (replicate 8 k) j) → x ≡ sum32 w k

@@ -9,3 +9,4 @@ mod EightHashes
 mod LongRows
 mod Batches
 pub mod Digest
+mod Fours

@@ -5,3 +5,4 @@ pub mod Eight
 pub mod Midstate
 pub mod Begun
 pub mod Batches
+pub mod Single

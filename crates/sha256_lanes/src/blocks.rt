@@ -7,7 +7,7 @@ ghost use Rattle.std.specs.Int.{to_be_bytes, w64};
 ghost use Rattle.sha256_lanes.specs.Sha256.{compress, fold_blocks, padding, word_bytes};
 
 use crate::bulk::{BATCH_BYTES, absorb_batches};
-use crate::compression::compress_each;
+use crate::single::compress_one;
 
 /// How many bytes a block has (FIPS 180-4, 5.2.1).
 pub const BLOCK_BYTES: usize = 64;
@@ -26,10 +26,9 @@ pub fn compress(state: &mut [u32; 8], block: &[u8])
     requires { length block.now ≡ 64 }
     ensures { state.new ≡ compress state.old block.now }
 {
-    let mut only = [[0u8; 64]];
-    only[0].copy_from_slice(block);
-    let [words] = compress_each::<u32, 1>(state, &only);
-    *state = words;
+    let mut only = [0u8; 64];
+    only.copy_from_slice(block);
+    *state = compress_one(state, &only);
 }
 
 /// Takes one block after the other into the eight words; bytes after the last whole block are left.

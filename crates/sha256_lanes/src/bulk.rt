@@ -55,7 +55,7 @@ fn upper_sigma1(x: u32) -> u32
 
 // A round, with a word to which its constant was added before.
 #[inline(always)]
-fn keyed_round(v: Variables<u32>, keyed: u32) -> Variables<u32>
+pub(crate) fn keyed_round(v: Variables<u32>, keyed: u32) -> Variables<u32>
     ensures { (k w : ℕ) → keyed % 2 ^ 32 ≡ sum32 w k
         → variables (λ x. x) result ≡ round (variables (λ x. x) v) k w }
 {
@@ -152,7 +152,7 @@ fn put_later(next: &mut Schedules, t: usize)
 
 // A hash value and the working variables after all rounds.
 #[inline(always)]
-fn sums(s: Variables<u32>, v: Variables<u32>) -> Variables<u32>
+pub(crate) fn sums(s: Variables<u32>, v: Variables<u32>) -> Variables<u32>
     ensures { (b : List ℕ) → variables (λ x. x) v ≡ rounds_until (variables (λ x. x) s) b 64
         → variables (λ x. x) result ≡ compress (variables (λ x. x) s) b }
 {
@@ -226,7 +226,7 @@ fn lone_turn(s: Variables<u32>, now: &Schedules, j: usize) -> Variables<u32>
 
 // The words of a hash value by their names.
 #[inline(always)]
-fn named(words: &[u32; 8]) -> Variables<u32>
+pub(crate) fn named(words: &[u32; 8]) -> Variables<u32>
     ensures { variables (λ x. x) result ≡ words.now }
 {
     Variables {

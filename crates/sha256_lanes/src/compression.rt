@@ -1,5 +1,5 @@
-//! The compression function (FIPS 180-4, 6.2.2): one text for a single block and for several side
-//! by side.
+//! The compression function (FIPS 180-4, 6.2.2): one text for four blocks and for eight side by
+//! side.
 
 ghost use Rattle.std.specs.Prelude.{◌≡◌, ℕ, List, [], length, map, slice_index, slice_index_or, ⊤};
 ghost use Rattle.std.specs.Prelude.{◌+◌, ◌*◌, ◌<◌, ◌≤◌, ◌∷◌, ◌++◌, drop, take};
@@ -117,14 +117,14 @@ fn upper_sigma1<W: Word>(x: W) -> W
 }
 
 #[inline(always)]
-fn lower_sigma0<W: Word>(x: W) -> W
+pub(crate) fn lower_sigma0<W: Word>(x: W) -> W
     ensures { (j : ℕ) → j < W.lanes → W.lane result j ≡ lower_sigma0 (W.lane x j) }
 {
     x.xor(x.rotated(11)).rotated(7).xor(x.shifted(3))
 }
 
 #[inline(always)]
-fn lower_sigma1<W: Word>(x: W) -> W
+pub(crate) fn lower_sigma1<W: Word>(x: W) -> W
     ensures { (j : ℕ) → j < W.lanes → W.lane result j ≡ lower_sigma1 (W.lane x j) }
 {
     x.xor(x.rotated(2)).rotated(17).xor(x.shifted(10))

@@ -7,6 +7,7 @@ ghost use Rattle.sha256_lanes.specs.Sha256.{padding, sha256, word_bytes};
 
 use crate::blocks::{BLOCK_BYTES, INITIAL_WORDS, MAX_TAIL, last_block, word_bytes};
 use crate::compression::compress_each;
+use crate::single::compress_one;
 use crate::word::Word;
 use std::simd::{u32x4, u32x8};
 
@@ -49,8 +50,9 @@ impl Midstate {
     pub fn new(block: &[u8; BLOCK_BYTES]) -> Midstate
         ensures { BeginsWith result block.now }
     {
-        let [words] = compress_each::<u32, 1>(&INITIAL_WORDS, &[*block]);
-        Midstate { words }
+        Midstate {
+            words: compress_one(&INITIAL_WORDS, block),
+        }
     }
 
     // As many messages as a word has lanes, side by side.
@@ -77,7 +79,8 @@ impl Midstate {
         ensures { (m : List ℕ) → BeginsWith self.now m
             → result ≡ map (λ tail. sha256 (m ++ take len tail)) tails.now }
     {
-        self.finalize_each::<u32, 1>(tails, len)
+        let [block] = last_blocks(tails, len);
+        [word_bytes(&compress_one(&self.words, &block))]
     }
 
     /// The digests of the first block and then each of four tails, which are the first `len` bytes

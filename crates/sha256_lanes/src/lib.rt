@@ -47,6 +47,7 @@ mod eight;
 mod hashing;
 mod lanes;
 mod rows;
+mod single;
 mod word;
 
 pub use blocks::{BLOCK_BYTES, MAX_TAIL};

@@ -1,4 +1,4 @@
-//! Words of 32 bits, one or several side by side: each operation works lane by lane.
+//! Words of 32 bits, several side by side: each operation works lane by lane.
 
 ghost use Rattle.std.specs.Prelude.{◌≡◌, ℕ, ◌+◌, ◌*◌, ◌/◌, ◌%◌, ◌^◌, ◌<◌, ◌≤◌, bit_and, bit_xor};
 ghost use Rattle.std.specs.Prelude.{length, slice_index, slice_index_or, []};
@@ -9,7 +9,7 @@ use std::simd::{u32x4, u32x8};
 
 // The word whose four bytes stand from place `i` of a block on, the highest first.
 #[inline(always)]
-fn block_word(block: &[u8; 64], i: usize) -> u32
+pub(crate) fn block_word(block: &[u8; 64], i: usize) -> u32
     requires { i + 4 ≤ 64 }
     ensures { result ≡ block_word block.now i }
 {
@@ -63,56 +63,6 @@ pub(crate) trait Word: Copy + Drop {
 
     // A lane has 32 bits.
     ghost lane_lt: { (x : Self) (j : ℕ) → lane x j < 2 ^ 32 };
-}
-
-impl Word for u32 {
-    ghost use Rattle.std.proofs.Common.{mod-lt, pow_pos};
-
-    ghost lanes = { 1 };
-
-    ghost lane = { λ x j. x % 2 ^ 32 };
-
-    ghost lane_lt = { λ x j. mod-lt x (pow_pos 32) };
-
-    #[inline(always)]
-    fn of_blocks(blocks: &[[u8; 64]], k: usize) -> Self {
-        block_word(&blocks[0], 4 * k)
-    }
-
-    #[inline(always)]
-    fn lane_at(self, _j: usize) -> u32 {
-        self
-    }
-
-    #[inline(always)]
-    fn splat(x: u32) -> Self {
-        x
-    }
-
-    #[inline(always)]
-    fn sum(self, other: Self) -> Self {
-        self.wrapping_add(other)
-    }
-
-    #[inline(always)]
-    fn xor(self, other: Self) -> Self {
-        self ^ other
-    }
-
-    #[inline(always)]
-    fn and(self, other: Self) -> Self {
-        self & other
-    }
-
-    #[inline(always)]
-    fn rotated(self, k: u32) -> Self {
-        self.rotate_right(k)
-    }
-
-    #[inline(always)]
-    fn shifted(self, k: u32) -> Self {
-        self >> k
-    }
 }
 
 impl Word for u32x4 {

@@ -8,6 +8,7 @@ use Rattle.sha2.specs.Sha512.{add64, compress, hash_after, round_constants, sche
 use Rattle.sha512_lanes.specs.Batches.{IsFilled, batch_at, block_in, word_in}
 use Rattle.sha512_lanes.specs.Steps.{next_in}
 use Rattle.sha512_lanes.specs.declared.bulk.Schedules.{Schedules}
+use Rattle.sha512_lanes.proofs.Fours.{sum_constant}
 
 -- word t of block j, as it stands in the four blocks
 pub first_word : (p : List ℕ) (j t start : ℕ) → t < 16 → start ≡ 8 * t + 128 * j → word_at p start ≡ slice_index (schedule (block_in p j) 64) t
@@ -80,9 +81,6 @@ put_in xs x t i F inside before here low =
           let same : i ≡ t = omega (arith, low, last) in
           rw same (get_or-set_same xs t x [] inside ∙ here)
     ]
-
-sum_constant : (w k : ℕ) → add64 w (k % 2 ^ 64) ≡ add64 w k
-sum_constant w k = omega arith
 
 -- a word with the constant of its round, which stands in each lane
 pub keyed_is : (w k x j : ℕ) (word : List ℕ) → j < 4 → word_in word j ≡ w → x ≡ add64 (word_in word j) (word_in (replicate 4 k) j) → x ≡ add64 w k

@@ -4,3 +4,4 @@ pub mod Ending
 pub mod LongRows
 mod Batches
 mod Absorbing
+mod Fours

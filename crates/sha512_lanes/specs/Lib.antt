@@ -3,3 +3,4 @@ pub mod Steps
 pub mod Midstate
 pub mod Batches
 pub mod Hash
+pub mod Single

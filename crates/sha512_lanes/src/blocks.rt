@@ -4,7 +4,7 @@ ghost use Rattle.std.specs.Prelude.{◌≡◌, ◌*◌, ◌/◌, ◌≤◌, leng
 ghost use Rattle.sha2.specs.Sha512.{compress, hash_after};
 
 use crate::bulk::{BATCH_BYTES, absorb_batches};
-use crate::compression::compress_each;
+use crate::single::compress_one;
 
 /// How many bytes a block has (FIPS 180-4, 5.2.2).
 pub const BLOCK_BYTES: usize = 128;
@@ -29,10 +29,9 @@ pub(crate) fn compress(state: &mut [u64; 8], block: &[u8])
     requires { length block.now ≡ 128 }
     ensures { state.new ≡ compress state.old block.now }
 {
-    let mut only = [[0u8; 128]];
-    only[0].copy_from_slice(block);
-    let [words] = compress_each::<u64, 1>(state, &only);
-    *state = words;
+    let mut only = [0u8; 128];
+    only.copy_from_slice(block);
+    *state = compress_one(state, &only);
 }
 
 /// Takes one block after the other into the eight words.

@@ -53,7 +53,7 @@ fn upper_sigma1(x: u64) -> u64
 
 // A round, with a word to which its constant was added before.
 #[inline(always)]
-fn keyed_round(v: Variables<u64>, keyed: u64) -> Variables<u64>
+pub(crate) fn keyed_round(v: Variables<u64>, keyed: u64) -> Variables<u64>
     ensures { (k w : ℕ) → keyed % 2 ^ 64 ≡ add64 w k
         → variables (λ x. x) result ≡ round (variables (λ x. x) v) k w }
 {
@@ -155,7 +155,7 @@ fn put_later(next: &mut Schedules, t: usize)
 
 // A hash value and the working variables after all rounds.
 #[inline(always)]
-fn sums(s: Variables<u64>, v: Variables<u64>) -> Variables<u64>
+pub(crate) fn sums(s: Variables<u64>, v: Variables<u64>) -> Variables<u64>
     ensures { (b : List ℕ) → let h = variables (λ x. x) s in
         variables (λ x. x) v ≡ rounds h (schedule b 64) 80
         → variables (λ x. x) result ≡ compress h b }
@@ -240,7 +240,7 @@ fn all_rounds(v: Variables<u64>, now: &Schedules, j: usize) -> Variables<u64>
 
 // The words of a hash value by their names.
 #[inline(always)]
-fn named(words: &[u64; 8]) -> Variables<u64>
+pub(crate) fn named(words: &[u64; 8]) -> Variables<u64>
     ensures { variables (λ x. x) result ≡ words.now }
 {
     Variables {

@@ -1,5 +1,5 @@
-//! The compression function (FIPS 180-4, 6.4.2): one text for a single block and for several side
-//! by side.
+//! The compression function (FIPS 180-4, 6.4.2): one text for any number of blocks side by
+//! side.
 
 ghost use Rattle.std.specs.Prelude.{◌≡◌, ℕ, List, [], length, map, slice_index, slice_index_or, ⊤};
 ghost use Rattle.std.specs.Prelude.{◌+◌, ◌*◌, ◌<◌, ◌≤◌};
@@ -188,14 +188,14 @@ fn upper_sigma1<W: Word>(x: W) -> W
 }
 
 #[inline(always)]
-fn lower_sigma0<W: Word>(x: W) -> W
+pub(crate) fn lower_sigma0<W: Word>(x: W) -> W
     ensures { (j : ℕ) → j < W.lanes → W.lane result j ≡ small_sigma0 (W.lane x j) }
 {
     x.xor(x.rotated(7)).rotated(1).xor(x.shifted(7))
 }
 
 #[inline(always)]
-fn lower_sigma1<W: Word>(x: W) -> W
+pub(crate) fn lower_sigma1<W: Word>(x: W) -> W
     ensures { (j : ℕ) → j < W.lanes → W.lane result j ≡ small_sigma1 (W.lane x j) }
 {
     x.xor(x.rotated(42)).rotated(19).xor(x.shifted(6))

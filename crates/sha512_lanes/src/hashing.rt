@@ -8,6 +8,7 @@ ghost use Rattle.sha512_lanes.specs.Midstate.{BeginsWith};
 
 use crate::blocks::{BLOCK_BYTES, INITIAL_WORDS};
 use crate::compression::compress_each;
+use crate::single::compress_one;
 use crate::word::Word;
 use std::simd::u64x4;
 
@@ -96,8 +97,9 @@ impl Midstate {
     pub fn new(block: &[u8; BLOCK_BYTES]) -> Midstate
         ensures { BeginsWith result block.now }
     {
-        let [words] = compress_each::<u64, 1>(&INITIAL_WORDS, &[*block]);
-        Midstate { words }
+        Midstate {
+            words: compress_one(&INITIAL_WORDS, block),
+        }
     }
 
     // As many messages as a word has lanes, side by side.
@@ -124,7 +126,8 @@ impl Midstate {
         ensures { (m : List ℕ) → BeginsWith self.now m
             → result ≡ map (λ tail. sha512 (m ++ take len tail)) tails.now }
     {
-        self.finalize_each::<u64, 1>(tails, len)
+        let [block] = last_blocks(tails, len);
+        [word_bytes(&compress_one(&self.words, &block))]
     }
 
     /// The digests of the first block and then each of four tails, which are the first `len` bytes

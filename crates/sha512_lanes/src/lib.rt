@@ -42,6 +42,7 @@ mod compression;
 mod hash;
 mod hashing;
 mod rows;
+mod single;
 mod word;
 
 pub use blocks::{BLOCK_BYTES, absorb_blocks};
