@@ -37,6 +37,7 @@ mod vec_sink;
 
 pub use buffer::{BlockBuffer, EagerBuffer, Error, LazyBuffer};
 pub use generator::BlockGen;
+pub use hybrid_array as array;
 pub use kind::{BufferKind, Eager, Lazy};
 pub use read::ReadBuffer;
 pub use serial::SerializedBuffer;

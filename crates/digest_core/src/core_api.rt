@@ -4,8 +4,8 @@ ghost use Rattle.std.specs.Prelude.{◌≡◌, ℕ, ◌+◌, ◌≤◌, List, �
 ghost use Rattle.digest_core.specs.Absorbing.{Absorbs};
 
 use crate::traits::{Absorb, OutputSizeUser};
+use block_buffer::array::{ArraySize, Chunks};
 use block_buffer::{BufferKind, EagerBuffer};
-use hybrid_array::{ArraySize, Chunks};
 
 /// Works on blocks of one size.
 pub trait BlockSizeUser {

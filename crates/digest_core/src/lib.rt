@@ -31,6 +31,7 @@ mod oid;
 mod traits;
 mod wrapper;
 
+pub use block_buffer;
 pub use core_api::{BlockSizeUser, BufferKindUser, FixedOutputCore, TailOutputCore, UpdateCore};
 pub use oid::{Arcs, AssociatedOid, ObjectIdentifier, OidError};
 pub use traits::{

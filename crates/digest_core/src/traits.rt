@@ -3,7 +3,7 @@
 ghost use Rattle.std.specs.Prelude.{◌≡◌, ℕ, ◌+◌, ◌≤◌, List, [], length};
 ghost use Rattle.digest_core.specs.Absorbing.{Absorbs};
 
-use hybrid_array::ArraySize;
+use block_buffer::array::ArraySize;
 
 /// What absorbs bytes and has a digest of them: a hash, or the core of one.
 pub trait Absorb {

@@ -5,8 +5,8 @@ ghost use Rattle.digest_core.specs.Wrapped.{StandsFor};
 
 use crate::core_api::{FixedOutputCore, TailOutputCore, UpdateCore};
 use crate::traits::{Absorb, FixedOutput, FixedOutputReset, OutputSizeUser, Reset, Update};
+use block_buffer::array::Chunks;
 use block_buffer::{BlockSink, EagerBuffer, Refused};
-use hybrid_array::Chunks;
 use std::marker::Model;
 
 // A core as a sink of blocks, which never refuses.

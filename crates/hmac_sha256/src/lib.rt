@@ -31,6 +31,7 @@ pub mod laws;
 mod mac;
 mod wrapped;
 
+pub use digest_core;
 pub use hashing::{Hash, MAX_BYTES};
 pub use hkdf::HKDF;
 pub use mac::HMAC;

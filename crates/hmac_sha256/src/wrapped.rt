@@ -3,14 +3,14 @@
 ghost use Rattle.std.specs.Prelude.{◌≡◌, ℕ, List, ◌∷◌, [], length, IsOk};
 
 use crate::hashing::{Hash, MAX_BYTES};
-use block_buffer::{Eager, EagerBuffer};
+use digest_core::block_buffer::array::Chunks;
+use digest_core::block_buffer::array::sizes::{U32, U64};
+use digest_core::block_buffer::{Eager, EagerBuffer};
 use digest_core::{
     Absorb, AlgorithmName, AssociatedOid, BlockSizeUser, BufferKindUser, CoreWrapper, FixedOutput,
     FixedOutputCore, FixedOutputReset, HashMarker, ObjectIdentifier, OutputSizeUser, Reset,
     TailOutputCore, Update, UpdateCore,
 };
-use hybrid_array::Chunks;
-use hybrid_array::sizes::{U32, U64};
 
 /// SHA-256 of bytes that come piece by piece, by a buffer before `Hash` as a core.
 pub type WrappedHash = CoreWrapper<Hash>;

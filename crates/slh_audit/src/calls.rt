@@ -20,7 +20,7 @@ use crate::dispute::set_against;
 use crate::evidence::{AuditError, Evidence, Verdict};
 use crate::layer::same_value;
 use crate::size_checks::{check_lengths, message};
-use hybrid_array::ArraySize;
+use slh_core::array::ArraySize;
 use slh_core::equal_parts::part_of;
 use slh_core::nbytes::NBytes;
 use slh_core::params::{ForsSizes, MAX_DIGEST_LEN, MAX_MESSAGE_LEN, forest_sizes};

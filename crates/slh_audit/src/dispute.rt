@@ -9,8 +9,8 @@ ghost use Rattle.slh_merkle.specs.Checking.{fors_pk_from_sig};
 ghost use Rattle.slh_merkle.specs.Fors.{fors_pk, fors_node as spec_fors_node};
 ghost use Rattle.slh_merkle.specs.Hypertree.{layer_size, leaf_at, tree_at};
 
-use hybrid_array::ArraySize;
 use slh_core::address::{ForsTree, WotsHash};
+use slh_core::array::ArraySize;
 use slh_core::equal_parts::{piece, put_part};
 use slh_core::nbytes::NBytes;
 use slh_core::params::{ForsSizes, MAX_ROOTS_LEN, forest_sizes, layer_sizes};

@@ -10,8 +10,8 @@ ghost use Rattle.slh_merkle.specs.Fors.{fors_leaf, fors_node as spec_fors_node, 
 
 use crate::dispute::{Dispute, Sizes};
 use crate::layer::{hashes_collide, nodes_collide, values_collide};
-use hybrid_array::ArraySize;
 use slh_core::address::{ForsRoots as ForsRootsAddress, ForsTree};
+use slh_core::array::ArraySize;
 use slh_core::digits::base_2b;
 use slh_core::equal_parts::{part_of, piece};
 use slh_core::nbytes::NBytes;

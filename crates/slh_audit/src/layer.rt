@@ -13,8 +13,8 @@ ghost use Rattle.slh_core.specs.Parameters.{chain_count, scheme_of};
 ghost use Rattle.slh_merkle.specs.Hypertree.{layer_size, leaf_at, tree_at};
 
 use crate::dispute::{Dispute, Sizes};
-use hybrid_array::ArraySize;
 use slh_core::address::{Address, HashTree, WotsHash, WotsPk};
+use slh_core::array::ArraySize;
 use slh_core::digits::message_digits;
 use slh_core::equal_parts::{part_of, put_part};
 use slh_core::nbytes::NBytes;

@@ -6,7 +6,7 @@ ghost use Rattle.slh_trees.specs.Checking.{signature_size};
 ghost use Rattle.slh_core.specs.Refusals.{RefusedExactly};
 
 use crate::evidence::AuditError;
-use hybrid_array::ArraySize;
+use slh_core::array::ArraySize;
 use slh_core::params::{ForsSizes, forest_sizes};
 use slh_frames::{Message, Mode, check_context, check_message};
 use slh_trees::SigView;

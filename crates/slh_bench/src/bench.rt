@@ -15,11 +15,11 @@ ghost use Rattle.slh_bench.specs.declared.bench.Stop.TheVariants.{NoMemory, Sink
 ghost use Rattle.slh_trees.specs.Checking.{signature_size};
 
 use hmac_sha256::{HKDF, Hash};
-use hybrid_array::ArraySize;
 use line_serve::{
     ByteString, Failed, Sink, Words, decimal_value, push_hex_line, push_number, push_number_line,
     write_all,
 };
+use slh_core::array::ArraySize;
 use slh_core::params::{chain_sizes, forest_sizes, layer_sizes};
 use slh_dsa::{Message, Mode, SetSizes, SigningKey};
 use slh_sets::{OnSet, Set, SetSuite};

@@ -7,7 +7,7 @@ ghost use Rattle.slh_bytes.specs.Jobs.{made_by, made_of};
 ghost use Rattle.slh_jobs.specs.declared.job.Error.TheVariants.{Length, Memory};
 
 use crate::key::Key;
-use hybrid_array::ArraySize;
+use slh_core::array::ArraySize;
 use slh_core::params::chain_sizes;
 use slh_dsa::{SigningKey, verifying_half};
 use slh_jobs::{ByteString, Error};

@@ -13,7 +13,7 @@ ghost use Rattle.slh_chain.specs.Links.{link_signature, link_subject, signed_lin
 ghost use Rattle.slh_chain.specs.declared.error.LinkError.TheVariants.{Memory};
 
 use crate::error::LinkError;
-use hybrid_array::ArraySize;
+use slh_core::array::ArraySize;
 use slh_core::params::{MAX_N, chain_sizes, forest_sizes, layer_sizes};
 use slh_dsa::{Message, Mode, SetSizes, SigningKey, VerifyingKey, check_opt_rand};
 use slh_frames::MAX_MESSAGE;

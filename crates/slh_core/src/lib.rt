@@ -48,3 +48,5 @@ pub mod pieces;
 pub mod steps;
 pub mod suite;
 pub mod wots;
+
+pub use hybrid_array as array;

@@ -7,7 +7,7 @@ ghost use Rattle.slh_dsa.specs.Calls.{signature_refusal};
 
 use crate::error::Error;
 use crate::parameter_set::SetSizes;
-use hybrid_array::{Array, ArraySize};
+use slh_core::array::{Array, ArraySize};
 use slh_core::params::chain_sizes;
 use std::alloc::{AllocError, Global};
 

@@ -2,7 +2,7 @@
 ghost use Rattle.std.specs.Prelude.{◌≡◌, ◌*◌, ◌≤◌, ℕ, List, length};
 ghost use Rattle.slh_trees.specs.Checking.{signature_size};
 
-use hybrid_array::ArraySize;
+use slh_core::array::ArraySize;
 use slh_core::params::{ForsParams, ForsSizes};
 
 /// A parameter set: a name, a suite and all sizes, those of keys and signatures among them.

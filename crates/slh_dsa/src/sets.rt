@@ -5,11 +5,11 @@ ghost use Rattle.slh_hash.specs.Sets.{sha2_128s, sha2_128f, sha2_192s, sha2_192f
 ghost use Rattle.slh_hash.specs.Sets.{sha2_256s, sha2_256f};
 
 use crate::parameter_set::ParameterSet;
-use hybrid_array::sizes::{
+use slh_core::array::sizes::{
     U2, U4, U21, U32, U48, U64, U96, U128, U7856, U16224, U17088, U29792, U35664, U49856,
 };
 use slh_hash::{Sha2_128f, Sha2_128s, Sha2_192f, Sha2_192s, Sha2_256f, Sha2_256s};
-use slh_merkle::toy::Toy;
+use slh_trees::merkle::toy::Toy;
 
 impl ParameterSet for Sha2_128s {
     ghost use Rattle.std.proofs.Common.{refl, rules};

@@ -7,7 +7,7 @@ ghost use Rattle.slh_dsa.specs.declared.error.Error.TheVariants.{Memory};
 
 use crate::error::Error;
 use crate::parameter_set::ParameterSet;
-use hybrid_array::{Array, ArraySize, SliceError};
+use slh_core::array::{Array, ArraySize, SliceError};
 use slh_trees::SigView;
 use std::alloc::{AllocError, Global};
 use std::marker::Model;

@@ -20,7 +20,7 @@ use crate::error::Error;
 use crate::parameter_set::{ParameterSet, SetSizes};
 use crate::signature::Signature;
 use crate::verifying_key::{VerifyingKey, both};
-use hybrid_array::{Array, ArraySize};
+use slh_core::array::{Array, ArraySize};
 use slh_core::nbytes::NBytes;
 use slh_core::params::{MAX_MESSAGE_LEN, chain_sizes};
 use slh_core::steps::Steps;

@@ -17,7 +17,7 @@ use crate::checks::{check_signature, zeros};
 use crate::error::Error;
 use crate::parameter_set::{ParameterSet, SetSizes};
 use crate::signature::Signature;
-use hybrid_array::{Array, ArraySize};
+use slh_core::array::{Array, ArraySize};
 use slh_core::nbytes::NBytes;
 use slh_core::params::{MAX_MESSAGE_LEN, chain_sizes};
 use slh_core::steps::Steps;

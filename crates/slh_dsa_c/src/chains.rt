@@ -7,8 +7,8 @@ ghost use Rattle.slh_sets.specs.Sets.{scheme_numbered};
 
 use crate::set::write_in_set;
 use crate::status::{BUDGET, FORM, INVALID, LENGTH, OK, UNKNOWN_SET};
-use hybrid_array::ArraySize;
 use slh_chain::{ChainError, walk};
+use slh_core::array::ArraySize;
 use slh_core::params::chain_sizes;
 use slh_dsa::{SetSizes, VerifyingKey};
 use slh_sets::{SetSuite, WriteOnSet};

@@ -7,7 +7,7 @@ ghost use Rattle.slh_trees.specs.Keys.{IsTrueKey};
 
 use crate::set::write_in_set;
 use crate::status::{LENGTH, OK, UNKNOWN_SET, number_of};
-use hybrid_array::ArraySize;
+use slh_core::array::ArraySize;
 use slh_core::params::chain_sizes;
 use slh_dsa::{SigningKey, verifying_half};
 use slh_sets::{SetSuite, WriteOnSet};

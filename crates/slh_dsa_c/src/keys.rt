@@ -7,7 +7,7 @@ ghost use Rattle.slh_trees.specs.Keys.{IsTrueKey};
 
 use crate::set::{read_in_set, write_in_set};
 use crate::status::{KEY_MISMATCH, LENGTH, OK, UNKNOWN_SET};
-use hybrid_array::ArraySize;
+use slh_core::array::ArraySize;
 use slh_core::equal_parts::part_of;
 use slh_core::params::chain_sizes;
 use slh_dsa::verifying_half;

@@ -4,7 +4,7 @@ ghost use Rattle.std.specs.String.{string_bytes};
 ghost use Rattle.slh_envelope.specs.Sealing.{key_id as spec_key_id};
 
 use hmac_sha256::Hash;
-use hybrid_array::ArraySize;
+use slh_core::array::ArraySize;
 use slh_core::params::{MAX_N, chain_sizes};
 use slh_dsa::{SetSizes, VerifyingKey};
 use std::alloc::{AllocError, Global};

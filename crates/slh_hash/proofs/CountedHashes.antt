@@ -2,7 +2,7 @@
 use Rattle.std.proofs.Common.{◌≡◌, ℕ, ◌+◌, ◌-◌, ◌≤◌, List, [], ◌∷◌, ◌++◌, length, take, drop, arith, ap, sym, refl, ◌∙◌, append_assoc, Some, None, Option}
 use Rattle.std.proofs.lemmas.List.{append-nil}
 use Rattle.std.specs.Int.{div_ceil}
-use Rattle.block_buffer.specs.Gen.{blocks_for}
+use Rattle.hmac_sha256.specs.Gen.{blocks_for}
 use Rattle.sha256_lanes.specs.Sha256.{sha256}
 use Rattle.slh_core.proofs.Joins.{drop_front, joined_more, take_front}
 use Rattle.slh_core.specs.Bytes.{big_endian, joined}

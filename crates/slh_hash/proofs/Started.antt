@@ -1,7 +1,7 @@
 -- A wrapped hash and its core, where nothing is held.
 use Rattle.std.proofs.Common.{◌≡◌, ℕ, ◌+◌, ◌%◌, ◌<◌, List, [], ◌∷◌, ◌++◌, length, arith, refl, sym, ap, ◌∙◌, subst}
 use Rattle.std.proofs.lemmas.List.{append-nil}
-use Rattle.digest_core.specs.Wrapped.{StandsFor as WrappedStandsFor}
+use Rattle.hmac_sha256.specs.Wrapped.{StandsFor as WrappedStandsFor}
 use Rattle.hmac_sha256.specs.Hash.{StandsFor}
 use Rattle.hmac_sha256.specs.declared.hashing.Hash.{Hash}
 

@@ -1,5 +1,5 @@
 //! The hashes from which every hash of an address goes on.
-ghost use Rattle.digest_core.specs.Wrapped.{StandsFor as WrappedStandsFor};
+ghost use Rattle.hmac_sha256.specs.Wrapped.{StandsFor as WrappedStandsFor};
 ghost use Rattle.hmac_sha256.specs.Hash.{StandsFor, StandsFor-prop, absorbed_bytes};
 ghost use Rattle.sha2.specs.Hashers.{Holds512};
 ghost use Rattle.sha256_lanes.specs.Midstate.{BeginsWith, BeginsWith-prop};
@@ -11,10 +11,10 @@ ghost use Rattle.slh_hash.specs.Sha2.{seed_block};
 ghost use Rattle.std.specs.Prelude.{◌≡◌, ◌+◌, ◌≤◌, [], length};
 
 use hmac_sha256::WrappedHash;
-use hybrid_array::ArraySize;
 use sha2::Sha512;
 use sha256_lanes::Midstate;
 use sha512_lanes::Midstate as Midstate512;
+use slh_core::array::ArraySize;
 use slh_core::nbytes::NBytes;
 
 /// A public seed, and SHA-256 as it stands after the seed and the zeros that fill its block of 64

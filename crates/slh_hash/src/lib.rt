@@ -12,7 +12,7 @@
 //! ```
 //! ghost use Rattle.slh_core.specs.Steps.{IsFresh};
 //!
-//! use hybrid_array::sizes::U16;
+//! use slh_core::array::sizes::U16;
 //! use slh_core::address::WotsHash;
 //! use slh_core::nbytes::NBytes;
 //! use slh_core::steps::Steps;

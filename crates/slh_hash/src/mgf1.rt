@@ -1,15 +1,15 @@
 //! The mask generation function (FIPS 205, sections 11.2.1 and 11.2.2; RFC 8017, appendix B.2.1).
 ghost use Rattle.std.specs.Prelude.{◌≡◌, ◌≤◌, ◌+◌, ◌/◌, length};
-ghost use Rattle.digest_core.specs.Wrapped.{StandsFor as WrappedStandsFor};
+ghost use Rattle.hmac_sha256.specs.Wrapped.{StandsFor as WrappedStandsFor};
 ghost use Rattle.hmac_sha256.specs.Hash.{StandsFor, absorbed_bytes};
 ghost use Rattle.slh_hash.specs.Sha2.{mgf1_sha256, mgf1_sha512};
 
-use block_buffer::{BlockGen, ReadBuffer};
-use digest_core::Update;
+use hmac_sha256::digest_core::Update;
+use hmac_sha256::digest_core::block_buffer::{BlockGen, ReadBuffer};
 use hmac_sha256::{Hash, WrappedHash};
-use hybrid_array::ArrayMut;
-use hybrid_array::sizes::U32;
 use sha2::{Digest, Sha512};
+use slh_core::array::ArrayMut;
+use slh_core::array::sizes::U32;
 use slh_core::equal_parts::put_part;
 
 const SHA256_LEN: usize = 32;

@@ -9,8 +9,8 @@ use sha512_lanes::Hash512;
 use slh_core::nbytes::NBytes;
 use slh_core::pieces::MessageSuite;
 
-/// A hash of either function, of which one is used, as numbers alone: any numbers are two hashes,
-/// though of no message that anybody absorbed.
+/// A hash of each function, of which a message takes one. They hold numbers alone, and any numbers
+/// make two hashes, though perhaps of no message.
 #[repr(C)]
 #[derive(Drop)]
 pub struct Hashes {

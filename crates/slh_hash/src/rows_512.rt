@@ -8,9 +8,9 @@ ghost use Rattle.slh_hash.specs.Sha2.{seed_block, tweaked_hash_512};
 
 use crate::keyed::Sha2Keyed512;
 use crate::rows_256::{ADDRESS_LEN, parts_between, put_hashes_between, tails_of};
-use hybrid_array::ArraySize;
 use sha512_lanes::{BLOCK_BYTES, MAX_TAIL};
 use slh_core::address::RowAddress;
+use slh_core::array::ArraySize;
 use slh_core::params::MAX_N;
 use slh_core::steps::Steps;
 use std::sync::ledger::Ledger;

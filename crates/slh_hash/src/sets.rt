@@ -4,7 +4,7 @@ ghost use Rattle.slh_hash.specs.Sets.{sha2_256s, sha2_256f};
 
 use crate::sha2_l1::Sha2L1;
 use crate::sha2_l35::Sha2L35;
-use hybrid_array::sizes::{
+use slh_core::array::sizes::{
     U3, U4, U6, U7, U8, U9, U12, U14, U16, U17, U21, U22, U24, U25, U30, U32, U33, U34, U35, U39,
     U40, U42, U47, U48, U49, U51, U63, U64, U66, U67, U68,
 };

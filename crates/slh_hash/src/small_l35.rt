@@ -9,9 +9,9 @@ use crate::sha2_l35::Sha2L35;
 use crate::small::SmallSuite;
 use crate::small_l1::{SmallKeyed, small_hash, start_small};
 use crate::tweaked::block_of;
-use hybrid_array::ArraySize;
 use sha512_lanes::Hash512;
 use slh_core::address::Address;
+use slh_core::array::ArraySize;
 use slh_core::equal_parts::put_part;
 use slh_core::nbytes::NBytes;
 

@@ -4,13 +4,13 @@ ghost use Rattle.slh_hash.specs.Sha2.{seed_block, tweaked_hash_256, tweaked_hash
 
 use crate::join::put_two;
 use crate::keyed::{Sha2Keyed, Sha2Keyed512};
-use digest_core::{FixedOutput, Update};
+use hmac_sha256::digest_core::{FixedOutput, Update};
 use hmac_sha256::{Hash, WrappedHash};
-use hybrid_array::ArraySize;
 use sha2::{Digest, Sha512};
 use sha256_lanes::Midstate;
 use sha512_lanes::Midstate as Midstate512;
 use slh_core::address::Address;
+use slh_core::array::ArraySize;
 use slh_core::nbytes::NBytes;
 use slh_core::params::MAX_ENDS_LEN;
 

@@ -6,9 +6,9 @@ ghost use Rattle.slh_sets.specs.Sets.{scheme_for};
 ghost use Rattle.slh_jobs.specs.declared.job.Job.TheVariants.{Keygen, Sign, Verify, Audit, Check};
 
 use crate::job::{Answer, Error, Job};
-use hybrid_array::ArraySize;
 use line_serve::ByteString;
 use slh_audit::{AuditError, Evidence, hash_audit, hash_check_evidence};
+use slh_core::array::ArraySize;
 use slh_core::params::chain_sizes;
 use slh_dsa::{Mode, SetSizes, SigningKey, VerifyingKey};
 use slh_sets::{OnSet, Set, SetSuite};

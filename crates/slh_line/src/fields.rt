@@ -8,8 +8,8 @@ ghost use Rattle.slh_line.specs.Readings.{signing_key, verifying_key};
 ghost use Rattle.slh_line.specs.declared.line_error.LineError.TheVariants.{Memory};
 
 use crate::line_error::LineError;
-use hybrid_array::ArraySize;
 use line_serve::{ByteString, Words, field_at, hex_field};
+use slh_core::array::ArraySize;
 use slh_core::params::chain_sizes;
 use slh_dsa::{SetSizes, SigningKey, VerifyingKey};
 use std::alloc::Global;

@@ -4,7 +4,7 @@ ghost use Rattle.slh_log.specs.Reading.{is_origin as spec_is_origin, text_of as 
 ghost use Rattle.slh_log.specs.Texts.{key_id as spec_key_id};
 
 use hmac_sha256::Hash;
-use hybrid_array::ArraySize;
+use slh_core::array::ArraySize;
 use slh_core::params::chain_sizes;
 use slh_dsa::{SetSizes, VerifyingKey};
 

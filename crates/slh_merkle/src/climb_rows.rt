@@ -7,8 +7,8 @@ ghost use Rattle.slh_merkle.specs.Merkle.{node_bytes};
 
 use crate::fors::{index_of, opened_len, roots_len};
 use crate::node::NodeAddress;
-use hybrid_array::ArraySize;
 use slh_core::address::ForsTree;
+use slh_core::array::ArraySize;
 use slh_core::equal_parts::{part_of, piece, put_part};
 use slh_core::nbytes::NBytes;
 use slh_core::params::{ForsSizes, MAX_FORS_TREES, MAX_ROOTS_LEN, forest_sizes};

@@ -6,8 +6,8 @@ ghost use Rattle.slh_merkle.specs.Checking.{checked_message};
 ghost use Rattle.slh_merkle.specs.Hypertree.{ht_sig, layer_size};
 
 use crate::xmss::{xmss_pk_from_sig, xmss_sign_root};
-use hybrid_array::ArraySize;
 use slh_core::address::WotsHash;
+use slh_core::array::ArraySize;
 use slh_core::equal_parts::piece;
 use slh_core::nbytes::NBytes;
 use slh_core::params::{HypertreeSizes, XmssSizes, layer_sizes, tree_sizes};

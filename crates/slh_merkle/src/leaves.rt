@@ -4,7 +4,7 @@ ghost use Rattle.slh_core.specs.Bytes.{joined, part};
 ghost use Rattle.slh_core.specs.Suite.{HasLength, Seeded};
 
 use crate::node::NodeAddress;
-use hybrid_array::ArraySize;
+use slh_core::array::ArraySize;
 use slh_core::nbytes::NBytes;
 use slh_core::params::{WotsSizes, chain_sizes};
 use slh_core::steps::Steps;

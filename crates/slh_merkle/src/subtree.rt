@@ -6,7 +6,7 @@ ghost use Rattle.slh_merkle.specs.Merkle.{merkle, merkle_auth_path, node_bytes};
 
 use crate::leaves::{Leaves, MAX_ROW, ROW_HEIGHT, leaf_numbers, number_from, write_leaves};
 use crate::node::{NodeAddress, sibling};
-use hybrid_array::ArraySize;
+use slh_core::array::ArraySize;
 use slh_core::equal_parts::{part_of, put_part};
 use slh_core::nbytes::NBytes;
 use slh_core::params::{MAX_N, WotsSizes, chain_sizes};

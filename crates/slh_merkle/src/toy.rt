@@ -4,8 +4,8 @@ ghost use Rattle.slh_core.specs.Parameters.{scheme_of};
 ghost use Rattle.slh_core.specs.Suite.{seeded};
 ghost use Rattle.slh_merkle.specs.ToySuite.{toy, toy_lengths, toy_bytes, toy_digest_length};
 
-use hybrid_array::sizes::{U1, U2, U3, U4, U5};
 use slh_core::address::Address;
+use slh_core::array::sizes::{U1, U2, U3, U4, U5};
 use slh_core::nbytes::NBytes;
 use slh_core::params::{ForsParams, HypertreeParams, WotsParams, XmssParams};
 use slh_core::steps::Steps;

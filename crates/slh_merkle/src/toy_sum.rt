@@ -2,7 +2,7 @@
 ghost use Rattle.std.specs.Prelude.{◌≡◌, ◌+◌, ◌%◌, ◌<◌, sum, slice_index};
 
 use crate::toy::{Toy, byte_of, sum_of};
-use hybrid_array::sizes::U1;
+use slh_core::array::sizes::U1;
 use slh_core::nbytes::NBytes;
 use slh_core::pieces::MessageSuite;
 

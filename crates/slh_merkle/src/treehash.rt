@@ -8,7 +8,7 @@ ghost use Rattle.slh_merkle.specs.Treehash.{stored_node, HoldsNodes};
 use crate::leaves::{Leaves, ROW_HEIGHT, leaf_numbers};
 use crate::node::{NodeAddress, parent, sibling};
 use crate::subtree::{index_below, subtree};
-use hybrid_array::ArraySize;
+use slh_core::array::ArraySize;
 use slh_core::equal_parts::put_part;
 use slh_core::nbytes::NBytes;
 use slh_core::params::{MAX_N, WotsSizes, chain_sizes};

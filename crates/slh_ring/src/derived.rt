@@ -10,7 +10,7 @@ ghost use Rattle.slh_ring.specs.Records.{numbers_bytes, path_bytes};
 use crate::entry::TAG_LEN;
 use crate::path::{MAX_NUMBERS, Path};
 use hmac_sha256::{HKDF, Hash};
-use hybrid_array::ArraySize;
+use slh_core::array::ArraySize;
 use slh_core::params::{MAX_N, chain_sizes};
 use slh_core::steps::Steps;
 use slh_dsa::{SetSizes, SigningKey};

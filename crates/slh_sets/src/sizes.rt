@@ -7,7 +7,7 @@ ghost use Rattle.slh_trees.specs.Checking.{signature_size};
 
 use crate::dispatch::{OnSet, SetSuite};
 use crate::set::Set;
-use hybrid_array::ArraySize;
+use slh_core::array::ArraySize;
 use slh_core::params::{MAX_N, forest_sizes};
 
 #[derive(Drop)]

@@ -17,7 +17,7 @@ ghost use Rattle.slh_frames.specs.declared.message.TheConstants.{MAX_MESSAGE};
 
 use crate::context::Context;
 use crate::pass_error::PassError;
-use hybrid_array::ArraySize;
+use slh_core::array::ArraySize;
 use slh_core::nbytes::NBytes;
 use slh_core::params::{MAX_DIGEST_LEN, forest_sizes};
 use slh_core::pieces::MessageSuite;

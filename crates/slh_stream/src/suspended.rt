@@ -12,7 +12,7 @@ ghost use Rattle.slh_trees.specs.Checking.{signature_size};
 ghost use Rattle.slh_core.specs.Refusals.{RefusedExactly, message_refusal};
 
 use crate::verifier::{MessageVerifier, Verifying};
-use hybrid_array::ArraySize;
+use slh_core::array::ArraySize;
 use slh_core::nbytes::NBytes;
 use slh_core::params::forest_sizes;
 use slh_dsa::{Error, Mode, SetSizes};

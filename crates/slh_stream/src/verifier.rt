@@ -12,7 +12,7 @@ ghost use Rattle.slh_trees.specs.Checking.{digest_root};
 ghost use Rattle.slh_core.specs.Refusals.{RefusedExactly, message_refusal};
 ghost use Rattle.slh_frames.specs.declared.message.TheConstants.{MAX_MESSAGE};
 
-use hybrid_array::ArraySize;
+use slh_core::array::ArraySize;
 use slh_core::nbytes::NBytes;
 use slh_core::params::{MAX_DIGEST_LEN, forest_sizes};
 use slh_core::pieces::MessageSuite;

@@ -5,8 +5,8 @@ ghost use Rattle.slh_trees.specs.Checking.{checked_root, digest_root};
 
 use crate::digest::split_digest;
 use crate::sig_view::SigView;
-use hybrid_array::ArraySize;
 use slh_core::address::ForsTree;
+use slh_core::array::ArraySize;
 use slh_core::nbytes::NBytes;
 use slh_core::params::{ForsSizes, MAX_DIGEST_LEN, MAX_MESSAGE_LEN, forest_sizes, layer_sizes};
 use slh_core::steps::Steps;

@@ -46,6 +46,7 @@ pub use check::check_root;
 pub use digest::split_digest;
 pub use root::top_root;
 pub use sig_view::SigView;
+pub use slh_merkle as merkle;
 pub use slh_merkle::{
     Address, ForsParams, ForsPrf, ForsRoots, ForsTree, HashSuite, HashTree, HypertreeParams,
     NBytes, Steps, ToySum, WotsHash, WotsParams, WotsPk, WotsPrf, XmssParams, base_2b, fors_node,

@@ -11,7 +11,7 @@ ghost use Rattle.slh_trees.specs.SignatureParts.{layer_of, opened_of, randomizer
 ghost use Rattle.slh_trees.specs.SignatureParts.{sibling_node_of};
 
 use crate::sizes::signature_len;
-use hybrid_array::{ArrayRef, ArraySize};
+use slh_core::array::{ArrayRef, ArraySize};
 use slh_core::equal_parts::piece;
 use slh_core::params::{ForsSizes, forest_sizes, layer_sizes};
 use slh_core::wots::ends_len;

@@ -5,8 +5,8 @@ ghost use Rattle.slh_trees.specs.Checking.{signature_size};
 ghost use Rattle.slh_trees.specs.Signing.{digest_signature};
 
 use crate::digest::split_digest;
-use hybrid_array::ArraySize;
 use slh_core::address::ForsTree;
+use slh_core::array::ArraySize;
 use slh_core::nbytes::NBytes;
 use slh_core::params::{ForsSizes, MAX_DIGEST_LEN, MAX_MESSAGE_LEN, forest_sizes, layer_sizes};
 use slh_core::steps::Steps;

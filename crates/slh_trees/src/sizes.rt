@@ -2,7 +2,7 @@
 ghost use Rattle.std.specs.Prelude.{◌≡◌};
 ghost use Rattle.slh_trees.specs.Checking.{signature_size};
 
-use hybrid_array::ArraySize;
+use slh_core::array::ArraySize;
 use slh_core::params::{ForsSizes, forest_sizes, layer_sizes};
 use slh_merkle::fors::forest_len;
 use slh_merkle::hypertree::layer_len;

@@ -1,6 +1,6 @@
 use Rattle.std.proofs.Common.{◌≡◌, ℕ, ◌-◌, ◌∷◌, length, ◌∙◌, ap, arith}
-use Rattle.block_buffer.specs.Gen.{blocks_for}
-use Rattle.digest_core.specs.Wrapped.{StandsFor as WrappedStandsFor}
+use Rattle.hmac_sha256.specs.Gen.{blocks_for}
+use Rattle.hmac_sha256.specs.Wrapped.{StandsFor as WrappedStandsFor}
 use Rattle.hmac_sha256.specs.Hash.{StandsFor}
 use Rattle.slh_hash.proofs.CountedHashes.{few_blocks, given_count, hashes, none_given, of_one_seed, read_hashes}
 use Rattle.slh_hash.specs.Sha2.{mgf1_sha256}

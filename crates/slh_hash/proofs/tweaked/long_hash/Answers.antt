@@ -1,5 +1,5 @@
 use Rattle.std.proofs.Common.{ℕ, List, ◌++◌, ◌∙◌, ap, take, append_assoc}
-use Rattle.digest_core.specs.Wrapped.{StandsFor as WrappedStandsFor}
+use Rattle.hmac_sha256.specs.Wrapped.{StandsFor as WrappedStandsFor}
 use Rattle.hmac_sha256.specs.Hash.{StandsFor}
 use Rattle.sha256_lanes.specs.Sha256.{sha256}
 use Rattle.slh_hash.specs.Sha2.{seed_block, tweaked_hash_256}
