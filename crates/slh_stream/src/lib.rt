@@ -49,7 +49,6 @@
 #![tactic(auto)]
 
 mod by_key;
-pub mod callers;
 mod context;
 mod digest_signer;
 mod digests;

@@ -3,7 +3,7 @@ use Rattle.slh_dsa.specs.Calls.{root_refusal, signature_refusal}
 use Rattle.slh_frames.specs.Frames.{mode_frame}
 use Rattle.slh_dsa.specs.declared.error.Error.TheVariants.{ContextTooLong, MessageTooLong}
 use Rattle.slh_stream.proofs.Refused.{handed_on, later_refused, longer}
-use Rattle.slh_stream.proofs.callers.verify_two.Goals as goal
+use Rattle.slh_stream.proofs.laws.verify_two.Goals as goal
 use Rattle.slh_core.specs.Refusals.{context_refusal, message_refusal}
 
 pub returns : goal.returns

@@ -3,7 +3,7 @@ use Rattle.std.specs.Option.{option_copied}
 use Rattle.slh_dsa.specs.Calls.{opt_rand_refusal}
 use Rattle.slh_dsa.specs.declared.error.Error.TheVariants.{ContextTooLong, MessageTooLong}
 use Rattle.slh_stream.proofs.Refused.{begun_refused, handed_on, later_refused, longer, never_none, none_refused, second_refused}
-use Rattle.slh_stream.proofs.callers.sign_two.Goals as goal
+use Rattle.slh_stream.proofs.laws.sign_two.Goals as goal
 use Rattle.slh_core.specs.Refusals.{context_refusal, message_refusal}
 
 pub returns-in-Ok-clause-value : goal.returns-in-Ok-clause-value
