@@ -1,5 +1,5 @@
 -- Refusals for the sizes of what a call is given. Each call says by which of its errors it refuses.
-use Rattle.std.specs.Prelude.{◌≡◌, ◌==◌, ℕ, ◌^◌, List, [], ◌∷◌, length, nat_lt}
+use Rattle.std.specs.Prelude.{◌≡◌, ◌⊎◌, ◌==◌, ℕ, ◌^◌, List, [], ◌∷◌, length, nat_lt}
 use Rattle.std.specs.Prelude.{Option, None, Some, Result, Err, MatchResult, if◌then◌else◌, unwrap_or}
 
 -- the first of the refusals that stand
@@ -21,6 +21,11 @@ RefusedExactly result refusal = MatchResult result (λ _. refusal ≡ None) (λ 
 abbrev pub RefusedOrNoMemory : {T E : Type 0} → E → Result T E → Option E → Type 0
 RefusedOrNoMemory memory result refusal =
     MatchResult result (λ _. refusal ≡ None) (λ e. e ≡ unwrap_or refusal memory)
+
+-- the same, but the call may find no memory before it looks for a cause, too
+abbrev pub RefusedOrMemory : {T E : Type 0} → E → Result T E → Option E → Type 0
+RefusedOrMemory memory result refusal =
+    MatchResult result (λ _. refusal ≡ None) (λ e. (e ≡ memory) ⊎ (refusal ≡ Some e))
 
 -- there are so many bytes
 abbrev pub length_refusal : {E : Type 0} → E → ℕ → ℕ → Option E

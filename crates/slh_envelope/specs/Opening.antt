@@ -1,6 +1,6 @@
 -- Envelopes that are verified. Z is the scheme, key a verifying key.
-use Rattle.std.specs.Prelude.{◌≡◌, ◌⊎◌, ◌||◌, ◌&&◌, ◌==◌, ℕ, List, [], ◌∷◌, length, Bool, true, ⊤}
-use Rattle.std.specs.Prelude.{Option, None, Some, Result, MatchResult, if◌then◌else◌, is_none}
+use Rattle.std.specs.Prelude.{◌≡◌, ◌||◌, ◌&&◌, ◌==◌, ℕ, List, [], ◌∷◌, length, Bool, true, ⊤}
+use Rattle.std.specs.Prelude.{Option, None, Some, if◌then◌else◌, is_none}
 use Rattle.std.specs.List.{list_any, Any}
 use Rattle.std.specs.Str.{bytes_eq}
 use Rattle.slh_core.specs.Parameters.{Scheme}
@@ -45,11 +45,6 @@ signature_refusal Z key e =
 abbrev pub open_refusal : Scheme → List ℕ → List ℕ → Said → Option OpenError
 open_refusal Z key payload_type e =
     first_refusal (type_refusal payload_type e ∷ signature_refusal Z key e ∷ [])
-
--- a call is refused for exactly this cause, and not at all where there is none, but for want of memory
-abbrev pub RefusedOrMemory : {T : Type 0} → Result T OpenError → Option OpenError → Type 0
-RefusedOrMemory result refusal = MatchResult result (λ _. refusal ≡ None)
-    (λ e. (e ≡ Memory) ⊎ (refusal ≡ Some e))
 
 -- the text is an envelope that is accepted, and has this payload
 pub record IsOpened (Z : Scheme) (key payload_type text payload : List ℕ) : Type 0 where

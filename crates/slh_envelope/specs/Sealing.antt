@@ -1,5 +1,5 @@
 -- Envelopes that are made. Z is the scheme, of values of n bytes.
-use Rattle.std.specs.Prelude.{◌≡◌, ◌⊎◌, ℕ, ◌*◌, List, [], ◌∷◌, Option, None, Some, Result, MatchResult, drop}
+use Rattle.std.specs.Prelude.{ℕ, ◌*◌, List, [], ◌∷◌, Option, None, Some, drop}
 use Rattle.hex.specs.Hex.{encode_lower}
 use Rattle.sha256_lanes.specs.Sha256.{sha256}
 use Rattle.slh_core.specs.Parameters.{Scheme}
@@ -10,7 +10,7 @@ use Rattle.dsse.specs.Encoding.{pae}
 use Rattle.dsse.specs.Said.{Said}
 use Rattle.dsse.specs.Writing.{envelope_text}
 use Rattle.slh_envelope.specs.declared.error.SealError.{SealError}
-use Rattle.slh_envelope.specs.declared.error.SealError.TheVariants.{Memory, Randomizer, TooLong}
+use Rattle.slh_envelope.specs.declared.error.SealError.TheVariants.{Randomizer, TooLong}
 
 -- the id of a verifying key: the SHA-256 of its bytes, in hexadecimal
 abbrev pub key_id : List ℕ → List ℕ
@@ -38,9 +38,3 @@ sealed Z key opt_rand payload_type payload =
 abbrev pub seal_refusal : Scheme → Option (List ℕ) → List ℕ → Option SealError
 seal_refusal Z opt_rand text =
     first_refusal (randomizer_refusal Randomizer Z.n opt_rand ∷ message_refusal TooLong text ∷ [])
-
--- the call is refused for exactly this cause, and not at all where there is none, but for want of
--- memory
-abbrev pub RefusedOrMemory : {T : Type 0} → Result T SealError → Option SealError → Type 0
-RefusedOrMemory result refusal = MatchResult result (λ _. refusal ≡ None)
-    (λ e. (e ≡ Memory) ⊎ (refusal ≡ Some e))

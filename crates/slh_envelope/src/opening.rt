@@ -1,10 +1,11 @@
 //! Envelopes that are verified.
 ghost use Rattle.std.specs.Prelude.{◌≡◌, IfErr, IfOk, map};
 ghost use Rattle.std.specs.List.{list_any};
-ghost use Rattle.slh_core.specs.Refusals.{RefusedExactly};
+ghost use Rattle.slh_core.specs.Refusals.{RefusedExactly, RefusedOrMemory};
 ghost use Rattle.dsse.specs.Said.{said, said_by};
-ghost use Rattle.slh_envelope.specs.Opening.{IsOpened, IsRefused, RefusedOrMemory, is_accepted};
-ghost use Rattle.slh_envelope.specs.Opening.{may_be_of, signature_refusal, type_refusal};
+ghost use Rattle.slh_envelope.specs.Opening.{IsOpened, IsRefused, is_accepted, may_be_of};
+ghost use Rattle.slh_envelope.specs.Opening.{signature_refusal, type_refusal};
+ghost use Rattle.slh_envelope.specs.declared.error.OpenError.TheVariants.{Memory};
 
 use crate::error::OpenError;
 use crate::ids::key_id;
@@ -50,7 +51,8 @@ fn check_signatures<P: SetSizes>(
     vk: &VerifyingKey<P>,
     envelope: &Envelope,
 ) -> Result<(), OpenError>
-    ensures { RefusedOrMemory result (signature_refusal P.scheme vk.now (said envelope.now)) }
+    ensures { RefusedOrMemory Memory result
+        (signature_refusal P.scheme vk.now (said envelope.now)) }
 {
     let signatures = envelope.signatures.as_slice();
     let payload_type = envelope.payload_type.as_bytes();

@@ -3,8 +3,9 @@ ghost use Rattle.std.specs.Prelude.{◌≡◌, ◌≤◌, ◌^◌, [], length, I
 ghost use Rattle.std.specs.Option.{option_copied, ForSome};
 ghost use Rattle.dsse.specs.Encoding.{pae};
 ghost use Rattle.dsse.specs.Writing.{envelope_text};
-ghost use Rattle.slh_envelope.specs.Sealing.{RefusedOrMemory, seal_refusal, sealed, text_with_one};
+ghost use Rattle.slh_envelope.specs.Sealing.{seal_refusal, sealed, text_with_one};
 ghost use Rattle.slh_envelope.specs.declared.error.SealError.TheVariants.{Memory};
+ghost use Rattle.slh_core.specs.Refusals.{RefusedOrMemory};
 ghost use Rattle.slh_frames.specs.Frames.{frame};
 ghost use Rattle.slh_trees.specs.Signing.{signature_of};
 
@@ -25,7 +26,8 @@ pub fn seal<P: SetSizes>(
     opt_rand: Option<&[u8]>,
 ) -> Result<Vec<u8>, SealError>
     ensures refusal { let opt_rand = option_copied opt_rand.entry in
-        RefusedOrMemory result (seal_refusal P.scheme opt_rand (pae payload_type.now payload.now)) }
+        RefusedOrMemory Memory result
+        (seal_refusal P.scheme opt_rand (pae payload_type.now payload.now)) }
     ensures value { let opt_rand = option_copied opt_rand.entry in
         IfOk result (λ text. text.items
         ≡ envelope_text (sealed P.scheme key.now opt_rand payload_type.now payload.now)) }
