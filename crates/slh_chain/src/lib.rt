@@ -49,5 +49,5 @@ mod walking;
 pub use chain::{Chain, verify_under};
 pub use error::{ChainError, ExtendError, LinkError, UnderError};
 pub use link::{CONTEXT, delegate};
-pub use links::{LinkRef, Links};
+pub use links::{LinkRef, Links, last_link};
 pub use walking::{End, walk};

@@ -9,12 +9,10 @@ ghost use Rattle.slh_chain.specs.Links.{after_link, chain_context, link_depth, l
 ghost use Rattle.slh_chain.specs.Walks.{Place, link_fault, walk_answer};
 
 use crate::error::ChainError;
-use crate::link::{CONTEXT, Link, read_link};
+use crate::link::{CONTEXT, Link};
+use crate::links::{FIRST_BUDGET, link_within};
 use slh_dsa::{Message, Mode, SetSizes, VerifyingKey};
 use slh_frames::MAX_MESSAGE;
-
-/// The budget of the first link.
-const FIRST_BUDGET: u8 = 16;
 
 /// Where a chain ends.
 #[derive(Drop)]
@@ -69,12 +67,7 @@ impl<P: SetSizes> End<P> {
         ensures rest { IfOk result (λ rest. rest.now ≡ after_link P.scheme bytes.now) }
         ensures shorter { IfOk result (λ rest. length rest.now < length bytes.now) }
     {
-        let Some(link) = read_link::<P>(bytes) else {
-            return Err(ChainError::Form(self.links));
-        };
-        if link.depth >= self.budget {
-            return Err(ChainError::Budget(self.links));
-        }
+        let link = link_within::<P>(bytes, self.links, self.budget)?;
         if !is_signed(&self.key, &link) {
             return Err(ChainError::Invalid(self.links));
         }
